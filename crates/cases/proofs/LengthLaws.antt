@@ -1,0 +1,73 @@
+-- No file is longer than the longest. Assumes nothing.
+use Prim.Native.Nat.{ℕ, _-_, _≤_}
+use mathlib.Core.Path.{_≡_, refl}
+use lib.ListN.{length}
+use lib.Dec.{ltb}
+use native.Mathlib.Omega.{arith}
+use Rattle.cases.specs.declared.case.Case.{Case}
+use Rattle.cases.specs.declared.case.Program.{Program}
+use Rattle.cases.specs.declared.case.Ask.{Ask}
+use Rattle.cases.specs.declared.case.Run.{Run}
+use Rattle.cases.specs.declared.places.Place.{Place}
+use Rattle.cases.specs.Sizes.{longest}
+use Rattle.cases.specs.Choice.{pick}
+use Rattle.cases.specs.Bytes.{halfBytes, wordBytes}
+use Rattle.cases.specs.Record.{payloadBytes, recordBytes}
+use Rattle.cases.specs.Places.{fromFirsts, fromCode, fromWants, fromPassed, fromSteps, places, headerPlace, firstPlace, instructionPlace, wantPlace, passedPlace, stepPlace, placeOf, placeBytes, bytesAt, encodeOf}
+use Rattle.cases.proofs.ChoiceLaws.{pick-cases, pick-pair}
+use Rattle.cases.proofs.EachLaws.{total, each-length}
+
+-- how many bytes a place has at most
+width : ℕ → ℕ
+width k =
+    pick (ltb k fromFirsts) 8
+    (pick (ltb k fromCode) 9
+    (pick (ltb k fromWants) 12
+    (pick (ltb k fromPassed) 9
+    (pick (ltb k fromSteps) 6 8))))
+
+-- no place of the part has more than n bytes
+abbrev Within : Place → ℕ → Type 0
+Within x n = length (placeBytes x) ≤ n
+
+first-width : (p : Program) (l : ℕ) → Within (firstPlace p l) 9
+unfolding firstPlace placeBytes recordBytes payloadBytes halfBytes wordBytes
+first-width p l = pick-cases (λ (x : Place). Within x 9) _ _ _ (λ e. omega arith) (λ e. omega arith)
+
+instruction-width : (p : Program) (m : ℕ) → Within (instructionPlace p m) 12
+unfolding instructionPlace placeBytes recordBytes payloadBytes halfBytes wordBytes
+instruction-width p m = pick-cases (λ (x : Place). Within x 12) _ _ _ (λ e. omega arith) (λ e. omega arith)
+
+want-width : (a : Ask) (l : ℕ) → Within (wantPlace a l) 9
+unfolding wantPlace placeBytes recordBytes payloadBytes halfBytes wordBytes
+want-width a l = pick-cases (λ (x : Place). Within x 9) _ _ _ (λ e. omega arith) (λ e. omega arith)
+
+passed-width : (a : Ask) (t : ℕ) → Within (passedPlace a t) 6
+unfolding passedPlace placeBytes recordBytes payloadBytes halfBytes
+passed-width a t = pick-cases (λ (x : Place). Within x 6) _ _ _ (λ e. omega arith) (λ e. omega arith)
+
+step-width : (r : Run) (k : ℕ) → Within (stepPlace r k) 8
+unfolding stepPlace placeBytes recordBytes payloadBytes halfBytes
+step-width r k = pick-cases (λ (x : Place). Within x 8) _ _ _ (λ e. omega arith) (λ e. omega arith)
+
+header-width : (p : Program) → Within (headerPlace p) 8
+unfolding headerPlace placeBytes recordBytes payloadBytes halfBytes
+header-width p = omega arith
+
+place-width : (c : Case) (k : ℕ) → length (bytesAt c k) ≤ width k
+unfolding bytesAt placeOf width
+place-width c k =
+    pick-pair Within (ltb k fromFirsts) _ _ _ _ (header-width (c .program))
+    (pick-pair Within (ltb k fromCode) _ _ _ _ (first-width (c .program) (k - fromFirsts))
+    (pick-pair Within (ltb k fromWants) _ _ _ _ (instruction-width (c .program) (k - fromCode))
+    (pick-pair Within (ltb k fromPassed) _ _ _ _ (want-width (c .ask) (k - fromWants))
+    (pick-pair Within (ltb k fromSteps) _ _ _ _ (passed-width (c .ask) (k - fromPassed))
+    (step-width (c .run) (k - fromSteps))))))
+
+longest-is : total places width ≡ longest
+unfolding total width pick
+longest-is = refl
+
+pub encode-length : (c : Case) → length (encodeOf c) ≤ longest
+unfolding encodeOf
+encode-length c = omega (arith, each-length places (bytesAt c) width (place-width c), longest-is)

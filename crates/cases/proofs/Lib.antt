@@ -1,0 +1,21 @@
+-- The laws of cases.
+mod ChoiceLaws
+mod EachLaws
+mod PlaceLaws
+mod RecordLaws
+mod PutLaws
+mod EncodeLaws
+mod FitLaws
+mod SoundLaws
+mod AddLaws
+mod BytesLaws
+mod ReadLaws
+mod LengthLaws
+mod BlankLaws
+mod RoundTrip
+mod PrefixLaws
+mod RangeLaws
+mod DraftLaws
+mod SameLaws
+mod WriteLaws
+pub mod Promises

@@ -1,0 +1,209 @@
+-- Laws of `placeOf`: what stands at a place, by the part of the case that it belongs to. Assumes nothing.
+use Prim.Native.Nat.{ℕ, _+_, _-_, _*_, _/_, _%_, _<_}
+use mathlib.Core.Path.{_≡_, refl, sym, _∙_}
+use mathlib.Core.Logic.{_≢_}
+use mathlib.Core.Bool.{Bool, true, false}
+use lib.ListN.{length, getD, set}
+use lib.Seq.{getD-set-same, getD-set-other}
+use lib.Dec.{eqb, leb, ltb}
+use borrow.Author.Tests.{lt-ltb, le-ltb, ltb-true, ltb-false, le-leb, lt-leb, eqb-true, eqb-false}
+use native.Mathlib.Omega.{arith}
+use Rattle.cases.specs.declared.case.Case.{Case}
+use Rattle.cases.specs.declared.case.Program.{Program}
+use Rattle.cases.specs.declared.case.Ask.{Ask}
+use Rattle.cases.specs.declared.case.Run.{Run}
+use Rattle.cases.specs.declared.case.Write.{Write}
+use Rattle.cases.specs.declared.case.Thread.{Thread}
+use Rattle.cases.specs.declared.case.Instruction.{Instruction}
+use Rattle.cases.specs.declared.case.Step.{Step}
+use Rattle.cases.specs.declared.record.Record.the-variants.{First, Instruct, Want, Passed, Take}
+use Rattle.cases.specs.declared.places.Place.{Place}
+use Rattle.cases.specs.declared.places.Place.the-variants.{Holds}
+use Rattle.cases.specs.Sizes.{mostThreads, mostInstructions, mostLocations, mostCode}
+use Rattle.cases.specs.Choice.{pick}
+use Rattle.cases.specs.Checks.{countOf}
+use Rattle.cases.specs.Draft.{withFirst, withInstruction, withWant, withPassed, withStep, noInstruction, noStep}
+use Rattle.cases.proofs.ChoiceLaws.{pick-cases}
+use Rattle.cases.specs.Places.{fromFirsts, fromCode, fromWants, fromPassed, fromSteps, headerPlace, firstPlace, instructionPlace, wantPlace, passedPlace, stepPlace, placeOf}
+
+-- placeOf: the places of each kind
+module _ (c : Case) (k : ℕ) where
+  pub place-header : k ≡ 0 → placeOf c k ≡ headerPlace (c .program)
+  unfolding placeOf pick
+  place-header e = rw e
+
+  module _ (i : ℕ) where
+    pub place-first : k ≡ fromFirsts + i → i < mostLocations → placeOf c k ≡ firstPlace (c .program) i
+    unfolding placeOf pick
+    place-first e h =
+        let at : k - fromFirsts ≡ i = omega arith in
+        rw (le-ltb k fromFirsts (omega arith), lt-ltb k fromCode (omega arith), at)
+
+    pub place-code : k ≡ fromCode + i → i < mostCode → placeOf c k ≡ instructionPlace (c .program) i
+    unfolding placeOf pick
+    place-code e h =
+        let at : k - fromCode ≡ i = omega arith in
+        rw (le-ltb k fromFirsts (omega arith), le-ltb k fromCode (omega arith), lt-ltb k fromWants (omega arith), at)
+
+    pub place-want : k ≡ fromWants + i → i < mostLocations → placeOf c k ≡ wantPlace (c .ask) i
+    unfolding placeOf pick
+    place-want e h =
+        let at : k - fromWants ≡ i = omega arith in
+        rw (
+          le-ltb k fromFirsts (omega arith),
+          le-ltb k fromCode (omega arith),
+          le-ltb k fromWants (omega arith),
+          lt-ltb k fromPassed (omega arith),
+          at,
+        )
+
+    pub place-passed : k ≡ fromPassed + i → i < mostThreads → placeOf c k ≡ passedPlace (c .ask) i
+    unfolding placeOf pick
+    place-passed e h =
+        let at : k - fromPassed ≡ i = omega arith in
+        rw (
+          le-ltb k fromFirsts (omega arith),
+          le-ltb k fromCode (omega arith),
+          le-ltb k fromWants (omega arith),
+          le-ltb k fromPassed (omega arith),
+          lt-ltb k fromSteps (omega arith),
+          at,
+        )
+
+    pub place-step : k ≡ fromSteps + i → placeOf c k ≡ stepPlace (c .run) i
+    unfolding placeOf pick
+    place-step e =
+        let at : k - fromSteps ≡ i = omega arith in
+        rw (
+          le-ltb k fromFirsts (omega arith),
+          le-ltb k fromCode (omega arith),
+          le-ltb k fromWants (omega arith),
+          le-ltb k fromPassed (omega arith),
+          le-ltb k fromSteps (omega arith),
+          at,
+        )
+
+-- what holds of each part at a place holds of what stands there
+pub place-cases {ℓ} : (P : Place → Type ℓ) (c : Case) (j : ℕ)
+    → (j ≡ 0 → P (headerPlace (c .program)))
+    → ((l : ℕ) → j ≡ fromFirsts + l → l < mostLocations → P (firstPlace (c .program) l))
+    → ((m : ℕ) → j ≡ fromCode + m → m < mostCode → P (instructionPlace (c .program) m))
+    → ((l : ℕ) → j ≡ fromWants + l → l < mostLocations → P (wantPlace (c .ask) l))
+    → ((t : ℕ) → j ≡ fromPassed + t → t < mostThreads → P (passedPlace (c .ask) t))
+    → ((k : ℕ) → j ≡ fromSteps + k → P (stepPlace (c .run) k))
+    → P (placeOf c j)
+unfolding placeOf
+place-cases P c j header first code want passed steps =
+    pick-cases P (ltb j fromFirsts) _ _ (λ h. header (omega (arith, ltb-true j fromFirsts h))) (λ h₁.
+    pick-cases P (ltb j fromCode) _ _
+    (λ h. first (j - fromFirsts) (omega (arith, ltb-false j fromFirsts h₁)) (omega (arith, ltb-true j fromCode h))) (λ h₂.
+    pick-cases P (ltb j fromWants) _ _
+    (λ h. code (j - fromCode) (omega (arith, ltb-false j fromCode h₂)) (omega (arith, ltb-true j fromWants h))) (λ h₃.
+    pick-cases P (ltb j fromPassed) _ _
+    (λ h. want (j - fromWants) (omega (arith, ltb-false j fromWants h₃)) (omega (arith, ltb-true j fromPassed h))) (λ h₄.
+    pick-cases P (ltb j fromSteps) _ _
+    (λ h. passed (j - fromPassed) (omega (arith, ltb-false j fromPassed h₄)) (omega (arith, ltb-true j fromSteps h))) (λ h₅.
+    steps (j - fromSteps) (omega (arith, ltb-false j fromSteps h₅)))))))
+
+-- two cases have the same at a place, if the part that it belongs to has
+pub place-same : (c d : Case) (j : ℕ)
+    → (j ≡ 0 → headerPlace (c .program) ≡ headerPlace (d .program))
+    → ((l : ℕ) → j ≡ fromFirsts + l → firstPlace (c .program) l ≡ firstPlace (d .program) l)
+    → ((m : ℕ) → j ≡ fromCode + m → instructionPlace (c .program) m ≡ instructionPlace (d .program) m)
+    → ((l : ℕ) → j ≡ fromWants + l → wantPlace (c .ask) l ≡ wantPlace (d .ask) l)
+    → ((t : ℕ) → j ≡ fromPassed + t → passedPlace (c .ask) t ≡ passedPlace (d .ask) t)
+    → ((k : ℕ) → j ≡ fromSteps + k → stepPlace (c .run) k ≡ stepPlace (d .run) k)
+    → placeOf c j ≡ placeOf d j
+place-same c d j header first code want passed steps =
+    place-cases (λ (x : Place). x ≡ placeOf d j) c j
+    (λ e. header e ∙ sym (place-header d j e))
+    (λ l e h. first l e ∙ sym (place-first d j l e h))
+    (λ m e h. code m e ∙ sym (place-code d j m e h))
+    (λ l e h. want l e ∙ sym (place-want d j l e h))
+    (λ t e h. passed t e ∙ sym (place-passed d j t e h))
+    (λ k e. steps k e ∙ sym (place-step d j k e))
+
+-- A part of the case with a record more: what stands at its place, and at every other
+
+module _ (p : Program) (w : Write) where
+  pub first-same : w .location .0 < length (p .first) → eqb (w .word) 0 ≡ false
+      → firstPlace (withFirst p w) (w .location .0) ≡ Holds (First w)
+  unfolding firstPlace withFirst pick
+  first-same low some = rw (getD-set-same (p .first) (w .location .0) (w .word) 0 low, some)
+
+  pub first-other : (l : ℕ) → l ≢ w .location .0 → firstPlace (withFirst p w) l ≡ firstPlace p l
+  unfolding firstPlace withFirst
+  first-other l n = rw (getD-set-other (p .first) (w .location .0) l (w .word) 0 n)
+
+-- a count more lets through one number more
+leb-more : (n i : ℕ) → i ≢ n → leb (n + 1) i ≡ leb n i
+leb-more n i h = go (ltb i n) refl
+  where
+    go : (t : Bool) → ltb i n ≡ t → leb (n + 1) i ≡ leb n i
+    go true e = lt-leb (n + 1) i (omega (arith, ltb-true i n e)) ∙ sym (lt-leb n i (ltb-true i n e))
+    go false e = let m = ltb-false i n e in le-leb (n + 1) i (omega arith) ∙ sym (le-leb n i m)
+
+module _ (p : Program) (t : Thread) (x : Instruction) where
+  abbrev instruction-at : ℕ
+  instruction-at = t .0 * mostInstructions + countOf p t
+
+  pub instruction-same : t .0 < length (p .counts) → instruction-at < length (p .code) → countOf p t < mostInstructions
+      → instructionPlace (withInstruction p t x) instruction-at ≡ Holds (Instruct t x)
+  unfolding instructionPlace withInstruction pick
+  instruction-same low here few =
+      let q : instruction-at / mostInstructions ≡ t .0 = omega arith in
+      let m : instruction-at % mostInstructions ≡ countOf p t = omega arith in
+      rw (
+        q,
+        m,
+        getD-set-same (p .counts) (t .0) (countOf p t + 1) 0 low,
+        lt-leb (countOf p t + 1) (countOf p t) (omega arith),
+        getD-set-same (p .code) instruction-at x noInstruction here,
+      )
+
+  pub instruction-other : (m : ℕ) → t .0 < length (p .counts) → m ≢ instruction-at
+      → instructionPlace (withInstruction p t x) m ≡ instructionPlace p m
+  unfolding instructionPlace withInstruction
+  instruction-other m low n =
+      rw (getD-set-other (p .code) instruction-at m x noInstruction n, go (eqb (m / mostInstructions) (t .0)) refl)
+    where
+      go : (b : Bool) → eqb (m / mostInstructions) (t .0) ≡ b
+          → leb (getD (set (p .counts) (t .0) (countOf p t + 1)) (m / mostInstructions) 0) (m % mostInstructions)
+          ≡ leb (getD (p .counts) (m / mostInstructions) 0) (m % mostInstructions)
+      go true e =
+          let q = eqb-true (m / mostInstructions) (t .0) e in
+          rw (q, getD-set-same (p .counts) (t .0) (countOf p t + 1) 0 low)
+          (leb-more (countOf p t) (m % mostInstructions) (λ z. n (omega arith)))
+      go false e =
+          rw (getD-set-other (p .counts) (t .0) (m / mostInstructions) (countOf p t + 1) 0 (eqb-false _ _ e))
+
+module _ (a : Ask) (w : Write) where
+  pub want-same : w .location .0 < length (a .wanted) → w .location .0 < length (a .want)
+      → wantPlace (withWant a w) (w .location .0) ≡ Holds (Want w)
+  unfolding wantPlace withWant pick
+  want-same low here =
+      rw (getD-set-same (a .wanted) (w .location .0) true false low, getD-set-same (a .want) (w .location .0) (w .word) 0 here)
+
+  pub want-other : (l : ℕ) → l ≢ w .location .0 → wantPlace (withWant a w) l ≡ wantPlace a l
+  unfolding wantPlace withWant
+  want-other l n =
+      rw (getD-set-other (a .wanted) (w .location .0) l true false n, getD-set-other (a .want) (w .location .0) l (w .word) 0 n)
+
+module _ (a : Ask) (t : Thread) (n : ℕ) where
+  pub passed-same : t .0 < length (a .passed) → eqb n 0 ≡ false → passedPlace (withPassed a t n) (t .0) ≡ Holds (Passed t n)
+  unfolding passedPlace withPassed pick
+  passed-same low some = rw (getD-set-same (a .passed) (t .0) n 0 low, some)
+
+  pub passed-other : (u : ℕ) → u ≢ t .0 → passedPlace (withPassed a t n) u ≡ passedPlace a u
+  unfolding passedPlace withPassed
+  passed-other u d = rw (getD-set-other (a .passed) (t .0) u n 0 d)
+
+module _ (r : Run) (k : Step) where
+  pub step-same : r .count < length (r .steps) → stepPlace (withStep r k) (r .count) ≡ Holds (Take k)
+  unfolding stepPlace withStep pick
+  step-same low =
+      rw (lt-leb (r .count + 1) (r .count) (omega arith), getD-set-same (r .steps) (r .count) k noStep low)
+
+  pub step-other : (i : ℕ) → i ≢ r .count → stepPlace (withStep r k) i ≡ stepPlace r i
+  unfolding stepPlace withStep
+  step-other i n = rw (leb-more (r .count) i n, getD-set-other (r .steps) (r .count) i k noStep n)

@@ -1,0 +1,138 @@
+-- What cases promises to the layers above: all that they may cite. Each law is stated in full. Assumes nothing.
+use Prim.Native.Nat.{ℕ, _+_, _*_, _^_, _<_, _≤_}
+use mathlib.Core.Path.{_≡_, refl, sym, ap, _∙_}
+use mathlib.Core.Logic.{_≢_, _↔_}
+use mathlib.Core.List.{List, [], _++_}
+use mathlib.Core.Bool.{true, false}
+use lib.ListN.{length, getD, take, drop}
+use lib.Seq.{take-at, drop-length}
+use borrow.Author.Tests.{eqb-true, eq-eqb}
+use native.Mathlib.Omega.{arith}
+use Rattle.cases.specs.declared.case.Case.{Case}
+use Rattle.cases.specs.declared.reader.Answer.the-variants.{Whole}
+use Rattle.cases.specs.declared.writer.Wrote.the-variants.{Stored, Untouched}
+use Rattle.cases.specs.Sizes.{longest, longestRecord}
+use Rattle.cases.specs.Choice.{both}
+use Rattle.cases.specs.Bytes.{IsBytes}
+use Rattle.cases.specs.Draft.{emptyCase}
+use Rattle.cases.specs.Reading.{numberOf, offsetOf, readOf, unreadOf}
+use Rattle.cases.specs.Places.{encodeOf}
+use Rattle.cases.specs.Ranges.{Ranged}
+use Rattle.cases.specs.Writing.{readsAs, readsBack, wroteOf, writtenOf}
+use Rattle.cases.proofs.ChoiceLaws.{both-true}
+use Rattle.cases.proofs.LengthLaws as LengthLaws
+use Rattle.cases.proofs.RoundTrip.{read-all}
+use Rattle.cases.proofs.PrefixLaws as PrefixLaws
+use Rattle.cases.proofs.RangeLaws.{sound-bytes, sound-ranged}
+use Rattle.cases.proofs.WriteLaws.{stored-is, untouched-is}
+use Rattle.cases.proofs.SameLaws.{case-is, case-self}
+
+-- Reading any bytes at all
+module _ (s : List ℕ) where
+  -- a reading answers 0 or a refusal of the table, 1 to 9
+  pub number-in-table : numberOf (readOf s .answer) ≤ 9
+  number-in-table = read-all s .table
+
+  -- a refusal hands out only the fixed empty case
+  pub refusal-hands-out-nothing : numberOf (readOf s .answer) ≢ 0 → readOf s .case ≡ emptyCase
+  refusal-hands-out-nothing = read-all s .hands
+
+  -- a faulty record starts within the input, and at most at the longest file's length
+  pub offset-within : offsetOf (readOf s .answer) ≤ length s
+  offset-within = omega (arith, read-all s .within)
+
+  pub offset-low : offsetOf (readOf s .answer) ≤ longest
+  offset-low = read-all s .early
+
+  -- so number and 256 times the offset fit 32 bits
+  pub packed-fits : numberOf (readOf s .answer) + 256 * offsetOf (readOf s .answer) < 2 ^ 32
+  packed-fits = omega (arith, number-in-table, offset-low)
+
+  -- a success has read all of the input, and leaves the empty rest
+  pub success-whole : numberOf (readOf s .answer) ≡ 0 → readOf s .answer ≡ Whole (length s)
+  success-whole h = read-all s .ends h ∙ ap Whole (omega arith)
+
+  pub success-rest : numberOf (readOf s .answer) ≡ 0 → unreadOf s ≡ []
+  unfolding unreadOf
+  success-rest h = rw (success-whole h) (drop-length s)
+
+  -- no byte behind the longest file and one record more is looked at
+  pub prefix-decides : (m : ℕ) → longest + longestRecord ≤ m → readOf (take m s) ≡ readOf s
+  prefix-decides m h = PrefixLaws.read-prefix s m h
+
+-- "A case written and read back is the same case, and the same bytes."
+-- any bytes that read give, written, the same bytes
+pub write-after-read : (s : List ℕ) → IsBytes s → numberOf (readOf s .answer) ≡ 0 → encodeOf (readOf s .case) ≡ s
+write-after-read s b h = read-all s .back b h
+
+pub read-reads-back : (s : List ℕ) → IsBytes s → numberOf (readOf s .answer) ≡ 0 → readsBack (readOf s .case) ≡ true
+unfolding readsBack readsAs both
+read-reads-back s b h = rw (write-after-read s b h, eq-eqb _ 0 h) (case-self (readOf s .case))
+
+-- A case that passes the test for 32
+module _ (c : Case) (readable : readsBack c ≡ true) where
+  file-number : numberOf (readOf (encodeOf c) .answer) ≡ 0
+  unfolding readsBack readsAs
+  file-number = eqb-true _ _ (both-true _ _ readable .0)
+
+  file-case : readOf (encodeOf c) .case ≡ c
+  unfolding readsBack readsAs
+  file-case = sym (case-is c _ (both-true _ _ readable .1))
+
+  -- its file reads as that very case, with 0
+  pub read-after-write : readOf (encodeOf c) ≡ record { answer = Whole (length (encodeOf c)); case = c }
+  read-after-write =
+      let answer = success-whole (encodeOf c) file-number in
+      let case = file-case in
+      λ i. record { answer = answer i; case = case i }
+
+  -- its file is made of bytes
+  pub file-bytes : IsBytes (encodeOf c)
+  file-bytes =
+      let d = read-all (encodeOf c) .sound file-number in
+      rw (sym (d .3) ∙ file-case) at (sound-bytes (d .0) (d .1) (d .2))
+
+  -- and every number of it is in range
+  pub readable-ranged : Ranged c
+  readable-ranged =
+      let d = read-all (encodeOf c) .sound file-number in
+      rw (sym (d .3) ∙ file-case) at (sound-ranged (d .0) (d .1) (d .2))
+
+-- 32 refuses a case exactly when no byte string reads as it
+pub readable-exactly : (c : Case)
+    → (readsBack c ≡ true) ↔ ((s : List ℕ) × IsBytes s × (numberOf (readOf s .answer) ≡ 0) × (readOf s .case ≡ c))
+readable-exactly c = (
+  (λ h. (encodeOf c, file-bytes c h, file-number c h, file-case c h)),
+  (λ e. rw (e .3) at (read-reads-back (e .0) (e .1) (e .2))),
+)
+
+-- "Refusals .. store nothing. A success writes from the front and touches nothing behind."
+pub refusal-stores-nothing : (c : Case) (out : List ℕ) (m : ℕ) → wroteOf c out ≡ Untouched m → writtenOf c out ≡ out
+refusal-stores-nothing c out m h = untouched-is c out m h
+
+pub success-from-the-front : (c : Case) (out : List ℕ) (n : ℕ) → wroteOf c out ≡ Stored n
+    → (n ≡ length (encodeOf c)) × (writtenOf c out ≡ encodeOf c ++ drop n out)
+success-from-the-front c out n h =
+    let e = stored-is c out n h in
+    (e .1, rw (e .1) (e .2))
+
+-- what was written at the front of lent bytes reads as the case, whatever stood there
+pub written-reads : (c : Case) (out : List ℕ) (n : ℕ) → wroteOf c out ≡ Stored n
+    → readOf (take n (writtenOf c out)) ≡ record { answer = Whole n; case = c }
+written-reads c out n h =
+    let e = stored-is c out n h in
+    rw (e .1, e .2, take-at (encodeOf c) (drop (length (encodeOf c)) out) (length (encodeOf c)) refl) (read-after-write c (e .0))
+
+-- two readable cases with the same bytes are the same case
+pub same-bytes-same-case : (c d : Case) → readsBack c ≡ true → readsBack d ≡ true → encodeOf c ≡ encodeOf d → c ≡ d
+same-bytes-same-case c d h k e =
+    sym (file-case c h) ∙ ap (λ (s : List ℕ). readOf s .case) e ∙ file-case d k
+
+-- "Not wanted" and "wanted 0" are different cases that write different bytes
+pub not-wanted-differs : (c d : Case) (l : ℕ) → readsBack c ≡ true → readsBack d ≡ true
+    → getD (c .ask .wanted) l false ≡ false → getD (d .ask .wanted) l false ≡ true
+    → encodeOf c ≢ encodeOf d
+not-wanted-differs c d l h k p q e =
+    let same = ap (λ (x : Case). getD (x .ask .wanted) l false) (same-bytes-same-case c d h k e) in
+    let z : _≡_ {A = ℕ} 0 1 = cc in
+    omega arith

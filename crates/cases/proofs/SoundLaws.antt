@@ -1,0 +1,116 @@
+-- What holds of a draft after each record, and what a record more does to the case's file: its bytes are added at the end.
+-- Records come at rising places: `front` is the place behind the last one. Assumes nothing.
+use Prim.Native.Nat.{ℕ, suc, _+_, _*_, _<_, _≤_}
+use mathlib.Core.Path.{_≡_, refl, ap, _∙_}
+use mathlib.Core.Logic.{_≢_}
+use mathlib.Core.List.{_++_}
+use mathlib.Core.Bool.{Bool, true, false}
+use lib.ListN.{length, getD}
+use lib.Dec.{eqb}
+use borrow.Author.Tests.{eqb-true, eqb-false}
+use native.Mathlib.Omega.{arith}
+use Rattle.cases.specs.declared.case.Case.{Case}
+use Rattle.cases.specs.declared.case.Program.{Program}
+use Rattle.cases.specs.declared.case.Ask.{Ask}
+use Rattle.cases.specs.declared.case.Run.{Run}
+use Rattle.cases.specs.declared.draft.Draft.{Draft}
+use Rattle.cases.specs.declared.record.Record.{Record}
+use Rattle.cases.specs.declared.places.Place.{Place}
+use Rattle.cases.specs.declared.places.Place.the-variants.{Holds, Empty}
+use Rattle.cases.specs.Sizes.{mostThreads, mostInstructions, mostLocations, mostSteps, mostCode}
+use Rattle.cases.specs.Record.{recordBytes}
+use Rattle.cases.specs.Draft.{addOf}
+use Rattle.cases.specs.Places.{fromFirsts, fromCode, fromWants, fromPassed, fromSteps, places, placeOf, placeBytes, bytesAt, encodeOf}
+use Rattle.cases.proofs.EachLaws.{each-more}
+use Rattle.cases.proofs.FitLaws.{RecordFits, PlaceFits, Grown, record-grown, place-grown}
+
+-- how long the arrays are, and how much they hold at most
+pub record ProgramSized (p : Program) : Type 0 where
+  pub first-long : length (p .first) ≡ mostLocations
+  pub counts-long : length (p .counts) ≡ mostThreads
+  pub code-long : length (p .code) ≡ mostCode
+  pub some-threads : 1 ≤ p .threads
+  pub few-threads : p .threads ≤ mostThreads
+  pub some-locations : 1 ≤ p .locations
+  pub few-locations : p .locations ≤ mostLocations
+  pub few-instructions : (t : ℕ) → getD (p .counts) t 0 ≤ mostInstructions
+
+pub record AskSized (a : Ask) : Type 0 where
+  pub wanted-long : length (a .wanted) ≡ mostLocations
+  pub want-long : length (a .want) ≡ mostLocations
+  pub passed-long : length (a .passed) ≡ mostThreads
+
+pub record RunSized (r : Run) : Type 0 where
+  pub steps-long : length (r .steps) ≡ mostSteps
+  pub few-steps : r .count ≤ mostSteps
+
+pub record Sized (c : Case) : Type 0 where
+  pub of-program : ProgramSized (c .program)
+  pub of-ask : AskSized (c .ask)
+  pub of-run : RunSized (c .run)
+
+-- a record that may come next stands at the front or behind it, by its kind
+pub record Fronts (d : Draft) (front : ℕ) : Type 0 where
+  pub begun : 1 ≤ d .kind
+  pub to-firsts : d .kind ≤ 2 → (n : ℕ) → (d .kind ≡ 2 → d .next ≤ n) → front ≤ fromFirsts + n
+  pub to-code : d .kind ≤ 3 → (t : ℕ) → (d .kind ≡ 3 → d .next ≤ t)
+      → front ≤ fromCode + (t * mostInstructions + getD (d .case .program .counts) t 0)
+  pub to-wants : d .kind ≤ 4 → (n : ℕ) → (d .kind ≡ 4 → d .next ≤ n) → front ≤ fromWants + n
+  pub to-passed : d .kind ≤ 5 → (n : ℕ) → (d .kind ≡ 5 → d .next ≤ n) → front ≤ fromPassed + n
+  pub to-steps : front ≤ fromSteps + d .case .run .count
+
+pub record Sound (d : Draft) (front : ℕ) : Type 0 where
+  pub sized : Sized (d .case)
+  pub fronts : Fronts d front
+  pub blank : (j : ℕ) → front ≤ j → placeOf (d .case) j ≡ Empty
+  pub ranged : (j : ℕ) → PlaceFits (d .case .program) (placeOf (d .case) j)
+
+-- what a record more does
+pub record Added (d : Draft) (r : Record) : Type 0 where
+  pub spot : ℕ
+  pub sound : Sound (addOf d r) (suc spot)
+  pub longer : encodeOf (addOf d r .case) ≡ encodeOf (d .case) ++ recordBytes r
+
+-- A record behind a sound draft: it stands at a place of its own, at the front or behind it, and every other place is as it was
+pub record Stands (d : Draft) (front : ℕ) (r : Record) (spot : ℕ) : Type 0 where
+  pub reached : front ≤ spot
+  pub inside : spot < places
+  pub here : placeOf (addOf d r .case) spot ≡ Holds r
+  pub other : (j : ℕ) → j ≢ spot → placeOf (addOf d r .case) j ≡ placeOf (d .case) j
+  pub grown : Grown (d .case .program) (addOf d r .case .program)
+  pub fit : RecordFits (d .case .program) r
+  pub sized : Sized (addOf d r .case)
+  pub fronts : Fronts (addOf d r) (suc spot)
+
+module _ (d : Draft) (front : ℕ) (s : Sound d front) (r : Record) (spot : ℕ) (stands : Stands d front r spot) where
+  add-longer : encodeOf (addOf d r .case) ≡ encodeOf (d .case) ++ recordBytes r
+  unfolding encodeOf bytesAt placeBytes
+  add-longer =
+      let reached = stands .reached in
+      each-more places spot (bytesAt (addOf d r .case)) (bytesAt (d .case)) (stands .inside)
+      (λ j n. ap placeBytes (stands .other j n))
+      (λ j n. ap placeBytes (s .blank j (omega arith)))
+      ∙ ap (λ (x : Place). encodeOf (d .case) ++ placeBytes x) (stands .here)
+
+  add-blank : (j : ℕ) → suc spot ≤ j → placeOf (addOf d r .case) j ≡ Empty
+  add-blank j h =
+      let reached = stands .reached in
+      stands .other j (λ e. omega arith) ∙ s .blank j (omega arith)
+
+  add-ranged : (j : ℕ) → PlaceFits (addOf d r .case .program) (placeOf (addOf d r .case) j)
+  unfolding PlaceFits
+  add-ranged j = go (eqb j spot) refl
+    where
+      go : (t : Bool) → eqb j spot ≡ t → PlaceFits (addOf d r .case .program) (placeOf (addOf d r .case) j)
+      go true e = rw (eqb-true j spot e, stands .here) (record-grown _ _ (stands .grown) r (stands .fit))
+      go false e =
+          rw (stands .other j (eqb-false j spot e))
+          (place-grown _ _ (stands .grown) (placeOf (d .case) j) (s .ranged j))
+
+  pub added : Added d r
+  added =
+      record {
+        spot = spot;
+        sound = record { sized = stands .sized; fronts = stands .fronts; blank = add-blank; ranged = add-ranged };
+        longer = add-longer;
+      }

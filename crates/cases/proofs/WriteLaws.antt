@@ -1,0 +1,104 @@
+-- Laws of what the reader and the writer hand to one another: the unread part, and a file in a buffer of the longest length.
+-- Assumes nothing.
+use Prim.Native.Nat.{ℕ, _-_, _<_, _≤_}
+use mathlib.Core.Path.{_≡_, refl, sym, ap, _∙_}
+use mathlib.Core.Logic.{_≢_}
+use mathlib.Core.List.{List, _++_}
+use mathlib.Core.Bool.{Bool, true, false}
+use lib.ListN.{length, take, drop, replicate, length-append, length-replicate, length-drop}
+use lib.Seq.{take-at, take-all}
+use lib.Dec.{ltb}
+use borrow.Author.Tests.{lt-ltb, le-ltb, eq-eqb, ne-eqb}
+use native.Mathlib.Omega.{arith}
+use Rattle.cases.specs.declared.case.Case.{Case}
+use Rattle.cases.specs.declared.reader.Reading.{Reading}
+use Rattle.cases.specs.declared.writer.Wrote.the-variants.{Stored, Untouched}
+use Rattle.cases.specs.Sizes.{longest}
+use Rattle.cases.specs.Choice.{pick, both}
+use Rattle.cases.specs.Reading.{numberOf, offsetOf, readOf, unreadOf}
+use Rattle.cases.specs.Places.{encodeOf}
+use Rattle.cases.specs.Writing.{sameCase, readsAs, readsBack, wroteOf, writtenOf}
+use Rattle.cases.proofs.ChoiceLaws.{pick-true, false-not}
+use Rattle.cases.proofs.LengthLaws.{encode-length}
+use Rattle.cases.proofs.RoundTrip.{read-all}
+
+-- the offset of a reading of s
+module _ (s : List ℕ) (r : Reading) (at : ℕ) (is-read : r ≡ readOf s) (is-at : at ≡ offsetOf (r .answer)) where
+  pub unread-within : at ≤ length s
+  unread-within = omega (arith, is-at ∙ ap (λ (x : Reading). offsetOf (x .answer)) is-read, read-all s .within)
+
+  pub unread-is : take (length s - at) (drop at s) ≡ unreadOf s
+  unfolding unreadOf
+  unread-is =
+      take-all (length s - at) (drop at s) (omega (arith, length-drop at s))
+      ∙ ap (λ (n : ℕ). drop n s) (is-at ∙ ap (λ (x : Reading). offsetOf (x .answer)) is-read)
+
+-- readsAs: a refusal; a reading
+module _ (s : List ℕ) (c : Case) (r : Reading) (is-read : r ≡ readOf s) where
+  pub reads-none : (n : ℕ) → n ≡ numberOf (r .answer) → n ≢ 0 → false ≡ readsAs s c
+  unfolding readsAs both
+  reads-none n e h = rw (← is-read, ← e, ne-eqb n 0 h)
+
+  pub reads-some : (n : ℕ) → n ≡ numberOf (r .answer) → n ≡ 0 → (b : Bool) → b ≡ sameCase c (r .case) → b ≡ readsAs s c
+  unfolding readsAs both
+  reads-some n e h b same = rw (← is-read, ← e, eq-eqb n 0 h) same
+
+-- a case's file at the front of a blank buffer
+module _ (c : Case) (blank : List ℕ) (is-blank : blank ≡ replicate longest 0) where
+  pub file-room : length (encodeOf c) ≤ length blank
+  file-room = rw is-blank (simp length-replicate (encode-length c))
+
+  module _ (n : ℕ) (file : List ℕ) (is-length : n ≡ length (encodeOf c))
+      (filled : file ≡ encodeOf c ++ drop (length (encodeOf c)) blank) where
+    pub file-within : n ≤ length file
+    file-within = rw filled (simp length-append (omega arith))
+
+    pub file-front : take n file ≡ encodeOf c
+    file-front = rw filled (take-at (encodeOf c) _ n (sym is-length))
+
+    pub file-reads : (r : Bool) → r ≡ readsAs (take n file) c → r ≡ readsBack c
+    unfolding readsBack
+    file-reads r e = e ∙ ap (λ (s : List ℕ). readsAs s c) file-front
+
+    -- how many bytes the part has that is read back
+    pub file-count : n ≡ length (take n file)
+    file-count = is-length ∙ ap length (sym file-front)
+
+-- The ways out of the writer: 32, 31, and the file
+module _ (c : Case) (out : List ℕ) where
+  pub write-unreadable : readsBack c ≡ false → (Untouched 32 ≡ wroteOf c out) × (out ≡ writtenOf c out)
+  unfolding wroteOf writtenOf
+  write-unreadable h =
+      (sym (pick-true _ _ _ (false-not _ h)), sym (pick-true _ _ _ (false-not _ h)))
+
+  module _ (readable : readsBack c ≡ true) (n : ℕ) (is-length : n ≡ length (encodeOf c)) where
+    pub write-short : length out < n → (Untouched 31 ≡ wroteOf c out) × (out ≡ writtenOf c out)
+    unfolding wroteOf writtenOf pick
+    write-short h = (rw (readable, ← is-length, lt-ltb (length out) n h), rw (readable, ← is-length, lt-ltb (length out) n h))
+
+    pub write-whole : n ≤ length out → (after : List ℕ) → after ≡ encodeOf c ++ drop (length (encodeOf c)) out
+        → (Stored n ≡ wroteOf c out) × (after ≡ writtenOf c out)
+    unfolding wroteOf writtenOf pick
+    write-whole h after e = (rw (readable, ← is-length, le-ltb (length out) n h), rw (readable, le-ltb (length out) (length (encodeOf c)) (omega arith)) e)
+
+  -- back from the answer: what was stored
+  pub stored-is : (n : ℕ) → wroteOf c out ≡ Stored n
+      → (readsBack c ≡ true) × (n ≡ length (encodeOf c)) × (writtenOf c out ≡ encodeOf c ++ drop (length (encodeOf c)) out)
+  unfolding wroteOf writtenOf pick
+  stored-is n h = go (readsBack c) (ltb (length out) (length (encodeOf c))) refl refl
+    where
+      go : (b t : Bool) → readsBack c ≡ b → ltb (length out) (length (encodeOf c)) ≡ t
+          → (readsBack c ≡ true) × (n ≡ length (encodeOf c)) × (writtenOf c out ≡ encodeOf c ++ drop (length (encodeOf c)) out)
+      go false t p q = let e = rw p at h in absurd (let z : _≡_ {A = ℕ} 0 1 = cc in omega arith)
+      go true true p q = let e = rw (p, q) at h in absurd (let z : _≡_ {A = ℕ} 0 1 = cc in omega arith)
+      go true false p q = let e : Stored (length (encodeOf c)) ≡ Stored n = rw (p, q) at h in (p, cc, rw (p, q))
+
+  -- back from the answer: what a refusal leaves
+  pub untouched-is : (m : ℕ) → wroteOf c out ≡ Untouched m → writtenOf c out ≡ out
+  unfolding wroteOf writtenOf pick
+  untouched-is m h = go (readsBack c) (ltb (length out) (length (encodeOf c))) refl refl
+    where
+      go : (b t : Bool) → readsBack c ≡ b → ltb (length out) (length (encodeOf c)) ≡ t → writtenOf c out ≡ out
+      go false t p q = rw p
+      go true true p q = rw (p, q)
+      go true false p q = let e = rw (p, q) at h in absurd (let z : _≡_ {A = ℕ} 0 1 = cc in omega arith)

@@ -1,0 +1,21 @@
+-- `packed_header` meets its contract: the bytes compute. Assumes nothing.
+use borrow.Author.Needs.{needs}
+use mathlib.Core.Path.{refl}
+use Rattle.cases.specs.Choice.{pick}
+use Rattle.cases.specs.Bytes.{halfBytes}
+use Rattle.cases.specs.Record.{payloadOf, payloadBytes, recordBytes, packedOf}
+use Rattle.cases.proofs.record.packed_header.Statement.{statement}
+use Rattle.cases.proofs.record.packed_header.Tie as tie
+
+cast-low : tie.Need-cast-low
+cast-low c = search needs
+
+cast-high : tie.Need-cast-high
+cast-high c = search needs
+
+returns : tie.Need-returns
+unfolding packedOf recordBytes payloadBytes payloadOf pick halfBytes
+returns c = refl
+
+pub packed-header-spec : {M : Type 1} → statement M
+packed-header-spec = tie.close (tie.spec cast-low cast-high returns)

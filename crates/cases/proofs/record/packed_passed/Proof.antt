@@ -1,0 +1,14 @@
+-- `packed_passed` meets its contract: the bytes compute. Assumes nothing.
+use mathlib.Core.Path.{refl}
+use Rattle.cases.specs.Choice.{pick}
+use Rattle.cases.specs.Bytes.{halfBytes}
+use Rattle.cases.specs.Record.{payloadOf, payloadBytes, recordBytes, packedOf}
+use Rattle.cases.proofs.record.packed_passed.Statement.{statement}
+use Rattle.cases.proofs.record.packed_passed.Tie as tie
+
+returns : tie.Need-returns
+unfolding packedOf recordBytes payloadBytes payloadOf pick halfBytes
+returns c = refl
+
+pub packed-passed-spec : {M : Type 1} → statement M
+packed-passed-spec = tie.close (tie.spec returns)

@@ -1,0 +1,31 @@
+-- `reads_as` meets its contract. Assumes nothing.
+use borrow.Author.Needs.{needs}
+use Rattle.cases.proofs.WriteLaws.{reads-none, reads-some}
+use Rattle.cases.proofs.writer.reads_as.Statement.{statement}
+use Rattle.cases.proofs.writer.reads_as.Tie as tie
+use Rattle.cases.proofs.writer.reads_as.Reads as reads
+use Rattle.cases.proofs.writer.reads_as.Lts as lts
+use Rattle.cases.proofs.reader.number.Reads as number-reads
+use Rattle.cases.proofs.reader.read.Reads as read-reads
+use Rattle.cases.proofs.same.same_case.Reads as same-case-reads
+
+read-requires : tie.Need-read-requires
+read-requires c κs = search needs
+
+number-requires : tie.Need-number-requires
+number-requires c κs = search needs
+
+returns : tie.Need-returns
+returns c = reads-none _ _ _ (c .before .before .read .ensures) _ (c .before .number .ensures) (c .if1 .taken)
+
+same-case-requires : tie.Need-same-case-requires
+same-case-requires c κs = search needs
+
+returns-2 : tie.Need-returns-2
+returns-2 c =
+    let n = c .before .before .before in
+    reads-some _ _ _ (n .before .read .ensures) _ (n .number .ensures) (c .before .before .if1 .left) _ (c .same-case .ensures)
+
+pub reads-as-spec : {M : Type 1} → statement M
+reads-as-spec =
+    tie.close (tie.spec read-requires number-requires returns same-case-requires returns-2)

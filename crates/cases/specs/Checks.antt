@@ -1,0 +1,126 @@
+-- Document 01, "Refusal numbers": what is wrong with a record that opens, after the records before it.
+-- "Within a record the checks go in the order 1 (head), 2, 3, 1 (payload), 4, 5, 8, 6, 7, 9." Number 5 looks only at fields that
+-- are used; an unused field is a matter for 8.
+--   misplaced (4)    disordered (6)    ..Out (5)    ..Left (8): a field left over that is not used, or a 0 that says nothing
+--   faultOf d r      0, or the number of the first fault of record r behind the draft d
+-- Assumes nothing.
+use Prim.Native.Nat.{ℕ}
+use mathlib.Core.Bool.{Bool, not}
+use lib.ListN.{getD}
+use lib.Dec.{eqb, leb, ltb}
+use Rattle.cases.specs.declared.case.Thread.{Thread}
+use Rattle.cases.specs.declared.case.Instruction.{Instruction}
+use Rattle.cases.specs.declared.case.Step.{Step}
+use Rattle.cases.specs.declared.case.Program.{Program}
+use Rattle.cases.specs.declared.draft.Draft.{Draft}
+use Rattle.cases.specs.declared.record.Header.{Header}
+use Rattle.cases.specs.declared.record.Record.{Record}
+use Rattle.cases.specs.declared.record.Record.the-variants.{Declare, First, Instruct, Want, Passed, Take}
+use Rattle.cases.specs.Sizes.{mostThreads, mostInstructions, mostLocations, mostRegisters, mostSteps}
+use Rattle.cases.specs.Choice.{pick, both, either, refuse}
+
+-- "Exactly one kind 1, first; afterwards kinds never go down." Where nothing stands before, that kind is 0.
+unfoldable pub misplaced : ℕ → ℕ → Bool
+misplaced before kind = pick (eqb before 0) (not (eqb kind 1)) (either (eqb kind 1) (ltb kind before))
+
+-- "Kinds 2 and 4 have locations strictly rising, kind 5 threads strictly rising, kind 3 threads never falling": the draft has the
+-- least number that may come next in its kind.
+unfoldable pub disordered : Draft → ℕ → ℕ → Bool
+disordered d kind n = both (eqb (d .kind) kind) (ltb n (d .next))
+
+-- not from 1 to the most
+unfoldable pub outside : ℕ → ℕ → Bool
+outside x most = either (ltb x 1) (ltb most x)
+
+-- a used field that names what is not there
+unfoldable pub beyond : Bool → ℕ → ℕ → Bool
+beyond used x limit = both used (leb limit x)
+
+-- an unused field that is not 0
+unfoldable pub leftOver : Bool → ℕ → Bool
+leftOver used x = both (not used) (not (eqb x 0))
+
+unfoldable pub headerOut : Header → Bool
+headerOut h =
+    either (not (eqb (h .version) 1))
+    (either (outside (h .threads) mostThreads)
+    (outside (h .locations) mostLocations))
+
+-- "Operations (fields used): 1 store word (location, word); 2 store register (location, register); 3 load (location, register);
+-- 4 exchange (location, register, word); 5 flush (location); 6 flush-opt (location); 7 sfence; 8 mfence."
+abbrev pub usesLocation : ℕ → Bool
+usesLocation op = leb op 6
+
+unfoldable pub usesRegister : ℕ → Bool
+usesRegister op = both (leb 2 op) (leb op 4)
+
+unfoldable pub usesWord : ℕ → Bool
+usesWord op = either (eqb op 1) (eqb op 4)
+
+unfoldable pub instructionOut : Program → Thread → Instruction → Bool
+instructionOut p t x =
+    either (leb (p .threads) (t .0))
+    (either (outside (x .operation) 8)
+    (either (beyond (usesLocation (x .operation)) (x .location .0) (p .locations))
+    (beyond (usesRegister (x .operation)) (x .register .0) mostRegisters)))
+
+unfoldable pub instructionLeft : Instruction → Bool
+instructionLeft x =
+    either (leftOver (usesLocation (x .operation)) (x .location .0))
+    (either (leftOver (usesRegister (x .operation)) (x .register .0))
+    (leftOver (usesWord (x .operation)) (x .word)))
+
+-- how many instructions the thread has
+abbrev pub countOf : Program → Thread → ℕ
+countOf p t = getD (p .counts) (t .0) 0
+
+unfoldable pub passedOut : Program → Thread → ℕ → Bool
+passedOut p t n = either (leb (p .threads) (t .0)) (ltb (countOf p t) n)
+
+-- "Step codes: 0 issue (thread); 1 move (thread, position 0 to 7); 2 persist (location)."
+unfoldable pub stepOut : Program → Step → Bool
+stepOut p k =
+    either (ltb 2 (k .code))
+    (either (beyond (leb (k .code) 1) (k .thread .0) (p .threads))
+    (either (beyond (eqb (k .code) 1) (k .position) mostInstructions)
+    (beyond (eqb (k .code) 2) (k .location .0) (p .locations))))
+
+unfoldable pub stepLeft : Step → Bool
+stepLeft k =
+    either (leftOver (leb (k .code) 1) (k .thread .0))
+    (either (leftOver (eqb (k .code) 1) (k .position))
+    (leftOver (eqb (k .code) 2) (k .location .0)))
+
+-- 5 and 8 of a step, as for a kind 6 record
+unfoldable pub stepFault : Program → Step → ℕ
+stepFault p k = refuse (stepOut p k) 5 (refuse (stepLeft k) 8 0)
+
+unfoldable pub faultOf : Draft → Record → ℕ
+faultOf d (Declare h) =
+    refuse (misplaced (d .kind) 1) 4
+    (refuse (headerOut h) 5 0)
+faultOf d (First w) =
+    refuse (misplaced (d .kind) 2) 4
+    (refuse (leb (d .case .program .locations) (w .location .0)) 5
+    (refuse (eqb (w .word) 0) 8
+    (refuse (disordered d 2 (w .location .0)) 6 0)))
+faultOf d (Instruct t x) =
+    refuse (misplaced (d .kind) 3) 4
+    (refuse (instructionOut (d .case .program) t x) 5
+    (refuse (instructionLeft x) 8
+    (refuse (disordered d 3 (t .0)) 6
+    (refuse (leb mostInstructions (countOf (d .case .program) t)) 7 0))))
+faultOf d (Want w) =
+    refuse (misplaced (d .kind) 4) 4
+    (refuse (leb (d .case .program .locations) (w .location .0)) 5
+    (refuse (disordered d 4 (w .location .0)) 6 0))
+faultOf d (Passed t n) =
+    refuse (misplaced (d .kind) 5) 4
+    (refuse (passedOut (d .case .program) t n) 5
+    (refuse (eqb n 0) 8
+    (refuse (disordered d 5 (t .0)) 6 0)))
+faultOf d (Take k) =
+    refuse (misplaced (d .kind) 6) 4
+    (refuse (stepOut (d .case .program) k) 5
+    (refuse (stepLeft k) 8
+    (refuse (leb mostSteps (d .case .run .count)) 9 0)))

@@ -1,0 +1,114 @@
+-- A case while it is read: the case so far, the kind of the record before (0: none), and the least number that may come next in
+-- that kind.
+--   emptyCase   "the fixed empty one: one thread, one location, no further records"
+--   addOf d r   the draft with the record r behind it
+-- Assumes nothing.
+use Prim.Native.Nat.{ℕ, _+_, _*_}
+use mathlib.Core.Bool.{true, false}
+use lib.ListN.{replicate, set}
+use Rattle.cases.specs.declared.case.Thread.{Thread}
+use Rattle.cases.specs.declared.case.Write.{Write}
+use Rattle.cases.specs.declared.case.Instruction.{Instruction}
+use Rattle.cases.specs.declared.case.Step.{Step}
+use Rattle.cases.specs.declared.case.Program.{Program}
+use Rattle.cases.specs.declared.case.Ask.{Ask}
+use Rattle.cases.specs.declared.case.Run.{Run}
+use Rattle.cases.specs.declared.case.Case.{Case}
+use Rattle.cases.specs.declared.draft.Draft.{Draft}
+use Rattle.cases.specs.declared.record.Header.{Header}
+use Rattle.cases.specs.declared.record.Record.{Record}
+use Rattle.cases.specs.declared.record.Record.the-variants.{Declare, First, Instruct, Want, Passed, Take}
+use Rattle.cases.specs.Sizes.{mostThreads, mostInstructions, mostLocations, mostSteps, mostCode}
+use Rattle.cases.specs.Checks.{countOf}
+
+-- what stands in an unused place
+abbrev pub noInstruction : Instruction
+noInstruction = record { operation = 0; location = record { 0 = 0 }; register = record { 0 = 0 }; word = 0 }
+
+abbrev pub noStep : Step
+noStep = record { thread = record { 0 = 0 }; code = 0; position = 0; location = record { 0 = 0 } }
+
+unfoldable pub emptyCase : Case
+emptyCase =
+    record {
+      program = record {
+        threads = 1;
+        locations = 1;
+        first = replicate mostLocations 0;
+        counts = replicate mostThreads 0;
+        code = replicate mostCode noInstruction;
+      };
+      ask = record {
+        wanted = replicate mostLocations false;
+        want = replicate mostLocations 0;
+        passed = replicate mostThreads 0;
+      };
+      run = record { count = 0; steps = replicate mostSteps noStep };
+    }
+
+unfoldable pub withSizes : Program → Header → Program
+withSizes p h =
+    record {
+      threads = h .threads;
+      locations = h .locations;
+      first = p .first;
+      counts = p .counts;
+      code = p .code;
+    }
+
+unfoldable pub withFirst : Program → Write → Program
+withFirst p w =
+    record {
+      threads = p .threads;
+      locations = p .locations;
+      first = set (p .first) (w .location .0) (w .word);
+      counts = p .counts;
+      code = p .code;
+    }
+
+-- instruction i of thread t stands at t * mostInstructions + i
+unfoldable pub withInstruction : Program → Thread → Instruction → Program
+withInstruction p t x =
+    record {
+      threads = p .threads;
+      locations = p .locations;
+      first = p .first;
+      counts = set (p .counts) (t .0) (countOf p t + 1);
+      code = set (p .code) (t .0 * mostInstructions + countOf p t) x;
+    }
+
+unfoldable pub withWant : Ask → Write → Ask
+withWant a w =
+    record {
+      wanted = set (a .wanted) (w .location .0) true;
+      want = set (a .want) (w .location .0) (w .word);
+      passed = a .passed;
+    }
+
+unfoldable pub withPassed : Ask → Thread → ℕ → Ask
+withPassed a t n = record { wanted = a .wanted; want = a .want; passed = set (a .passed) (t .0) n }
+
+unfoldable pub withStep : Run → Step → Run
+withStep r k = record { count = r .count + 1; steps = set (r .steps) (r .count) k }
+
+unfoldable pub withProgram : Case → Program → Case
+withProgram c p = record { program = p; ask = c .ask; run = c .run }
+
+unfoldable pub withAsk : Case → Ask → Case
+withAsk c a = record { program = c .program; ask = a; run = c .run }
+
+unfoldable pub withRun : Case → Run → Case
+withRun c r = record { program = c .program; ask = c .ask; run = r }
+
+unfoldable pub blankDraft : Draft
+blankDraft = record { case = emptyCase; kind = 0; next = 0 }
+
+unfoldable pub addOf : Draft → Record → Draft
+addOf d (Declare h) = record { case = withProgram (d .case) (withSizes (d .case .program) h); kind = 1; next = 0 }
+addOf d (First w) =
+    record { case = withProgram (d .case) (withFirst (d .case .program) w); kind = 2; next = w .location .0 + 1 }
+addOf d (Instruct t x) =
+    record { case = withProgram (d .case) (withInstruction (d .case .program) t x); kind = 3; next = t .0 }
+addOf d (Want w) = record { case = withAsk (d .case) (withWant (d .case .ask) w); kind = 4; next = w .location .0 + 1 }
+addOf d (Passed t n) = record { case = withAsk (d .case) (withPassed (d .case .ask) t n); kind = 5; next = t .0 + 1 }
+addOf d (Take k) = record { case = withRun (d .case) (withStep (d .case .run) k); kind = 6; next = 0 }

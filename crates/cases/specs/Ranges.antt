@@ -1,0 +1,33 @@
+-- Document 01, "Sizes" and "Records of a case": what a layer above may take for granted of every case that some byte string reads as.
+--   InstructionFits p x   the instruction's numbers are there, used or not
+--   Ranged c              every number of the case is in range
+-- Assumes nothing.
+use Prim.Native.Nat.{ℕ, _+_, _*_, _<_, _≤_}
+use mathlib.Core.Path.{_≡_}
+use mathlib.Core.Bool.{true, false}
+use lib.ListN.{getD}
+use Rattle.cases.specs.declared.case.Case.{Case}
+use Rattle.cases.specs.declared.case.Program.{Program}
+use Rattle.cases.specs.declared.case.Instruction.{Instruction}
+use Rattle.cases.specs.Sizes.{mostThreads, mostInstructions, mostLocations, mostRegisters, mostSteps}
+use Rattle.cases.specs.Checks.{stepFault}
+use Rattle.cases.specs.Draft.{noInstruction, noStep}
+
+pub record InstructionFits (p : Program) (x : Instruction) : Type 0 where
+  pub some-operation : 1 ≤ x .operation
+  pub low-operation : x .operation ≤ 8
+  pub low-location : x .location .0 < p .locations
+  pub low-register : x .register .0 < mostRegisters
+
+pub record Ranged (c : Case) : Type 0 where
+  pub some-threads : 1 ≤ c .program .threads
+  pub few-threads : c .program .threads ≤ mostThreads
+  pub some-locations : 1 ≤ c .program .locations
+  pub few-locations : c .program .locations ≤ mostLocations
+  pub few-instructions : (t : ℕ) → getD (c .program .counts) t 0 ≤ mostInstructions
+  pub instructions : (t i : ℕ) → i < getD (c .program .counts) t 0
+      → (t < c .program .threads) × InstructionFits (c .program) (getD (c .program .code) (t * mostInstructions + i) noInstruction)
+  pub wants : (l : ℕ) → getD (c .ask .wanted) l false ≡ true → l < c .program .locations
+  pub passed : (t : ℕ) → getD (c .ask .passed) t 0 ≤ getD (c .program .counts) t 0
+  pub few-steps : c .run .count ≤ mostSteps
+  pub steps : (k : ℕ) → k < c .run .count → stepFault (c .program) (getD (c .run .steps) k noStep) ≡ 0

@@ -1,0 +1,30 @@
+-- Document 01, "Sizes": the most of each thing. src/sizes.rt has the same numbers for the code.
+--   longest         the longest file, in bytes: every place of a file filled (Places)
+--   longestRecord   the longest record, head and payload
+-- Assumes nothing.
+use Prim.Native.Nat.{ℕ, _*_}
+
+abbrev pub mostThreads : ℕ
+mostThreads = 4
+
+abbrev pub mostInstructions : ℕ
+mostInstructions = 8
+
+abbrev pub mostLocations : ℕ
+mostLocations = 8
+
+abbrev pub mostRegisters : ℕ
+mostRegisters = 4
+
+abbrev pub mostSteps : ℕ
+mostSteps = 96
+
+-- all threads' instructions, one thread's behind the other's
+abbrev pub mostCode : ℕ
+mostCode = mostThreads * mostInstructions
+
+abbrev pub longest : ℕ
+longest = 1328
+
+abbrev pub longestRecord : ℕ
+longestRecord = 12

@@ -1,0 +1,293 @@
+// A record of a case: opened from bytes, and packed into bytes.
+use crate::bytes::byte_at;
+use crate::bytes::half_at;
+use crate::bytes::word_at;
+use crate::bytes::word_bytes;
+use crate::case::Instruction;
+use crate::case::Location;
+use crate::case::Register;
+use crate::case::Step;
+use crate::case::Thread;
+use crate::case::Write;
+ghost use mathlib.Core.Path.{_≡_};
+ghost use mathlib.Core.List.{[], _∷_};
+ghost use Prim.Native.Nat.{_+_, _≤_};
+ghost use lib.ListN.{length};
+ghost use lib.Seq.{sets};
+ghost use Rattle.cases.specs.declared.record.Record.the-variants.{Declare, First, Instruct, Want, Passed, Take};
+ghost use Rattle.cases.specs.Bytes.{wordBytes};
+ghost use Rattle.cases.specs.Record.{
+  payloadOf,
+  headerIn,
+  writeIn,
+  instructionIn,
+  stepIn,
+  recordOf,
+  openOf,
+  openedNo,
+  sizeOf,
+  recordBytes,
+  packedOf,
+};
+
+pub struct Header {
+    pub version: u16,
+    pub threads: u8,
+    pub locations: u8,
+}
+
+// A record of each kind, 1 to 6.
+pub enum Record {
+    Declare(Header),
+    First(Write),
+    Instruct(Thread, Instruction),
+    Want(Write),
+    Passed(Thread, u8),
+    Take(Step),
+}
+
+// How a record opens, or the number of what is wrong with its head or length.
+pub enum Opened {
+    Opens(Record),
+    Faulty(u8),
+}
+
+// A record's bytes, 0 behind them.
+pub struct Packed {
+    pub length: usize,
+    pub bytes: [u8; 12],
+}
+
+// How long the payload of a kind is; 0 where there is no such kind.
+fn payload(kind: u16) -> u16
+    ensures { λ r. ⌜ r ≡ payloadOf kind ⌝ }
+{
+    if kind == 1 {
+        return 4;
+    }
+    if kind == 2 {
+        return 5;
+    }
+    if kind == 3 {
+        return 8;
+    }
+    if kind == 4 {
+        return 5;
+    }
+    if kind == 5 {
+        return 2;
+    }
+    if kind == 6 {
+        return 4;
+    }
+    0
+}
+
+fn header_in(s: &[u8]) -> Header
+    ensures { λ r. ⌜ r ≡ headerIn (now (s .entry)) ⌝ }
+{
+    Header {
+        version: half_at(s, 4),
+        threads: byte_at(s, 6),
+        locations: byte_at(s, 7),
+    }
+}
+
+fn write_in(s: &[u8]) -> Write
+    ensures { λ r. ⌜ r ≡ writeIn (now (s .entry)) ⌝ }
+{
+    Write {
+        location: Location(byte_at(s, 4)),
+        word: word_at(s, 5),
+    }
+}
+
+fn instruction_in(s: &[u8]) -> Instruction
+    ensures { λ r. ⌜ r ≡ instructionIn (now (s .entry)) ⌝ }
+{
+    Instruction {
+        operation: byte_at(s, 5),
+        location: Location(byte_at(s, 6)),
+        register: Register(byte_at(s, 7)),
+        word: word_at(s, 8),
+    }
+}
+
+fn step_in(s: &[u8]) -> Step
+    ensures { λ r. ⌜ r ≡ stepIn (now (s .entry)) ⌝ }
+{
+    Step {
+        thread: Thread(byte_at(s, 4)),
+        code: byte_at(s, 5),
+        position: byte_at(s, 6),
+        location: Location(byte_at(s, 7)),
+    }
+}
+
+// The record of that kind whose bytes s starts with.
+fn decode(s: &[u8], kind: u16) -> Record
+    ensures { λ r. ⌜ r ≡ recordOf kind (now (s .entry)) ⌝ }
+{
+    if kind == 1 {
+        return Record::Declare(header_in(s));
+    }
+    if kind == 2 {
+        return Record::First(write_in(s));
+    }
+    if kind == 3 {
+        return Record::Instruct(Thread(byte_at(s, 4)), instruction_in(s));
+    }
+    if kind == 4 {
+        return Record::Want(write_in(s));
+    }
+    if kind == 5 {
+        return Record::Passed(Thread(byte_at(s, 4)), byte_at(s, 5));
+    }
+    Record::Take(step_in(s))
+}
+
+// How long the record is that s starts with.
+pub(crate) fn size(s: &[u8]) -> usize
+    ensures { λ r. ⌜ r ≡ sizeOf (now (s .entry)) ⌝ }
+{
+    4 + (half_at(s, 0) as usize)
+}
+
+// Opens the record that s starts with: 1 (head), 2, 3, 1 (payload).
+pub(crate) fn open_record(s: &[u8]) -> Opened
+    ensures { λ r. ⌜ r ≡ openOf (now (s .entry)) ⌝ }
+{
+    let n = s.len();
+    if n < 4 {
+        return Opened::Faulty(1);
+    }
+    let length = half_at(s, 0);
+    let kind = half_at(s, 2);
+    let right = payload(kind);
+    if right == 0 {
+        return Opened::Faulty(2);
+    }
+    if length != right {
+        return Opened::Faulty(3);
+    }
+    if n - 4 < (length as usize) {
+        return Opened::Faulty(1);
+    }
+    Opened::Opens(decode(s, kind))
+}
+
+// 0 where the record opens.
+pub(crate) fn opened_number(x: Opened) -> u8
+    ensures { λ r. ⌜ r ≡ openedNo x ⌝ }
+{
+    match x {
+        Opened::Opens(_) => 0,
+        Opened::Faulty(n) => n,
+    }
+}
+
+fn packed_header(h: Header) -> Packed
+    ensures { λ r. ⌜ r ≡ packedOf (recordBytes (Declare h)) ⌝ }
+{
+    let v = h.version;
+    let low = (v % 256) as u8;
+    let high = (v / 256 % 256) as u8;
+    Packed {
+        length: 8,
+        bytes: [4, 0, 1, 0, low, high, h.threads, h.locations, 0, 0, 0, 0],
+    }
+}
+
+// A location and a word, of kind 2 or 4.
+fn packed_write(kind: u8, w: Write) -> Packed
+    ensures { λ r. ⌜ r ≡ packedOf (5 ∷ 0 ∷ kind ∷ 0 ∷ w .location .0 ∷ wordBytes (w .word)) ⌝ }
+{
+    let b = word_bytes(w.word);
+    Packed {
+        length: 9,
+        bytes: [5, 0, kind, 0, w.location.0, b[0], b[1], b[2], b[3], 0, 0, 0],
+    }
+}
+
+fn packed_instruction(t: Thread, x: Instruction) -> Packed
+    ensures { λ r. ⌜ r ≡ packedOf (recordBytes (Instruct t x)) ⌝ }
+{
+    let b = word_bytes(x.word);
+    Packed {
+        length: 12,
+        bytes: [
+            8,
+            0,
+            3,
+            0,
+            t.0,
+            x.operation,
+            x.location.0,
+            x.register.0,
+            b[0],
+            b[1],
+            b[2],
+            b[3],
+        ],
+    }
+}
+
+fn packed_passed(t: Thread, n: u8) -> Packed
+    ensures { λ r. ⌜ r ≡ packedOf (recordBytes (Passed t n)) ⌝ }
+{
+    Packed {
+        length: 6,
+        bytes: [2, 0, 5, 0, t.0, n, 0, 0, 0, 0, 0, 0],
+    }
+}
+
+fn packed_step(k: Step) -> Packed
+    ensures { λ r. ⌜ r ≡ packedOf (recordBytes (Take k)) ⌝ }
+{
+    Packed {
+        length: 8,
+        bytes: [
+            4,
+            0,
+            6,
+            0,
+            k.thread.0,
+            k.code,
+            k.position,
+            k.location.0,
+            0,
+            0,
+            0,
+            0,
+        ],
+    }
+}
+
+fn packed_record(r: Record) -> Packed
+    ensures { λ z. ⌜ z ≡ packedOf (recordBytes r) ⌝ }
+{
+    match r {
+        Record::Declare(h) => packed_header(h),
+        Record::First(w) => packed_write(2, w),
+        Record::Instruct(t, x) => packed_instruction(t, x),
+        Record::Want(w) => packed_write(4, w),
+        Record::Passed(t, n) => packed_passed(t, n),
+        Record::Take(k) => packed_step(k),
+    }
+}
+
+// Puts the record's bytes from `at` on, and says where they end.
+pub(crate) fn put_record(out: &mut [u8], at: usize, r: Record) -> usize
+    requires { ⌜ at + length (recordBytes r) ≤ length (now out) ⌝ }
+    ensures { λ z. ⌜ (z ≡ at + length (recordBytes r)) × (now (out .exit) ≡ sets (now (out .entry)) at (recordBytes r)) ⌝ }
+{
+    let p = packed_record(r);
+    let n = p.length;
+    let bytes = p.bytes;
+    let mut i = 0;
+    while i < n {
+        out[at + i] = bytes[i];
+        i = i + 1;
+    }
+    at + n
+}
