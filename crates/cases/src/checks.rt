@@ -152,7 +152,7 @@ fn is_instruction_left(x: Instruction) -> bool
 }
 
 // How many instructions the thread has; none where there is no such thread.
-pub fn count(p: Program, t: Thread) -> u8
+pub(crate) fn count(p: Program, t: Thread) -> u8
     ensures { λ r. ⌜ r ≡ countOf p t ⌝ }
 {
     let counts = p.counts;

@@ -182,7 +182,7 @@ fn same_run(r: Run, s: Run) -> bool
     same_steps(x, y)
 }
 
-pub fn same_case(c: Case, d: Case) -> bool
+pub(crate) fn same_case(c: Case, d: Case) -> bool
     ensures { λ r. ⌜ r ≡ sameCase c d ⌝ }
 {
     let p = c.program;

@@ -11,8 +11,6 @@ use Rattle.cases.specs.Reading.{refusedOf, endedOf}
 use Rattle.cases.proofs.ReadLaws.{ReadSoFar, read-start, read-none, read-whole, read-faulty, read-fault, read-within, read-next}
 use Rattle.cases.proofs.reader.read.Statement.{statement}
 use Rattle.cases.proofs.reader.read.Tie as tie
-use Rattle.cases.proofs.reader.read.Reads as reads
-use Rattle.cases.proofs.reader.read.Lts as lts
 
 abbrev Inv-loop : tie.InvT-loop
 Inv-loop bytes draft₀ at₀ draft at = ReadSoFar bytes draft at

@@ -4,8 +4,6 @@ use native.Mathlib.Omega.{arith}
 use Rattle.cases.proofs.WriteLaws.{unread-within, unread-is}
 use Rattle.cases.proofs.reader.unread.Statement.{statement}
 use Rattle.cases.proofs.reader.unread.Tie as tie
-use Rattle.cases.proofs.reader.unread.Reads as reads
-use Rattle.cases.proofs.reader.unread.Lts as lts
 
 read-requires : tie.Need-read-requires
 read-requires c κs = search needs

@@ -3,11 +3,6 @@ use borrow.Author.Needs.{needs}
 use Rattle.cases.proofs.WriteLaws.{reads-none, reads-some}
 use Rattle.cases.proofs.writer.reads_as.Statement.{statement}
 use Rattle.cases.proofs.writer.reads_as.Tie as tie
-use Rattle.cases.proofs.writer.reads_as.Reads as reads
-use Rattle.cases.proofs.writer.reads_as.Lts as lts
-use Rattle.cases.proofs.reader.number.Reads as number-reads
-use Rattle.cases.proofs.reader.read.Reads as read-reads
-use Rattle.cases.proofs.same.same_case.Reads as same-case-reads
 
 read-requires : tie.Need-read-requires
 read-requires c κs = search needs

@@ -3,11 +3,6 @@ use borrow.Author.Needs.{needs}
 use Rattle.cases.proofs.WriteLaws.{file-room, file-within, file-count, file-reads}
 use Rattle.cases.proofs.writer.reads_back.Statement.{statement}
 use Rattle.cases.proofs.writer.reads_back.Tie as tie
-use Rattle.cases.proofs.writer.reads_back.Reads as reads
-use Rattle.cases.proofs.writer.reads_back.Lts as lts
-use Rattle.cases.proofs.places.encode.Reads as encode-reads
-use Rattle.cases.proofs.writer.blank_file.Reads as blank-file-reads
-use Rattle.cases.proofs.writer.reads_as.Reads as reads-as-reads
 
 blank-file-requires : tie.Need-blank-file-requires
 blank-file-requires c κs = search needs

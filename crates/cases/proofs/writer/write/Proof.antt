@@ -4,11 +4,6 @@ use Rattle.cases.proofs.ChoiceLaws.{told-true, told-false}
 use Rattle.cases.proofs.WriteLaws.{file-room, file-within, file-count, file-reads, write-unreadable, write-short, write-whole}
 use Rattle.cases.proofs.writer.write.Statement.{statement}
 use Rattle.cases.proofs.writer.write.Tie as tie
-use Rattle.cases.proofs.writer.write.Reads as reads
-use Rattle.cases.proofs.writer.write.Lts as lts
-use Rattle.cases.proofs.places.encode.Reads as encode-reads
-use Rattle.cases.proofs.writer.blank_file.Reads as blank-file-reads
-use Rattle.cases.proofs.writer.reads_as.Reads as reads-as-reads
 
 blank-file-requires : tie.Need-blank-file-requires
 blank-file-requires c κs = search needs

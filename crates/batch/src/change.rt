@@ -1,0 +1,139 @@
+// A case in memory with one of its fields changed, whatever that makes of it; second/README.md numbers the fields.
+use cases::case::Ask;
+use cases::case::Case;
+use cases::case::Location;
+use cases::case::Program;
+use cases::case::Register;
+use cases::case::Run;
+use cases::case::Thread;
+
+fn low(value: u32) -> u8 {
+    (value % 256) as u8
+}
+
+fn in_program(p: Program, field: usize, value: u32) -> Program {
+    let mut q = p;
+    if field == 1 {
+        q.threads = low(value);
+        return q;
+    }
+    if field == 2 {
+        q.locations = low(value);
+        return q;
+    }
+    if field < 3 {
+        return q;
+    }
+    if field < 11 {
+        q.first[field - 3] = value;
+        return q;
+    }
+    if field < 15 {
+        q.counts[field - 11] = low(value);
+    }
+    q
+}
+
+// One of an instruction's four fields; k is at most 127.
+fn in_code(p: Program, k: usize, value: u32) -> Program {
+    let mut q = p;
+    if 128 <= k {
+        return q;
+    }
+    let at = k / 4;
+    let mut x = q.code[at];
+    let part = k % 4;
+    if part == 0 {
+        x.operation = low(value);
+    }
+    if part == 1 {
+        let l = Location(low(value));
+        x.location = l;
+    }
+    if part == 2 {
+        let r = Register(low(value));
+        x.register = r;
+    }
+    if part == 3 {
+        x.word = value;
+    }
+    q.code[at] = x;
+    q
+}
+
+fn in_ask(a: Ask, field: usize, value: u32) -> Ask {
+    let mut b = a;
+    if field < 8 {
+        b.wanted[field] = value != 0;
+        return b;
+    }
+    if field < 16 {
+        b.want[field - 8] = value;
+        return b;
+    }
+    if field < 20 {
+        b.passed[field - 16] = low(value);
+    }
+    b
+}
+
+// The number of steps, then each step's four fields.
+fn in_run(r: Run, field: usize, value: u32) -> Run {
+    let mut s = r;
+    if field == 0 {
+        s.count = (value % 65536) as u16;
+        return s;
+    }
+    let k = field - 1;
+    if 384 <= k {
+        return s;
+    }
+    let at = k / 4;
+    let mut x = s.steps[at];
+    let part = k % 4;
+    if part == 0 {
+        let t = Thread(low(value));
+        x.thread = t;
+    }
+    if part == 1 {
+        x.code = low(value);
+    }
+    if part == 2 {
+        x.position = low(value);
+    }
+    if part == 3 {
+        let l = Location(low(value));
+        x.location = l;
+    }
+    s.steps[at] = x;
+    s
+}
+
+pub fn changed(c: Case, field: usize, value: u32) -> Case {
+    if field < 15 {
+        let p = c.program;
+        return Case {
+            program: in_program(p, field, value),
+            ..c
+        };
+    }
+    if field < 143 {
+        let p = c.program;
+        return Case {
+            program: in_code(p, field - 15, value),
+            ..c
+        };
+    }
+    if field < 163 {
+        let a = c.ask;
+        return Case {
+            ask: in_ask(a, field - 143, value),
+            ..c
+        };
+    }
+    let r = c.run;
+    Case {
+        run: in_run(r, field - 163, value),
+        ..c
+    }
+}

@@ -1,0 +1,54 @@
+//! The second judge's answer to a frame, and its line.
+
+use crate::case::Case;
+use crate::frame::{slot, Frame};
+use crate::reading::{read, Reading};
+use crate::writing::write;
+
+const UNTOUCHED: u8 = 0xA5;
+
+pub struct Answer {
+    pub reading: Reading,
+    pub unread: usize,
+    /// The case handed out, with the frame's field changed.
+    pub changed: Case,
+    pub number: u8,
+    pub length: usize,
+    pub lent: Vec<u8>,
+}
+
+pub fn answer(frame: &Frame) -> Answer {
+    let reading = read(&frame.input);
+    let mut changed = reading.case.clone();
+    if let Some(mut field) = slot(&mut changed, frame.field) {
+        field.set(frame.value);
+    }
+    let mut lent = vec![UNTOUCHED; frame.room as usize];
+    let (number, length) = write(&changed, &mut lent);
+    Answer {
+        unread: frame.input.len() - reading.offset,
+        reading,
+        changed,
+        number,
+        length,
+        lent,
+    }
+}
+
+impl Answer {
+    pub fn line(&self) -> String {
+        let read = &self.reading;
+        let mut line = format!("{} {} {} ", read.number, read.offset, self.unread);
+        line += &format!("{} {} ", self.number, self.length);
+        if self.lent.is_empty() {
+            line.push('-');
+        }
+        for byte in &self.lent {
+            for digit in [byte >> 4, byte & 15] {
+                line.push(char::from(b"0123456789abcdef"[usize::from(digit)]));
+            }
+        }
+        line.push('\n');
+        line
+    }
+}

@@ -1,0 +1,180 @@
+//! What a stream of frames holds, and whether that is enough.
+
+use crate::answer::{answer, Answer};
+use crate::frame::{Frame, FIELDS_END};
+use crate::marks::{mark_of, FAMILIES};
+
+/// A sort of frames: its name, the least number of them, and how one is told.
+struct Sort {
+    name: &'static str,
+    least: u64,
+    is: fn(&Frame, &Answer) -> bool,
+}
+
+const fn sort(name: &'static str, least: u64, is: fn(&Frame, &Answer) -> bool) -> Sort {
+    Sort { name, least, is }
+}
+
+/// Accepted and written again as it was read.
+fn rewritten(frame: &Frame, answer: &Answer) -> bool {
+    answer.reading.number == 0 && !changes(frame)
+}
+
+fn changes(frame: &Frame) -> bool {
+    (1..FIELDS_END).contains(&frame.field)
+}
+
+fn length_in(frame: &Frame, answer: &Answer, least: usize, most: usize) -> bool {
+    rewritten(frame, answer) && (least..=most).contains(&frame.input.len())
+}
+
+const SORTS: [Sort; 24] = [
+    sort("written: 0", 500, |_, a| a.number == 0),
+    sort("written: 31", 500, |_, a| a.number == 31),
+    sort("written: 32", 500, |_, a| a.number == 32),
+    sort("field changed: 32", 500, |f, a| {
+        changes(f) && a.number == 32
+    }),
+    sort("field changed: readable", 500, |f, a| {
+        changes(f) && a.changed != a.reading.case && a.number != 32
+    }),
+    sort("field set to what it holds", 500, |f, a| {
+        changes(f) && a.changed == a.reading.case
+    }),
+    sort("field of the empty case changed", 100, |f, a| {
+        changes(f) && a.reading.number != 0
+    }),
+    sort("field beyond all fields", 500, |f, _| f.field >= FIELDS_END),
+    sort("wanted set, word 0, readable", 20, |f, a| {
+        (143..151).contains(&f.field) && f.value != 0 && a.changed != a.reading.case && {
+            a.number == 0 && a.changed.want[f.field as usize - 143] == 0
+        }
+    }),
+    sort("want word where not wanted", 20, |f, a| {
+        (151..159).contains(&f.field) && !a.changed.wanted[f.field as usize - 151] && f.value != 0
+    }),
+    sort("accepted, 8 bytes", 5, |f, a| length_in(f, a, 8, 8)),
+    sort("accepted, 9 to 99 bytes", 100, |f, a| {
+        length_in(f, a, 9, 99)
+    }),
+    sort("accepted, 100 to 499 bytes", 100, |f, a| {
+        length_in(f, a, 100, 499)
+    }),
+    sort("accepted, 500 to 1,327 bytes", 100, |f, a| {
+        length_in(f, a, 500, 1327)
+    }),
+    sort("accepted, 1,328 bytes", 5, |f, a| {
+        length_in(f, a, 1328, 1328)
+    }),
+    sort("room just enough", 100, |f, a| {
+        rewritten(f, a) && f.room as usize == f.input.len()
+    }),
+    sort("room more than enough", 100, |f, a| {
+        rewritten(f, a) && f.room as usize > f.input.len()
+    }),
+    sort("room one byte short", 100, |f, a| {
+        rewritten(f, a) && f.room as usize + 1 == f.input.len()
+    }),
+    sort("room 0", 100, |f, _| f.room == 0),
+    sort("room 2,048", 20, |f, _| f.room == 2048),
+    sort("input empty", 5, |f, _| f.input.is_empty()),
+    sort("input above 1,340 bytes", 100, |f, _| f.input.len() > 1340),
+    sort("input of 65,536 bytes", 12, |f, _| f.input.len() == 65536),
+    sort("faulty head at 1,328", 100, |_, a| {
+        a.reading.number != 0 && a.reading.offset == 1328
+    }),
+];
+
+/// Files are cut at every length up to the longest file's.
+const LENGTHS: usize = 1329;
+
+pub struct Counts {
+    frames: u64,
+    read: [u64; 10],
+    sorts: [u64; SORTS.len()],
+    families: [u64; FAMILIES.len()],
+    lengths: [bool; LENGTHS],
+    faults: Vec<String>,
+}
+
+impl Counts {
+    pub fn new() -> Counts {
+        Counts {
+            frames: 0,
+            read: [0; 10],
+            sorts: [0; SORTS.len()],
+            families: [0; FAMILIES.len()],
+            lengths: [false; LENGTHS],
+            faults: Vec::new(),
+        }
+    }
+
+    pub fn take(&mut self, frame: &Frame) {
+        let answer = answer(frame);
+        self.frames += 1;
+        self.read[usize::from(answer.reading.number)] += 1;
+        for (sort, count) in SORTS.iter().zip(&mut self.sorts) {
+            *count += u64::from((sort.is)(frame, &answer));
+        }
+        if let Some(seen) = self.lengths.get_mut(frame.input.len()) {
+            *seen = true;
+        }
+        self.check(frame, &answer);
+    }
+
+    /// A marked frame has one right answer; a case as it was read always fits.
+    fn check(&mut self, frame: &Frame, answer: &Answer) {
+        let place = self.frames;
+        if !changes(frame) && answer.number == 32 {
+            self.faults
+                .push(format!("frame {place}: 32 for a case as read"));
+        }
+        if let Some(mark) = mark_of(frame) {
+            self.families[mark.family] += 1;
+            let got = (answer.reading.number, answer.reading.offset);
+            if got != (mark.number, mark.offset) {
+                let name = FAMILIES[mark.family].name;
+                let right = (mark.number, mark.offset);
+                let fault = format!("frame {place}, {name}: {got:?} instead of {right:?}");
+                self.faults.push(fault);
+            }
+        }
+    }
+
+    /// Every count with its name and its minimum.
+    fn rows(&self) -> Vec<(String, u64, u64)> {
+        let mut rows = Vec::new();
+        for (number, &count) in self.read.iter().enumerate() {
+            rows.push((format!("read: {number}"), count, 500));
+        }
+        for (sort, &count) in SORTS.iter().zip(&self.sorts) {
+            rows.push((sort.name.to_string(), count, sort.least));
+        }
+        for (family, &count) in FAMILIES.iter().zip(&self.families) {
+            rows.push((family.name.to_string(), count, family.least));
+        }
+        let seen = self.lengths.iter().filter(|&&seen| seen).count() as u64;
+        let name = "input lengths 0 to 1,328 seen".to_string();
+        rows.push((name, seen, LENGTHS as u64));
+        rows
+    }
+
+    pub fn table(&self) -> String {
+        let mut table = format!("{:<34} {:>8} {:>8}\n", "frames", "count", "least");
+        for (name, count, least) in self.rows() {
+            table += &format!("{name:<34} {count:>8} {least:>8}\n");
+        }
+        table + &format!("{:<34} {:>8}\n", "all frames", self.frames)
+    }
+
+    /// Wrong answers and minima not met.
+    pub fn faults(&self) -> Vec<String> {
+        let mut faults = self.faults.clone();
+        for (name, count, least) in self.rows() {
+            if count < least {
+                faults.push(format!("{name}: {count} frames, at least {least} wanted"));
+            }
+        }
+        faults
+    }
+}

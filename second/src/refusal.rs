@@ -1,0 +1,22 @@
+//! Refusal numbers of document 01 and the one way to raise them.
+
+pub const CUT: u8 = 1;
+pub const UNKNOWN_KIND: u8 = 2;
+pub const WRONG_LENGTH: u8 = 3;
+pub const KIND_OUT_OF_PLACE: u8 = 4;
+pub const OUT_OF_RANGE: u8 = 5;
+pub const ORDER_BROKEN: u8 = 6;
+pub const NINTH_INSTRUCTION: u8 = 7;
+pub const UNUSED_NOT_ZERO: u8 = 8;
+pub const NINETY_SEVENTH_STEP: u8 = 9;
+pub const BUFFER_TOO_SHORT: u8 = 31;
+pub const READS_FROM_NO_BYTES: u8 = 32;
+
+/// A check: the number when the condition does not hold.
+pub fn require(holds: bool, number: u8) -> Result<(), u8> {
+    if holds {
+        Ok(())
+    } else {
+        Err(number)
+    }
+}
