@@ -1,4 +1,5 @@
-// A case in memory with one of its fields changed, whatever that makes of it; second/README.md numbers the fields.
+// A case in memory with one of its fields changed, whatever that makes of it; second/README.md numbers the
+// fields.
 use cases::case::Ask;
 use cases::case::Case;
 use cases::case::Location;

@@ -1,16 +1,14 @@
-// Answers a stream of frames from standard input, a line each: how the frame's bytes read, and how the case that comes of them is
-// written. second/README.md has the frames and the lines; the second judge answers the same stream.
-use cases::case::Case;
+// Answers a stream of frames from standard input, a line each: how the frame's bytes read, and how the case
+// that comes of them is written. second/README.md has the frames and the lines; the second judge answers the
+// same stream.
 use cases::reader;
 use cases::writer;
-use cases::writer::Wrote;
 use libc::STDIN_FILENO;
 use libc::STDOUT_FILENO;
 
 mod change;
 
-ghost use Prim.Native.Nat.{_+_, _*_, _≤_, _<_};
-ghost use lib.ListN.{length};
+ghost use Prim.Native.Nat.{_+_, _≤_, _<_};
 
 // More frames than a comparison has; a stream ends with its input.
 const FRAMES: u32 = 100000000;
@@ -83,7 +81,8 @@ fn answer(bytes: &[u8], field: usize, value: u32, room: usize)
     io::write_all(STDOUT_FILENO, b"\n");
 }
 
-// Answers for the first n bytes of a buffer. By value: what filled it is forgotten here, and that it is as long as its type is not.
+// Answers for the first n bytes of a buffer. By value: what filled it is forgotten here, and that it is as long
+// as its type is not.
 fn answer_first(input: [u8; INPUT], n: usize, field: usize, value: u32, room: usize)
     requires { ⌜ (n ≤ 65536) × (room ≤ 2048) ⌝ }
 {

@@ -1,12 +1,11 @@
 -- Each kind of record behind a sound draft: where it stands, and that the draft stays sound. Assumes nothing.
-use Prim.Native.Nat.{ℕ, suc, _+_, _*_, _<_, _≤_}
-use mathlib.Core.Path.{_≡_, refl, sym, ap, _∙_}
-use mathlib.Core.Logic.{_≢_, _⊎_, inl, inr}
-use mathlib.Core.Bool.{Bool, true, false}
-use lib.ListN.{length, getD, set, length-set}
-use lib.Seq.{getD-set-same, getD-set-other}
+use Prim.Native.Nat.{ℕ, _+_, _*_, _<_, _≤_}
+use mathlib.Core.Path.{_≡_, refl, _∙_}
+use mathlib.Core.Logic.{_≢_}
+use mathlib.Core.Bool.{false}
+use lib.ListN.{length, length-set}
 use lib.Dec.{eqb, leb, ltb}
-use borrow.Author.Tests.{ltb-true, ltb-false, eqb-true, eqb-false, eq-eqb, ne-eqb}
+use borrow.Author.Tests.{ltb-false, eqb-false, eq-eqb, ne-eqb}
 use native.Mathlib.Omega.{arith}
 use Rattle.cases.specs.declared.case.Program.{Program}
 use Rattle.cases.specs.declared.case.Write.{Write}
@@ -19,13 +18,21 @@ use Rattle.cases.specs.declared.record.Record.{Record}
 use Rattle.cases.specs.declared.record.Record.the-variants.{Declare, First, Instruct, Want, Passed, Take}
 use Rattle.cases.specs.Sizes.{mostInstructions}
 use Rattle.cases.specs.Choice.{pick, both, refuse}
-use Rattle.cases.specs.Checks.{misplaced, disordered, instructionOut, instructionLeft, countOf, passedOut, stepOut, stepLeft, faultOf}
-use Rattle.cases.specs.Draft.{addOf, withProgram, withAsk, withRun, withFirst, withInstruction, withWant, withPassed, withStep}
-use Rattle.cases.specs.Places.{fromFirsts, fromCode, fromWants, fromPassed, fromSteps, headerPlace, firstPlace, instructionPlace, wantPlace, passedPlace}
+use Rattle.cases.specs.Checks.{misplaced, disordered, countOf, faultOf}
+use Rattle.cases.specs.Checks.{instructionOut, instructionLeft, passedOut, stepOut, stepLeft}
+use Rattle.cases.specs.Draft.{addOf, withProgram, withAsk, withRun}
+use Rattle.cases.specs.Draft.{withFirst, withInstruction, withWant, withPassed, withStep}
+use Rattle.cases.specs.Places.{fromFirsts, fromCode, fromWants, fromPassed, fromSteps}
+use Rattle.cases.specs.Places.{headerPlace, firstPlace, instructionPlace, wantPlace, passedPlace}
 use Rattle.cases.proofs.ChoiceLaws.{either-false, refuse-none}
-use Rattle.cases.proofs.PlaceLaws.{place-first, place-code, place-want, place-passed, place-step, place-same, first-same, first-other, instruction-same, instruction-other, want-same, want-other, passed-same, passed-other, step-same, step-other}
+use Rattle.cases.proofs.PlaceLaws.{place-first, place-code, place-want, place-passed, place-step}
+use Rattle.cases.proofs.PlaceLaws.{first-same, first-other, instruction-same, instruction-other}
+use Rattle.cases.proofs.PlaceLaws.{want-same, want-other, passed-same, passed-other}
+use Rattle.cases.proofs.PlaceLaws.{step-same, step-other, place-same}
+use Rattle.cases.proofs.CountLaws.{count-more, count-few, count-front}
 use Rattle.cases.proofs.FitLaws.{RecordFits, Grown}
-use Rattle.cases.proofs.DraftLaws.{first-placed, instruction-placed, want-placed, passed-placed, step-placed}
+use Rattle.cases.proofs.DraftLaws.{first-placed, instruction-placed, want-placed}
+use Rattle.cases.proofs.DraftLaws.{passed-placed, step-placed}
 use Rattle.cases.proofs.SoundLaws.{ProgramSized, Sound, Added, added}
 
 -- a record behind the first that is not misplaced: kinds don't go down, and it is not of kind 1
@@ -40,60 +47,11 @@ ordered : (d : Draft) (kind n : ℕ) → disordered d kind n ≡ false → d .ki
 unfolding disordered both
 ordered d kind n h e = ltb-false n (d .next) (rw (eq-eqb (d .kind) kind e) at h)
 
+-- a program that a record leaves as it is
 kept : (p : Program) → Grown p p
 kept p = record { same-threads = refl; same-locations = refl; more = λ t. omega arith }
 
-below-of : (a b : ℕ) → a ≤ b → a ≢ b → a < b
-below-of a b h n = go (ltb a b) refl
-  where
-    go : (t : Bool) → ltb a b ≡ t → a < b
-    go true e = ltb-true a b e
-    go false e = absurd (n (omega (arith, ltb-false a b e)))
-
--- Counts with one more for a thread
-module _ (p : Program) (t : Thread) (low : t .0 < length (p .counts)) where
-  abbrev counted : ℕ → ℕ
-  counted u = getD (set (p .counts) (t .0) (countOf p t + 1)) u 0
-
-  count-cases : (u : ℕ) → ((u ≡ t .0) × (counted u ≡ countOf p t + 1)) ⊎ ((u ≢ t .0) × (counted u ≡ getD (p .counts) u 0))
-  count-cases u = go (eqb u (t .0)) refl
-    where
-      go : (b : Bool) → eqb u (t .0) ≡ b
-          → ((u ≡ t .0) × (counted u ≡ countOf p t + 1)) ⊎ ((u ≢ t .0) × (counted u ≡ getD (p .counts) u 0))
-      go true e =
-          let q = eqb-true u (t .0) e in
-          inl (q, rw q (getD-set-same (p .counts) (t .0) (countOf p t + 1) 0 low))
-      go false e =
-          let q = eqb-false u (t .0) e in
-          inr (q, getD-set-other (p .counts) (t .0) u (countOf p t + 1) 0 q)
-
-  count-more : (u : ℕ) → getD (p .counts) u 0 ≤ counted u
-  count-more u = go (count-cases u)
-    where
-      go : ((u ≡ t .0) × (counted u ≡ countOf p t + 1)) ⊎ ((u ≢ t .0) × (counted u ≡ getD (p .counts) u 0))
-          → getD (p .counts) u 0 ≤ counted u
-      go (inl e) = omega (arith, ap (λ (n : ℕ). getD (p .counts) n 0) (e .0))
-      go (inr e) = omega arith
-
-  count-few : countOf p t < mostInstructions → ((u : ℕ) → getD (p .counts) u 0 ≤ mostInstructions) → (u : ℕ) → counted u ≤ mostInstructions
-  count-few few all u = go (count-cases u)
-    where
-      go : ((u ≡ t .0) × (counted u ≡ countOf p t + 1)) ⊎ ((u ≢ t .0) × (counted u ≡ getD (p .counts) u 0))
-          → counted u ≤ mostInstructions
-      go (inl e) = omega arith
-      go (inr e) = omega (arith, all u)
-
-  count-front : countOf p t < mostInstructions → (u : ℕ) → t .0 ≤ u
-      → suc (fromCode + (t .0 * mostInstructions + countOf p t)) ≤ fromCode + (u * mostInstructions + counted u)
-  count-front few u h = go (count-cases u)
-    where
-      go : ((u ≡ t .0) × (counted u ≡ countOf p t + 1)) ⊎ ((u ≢ t .0) × (counted u ≡ getD (p .counts) u 0))
-          → suc (fromCode + (t .0 * mostInstructions + countOf p t)) ≤ fromCode + (u * mostInstructions + counted u)
-      go (inl e) = omega arith
-      go (inr e) =
-          let below : t .0 < u = below-of (t .0) u h (λ z. e .0 (sym z)) in
-          omega arith
-
+-- A faultless record behind a sound draft: for each kind, that it is added as `Added` says
 module _ (d : Draft) (front : ℕ) (s : Sound d front) where
   abbrev program : Program
   program = d .case .program
@@ -106,23 +64,26 @@ module _ (d : Draft) (front : ℕ) (s : Sound d front) where
     in-turn : d .kind ≤ kind
     in-turn = placed-kind (d .kind) kind (s .fronts .begun) (refuse-none _ 3 _ h .0) .0
 
+  -- the first content of a location
   pub add-first : (w : Write) → faultOf d (First w) ≡ 0 → Added d (First w)
   unfolding faultOf addOf withProgram withFirst headerPlace instructionPlace RecordFits
   add-first w h =
-      let b = refuse-none (leb (program .locations) (w .location .0)) 4 _ (refuse-none _ 3 _ h .1) in
-      let e = refuse-none (eqb (w .word) 0) 7 _ (b .1) in
-      let f = refuse-none (disordered d 2 (w .location .0)) 5 _ (e .1) in
+      let in-range = refuse-none (leb (program .locations) (w .location .0)) 4 _ (refuse-none _ 3 _ h .1) in
+      let clean = refuse-none (eqb (w .word) 0) 7 _ (in-range .1) in
+      let in-order = refuse-none (disordered d 2 (w .location .0)) 5 _ (clean .1) in
       let low = first-placed d (sized .few-threads) (sized .few-locations) w h in
       added d front s (First w) (fromFirsts + w .location .0)
       (record {
-        reached = s .fronts .to-firsts (in-turn 2 _ h) (w .location .0) (ordered d 2 _ (f .0));
+        reached = s .fronts .to-firsts (in-turn 2 _ h) (w .location .0) (ordered d 2 _ (in-order .0));
         inside = omega arith;
-        here = place-first _ _ (w .location .0) refl low ∙ first-same program w (omega (arith, sized .first-long)) (e .0);
+        here =
+            place-first _ _ (w .location .0) refl low
+            ∙ first-same program w (omega (arith, sized .first-long)) (clean .0);
         other = λ j n. place-same (addOf d (First w) .case) (d .case) j (λ z. refl)
             (λ l z. first-other program w l (λ q. n (omega arith)))
             (λ m z. refl) (λ l z. refl) (λ t z. refl) (λ i z. refl);
         grown = record { same-threads = refl; same-locations = refl; more = λ t. omega arith };
-        fit = b .0;
+        fit = in-range .0;
         sized = record {
           of-program = record {
             first-long = simp length-set (sized .first-long);
@@ -147,18 +108,19 @@ module _ (d : Draft) (front : ℕ) (s : Sound d front) where
         };
       })
 
+  -- an instruction, behind its thread's
   pub add-instruction : (t : Thread) (x : Instruction) → faultOf d (Instruct t x) ≡ 0 → Added d (Instruct t x)
   unfolding faultOf addOf withProgram withInstruction headerPlace firstPlace RecordFits
   add-instruction t x h =
-      let b = refuse-none (instructionOut program t x) 4 _ (refuse-none _ 3 _ h .1) in
-      let e = refuse-none (instructionLeft x) 7 _ (b .1) in
-      let f = refuse-none (disordered d 3 (t .0)) 5 _ (e .1) in
+      let in-range = refuse-none (instructionOut program t x) 4 _ (refuse-none _ 3 _ h .1) in
+      let clean = refuse-none (instructionLeft x) 7 _ (in-range .1) in
+      let in-order = refuse-none (disordered d 3 (t .0)) 5 _ (clean .1) in
       let placed = instruction-placed d (sized .few-threads) (sized .few-locations) t x h in
       let low : t .0 < length (program .counts) = omega (arith, placed .0, sized .counts-long) in
       let few : countOf program t < mostInstructions = placed .1 in
       added d front s (Instruct t x) (fromCode + (t .0 * mostInstructions + countOf program t))
       (record {
-        reached = s .fronts .to-code (in-turn 3 _ h) (t .0) (ordered d 3 _ (f .0));
+        reached = s .fronts .to-code (in-turn 3 _ h) (t .0) (ordered d 3 _ (in-order .0));
         inside = omega (arith, placed .0);
         here =
             place-code _ _ (t .0 * mostInstructions + countOf program t) refl (omega (arith, placed .0))
@@ -167,7 +129,7 @@ module _ (d : Draft) (front : ℕ) (s : Sound d front) where
             (λ m z. instruction-other program t x m low (λ q. n (omega arith)))
             (λ l z. refl) (λ u z. refl) (λ i z. refl);
         grown = record { same-threads = refl; same-locations = refl; more = count-more program t low };
-        fit = (b .0, e .0);
+        fit = (in-range .0, clean .0);
         sized = record {
           of-program = record {
             first-long = sized .first-long;
@@ -192,16 +154,17 @@ module _ (d : Draft) (front : ℕ) (s : Sound d front) where
         };
       })
 
+  -- the want of a location
   pub add-want : (w : Write) → faultOf d (Want w) ≡ 0 → Added d (Want w)
   unfolding faultOf addOf withAsk withWant passedPlace RecordFits
   add-want w h =
-      let b = refuse-none (leb (program .locations) (w .location .0)) 4 _ (refuse-none _ 3 _ h .1) in
-      let f = refuse-none (disordered d 4 (w .location .0)) 5 _ (b .1) in
+      let in-range = refuse-none (leb (program .locations) (w .location .0)) 4 _ (refuse-none _ 3 _ h .1) in
+      let in-order = refuse-none (disordered d 4 (w .location .0)) 5 _ (in-range .1) in
       let ask = s .sized .of-ask in
       let low = want-placed d (sized .few-threads) (sized .few-locations) w h in
       added d front s (Want w) (fromWants + w .location .0)
       (record {
-        reached = s .fronts .to-wants (in-turn 4 _ h) (w .location .0) (ordered d 4 _ (f .0));
+        reached = s .fronts .to-wants (in-turn 4 _ h) (w .location .0) (ordered d 4 _ (in-order .0));
         inside = omega arith;
         here =
             place-want _ _ (w .location .0) refl low
@@ -209,7 +172,7 @@ module _ (d : Draft) (front : ℕ) (s : Sound d front) where
         other = λ j n. place-same (addOf d (Want w) .case) (d .case) j (λ z. refl) (λ l z. refl) (λ m z. refl)
             (λ l z. want-other (d .case .ask) w l (λ q. n (omega arith))) (λ t z. refl) (λ i z. refl);
         grown = kept program;
-        fit = b .0;
+        fit = in-range .0;
         sized = record {
           of-program = sized;
           of-ask = record {
@@ -229,24 +192,27 @@ module _ (d : Draft) (front : ℕ) (s : Sound d front) where
         };
       })
 
+  -- the passed count of a thread
   pub add-passed : (t : Thread) (n : ℕ) → faultOf d (Passed t n) ≡ 0 → Added d (Passed t n)
   unfolding faultOf addOf withAsk withPassed wantPlace RecordFits
   add-passed t n h =
-      let b = refuse-none (passedOut program t n) 4 _ (refuse-none _ 3 _ h .1) in
-      let e = refuse-none (eqb n 0) 7 _ (b .1) in
-      let f = refuse-none (disordered d 5 (t .0)) 5 _ (e .1) in
+      let in-range = refuse-none (passedOut program t n) 4 _ (refuse-none _ 3 _ h .1) in
+      let clean = refuse-none (eqb n 0) 7 _ (in-range .1) in
+      let in-order = refuse-none (disordered d 5 (t .0)) 5 _ (clean .1) in
       let ask = s .sized .of-ask in
       let low = passed-placed d (sized .few-threads) (sized .few-locations) t n h in
       added d front s (Passed t n) (fromPassed + t .0)
       (record {
-        reached = s .fronts .to-passed (in-turn 5 _ h) (t .0) (ordered d 5 _ (f .0));
+        reached = s .fronts .to-passed (in-turn 5 _ h) (t .0) (ordered d 5 _ (in-order .0));
         inside = omega arith;
         here =
-            place-passed _ _ (t .0) refl low ∙ passed-same (d .case .ask) t n (omega (arith, ask .passed-long)) (e .0);
-        other = λ j m. place-same (addOf d (Passed t n) .case) (d .case) j (λ z. refl) (λ l z. refl) (λ i z. refl)
-            (λ l z. refl) (λ u z. passed-other (d .case .ask) t n u (λ q. m (omega arith))) (λ i z. refl);
+            place-passed _ _ (t .0) refl low
+            ∙ passed-same (d .case .ask) t n (omega (arith, ask .passed-long)) (clean .0);
+        other = λ j m. place-same (addOf d (Passed t n) .case) (d .case) j (λ z. refl) (λ l z. refl)
+            (λ i z. refl) (λ l z. refl)
+            (λ u z. passed-other (d .case .ask) t n u (λ q. m (omega arith))) (λ i z. refl);
         grown = kept program;
-        fit = b .0;
+        fit = in-range .0;
         sized = record {
           of-program = sized;
           of-ask = record {
@@ -266,22 +232,25 @@ module _ (d : Draft) (front : ℕ) (s : Sound d front) where
         };
       })
 
+  -- a step, behind the others
   pub add-step : (k : Step) → faultOf d (Take k) ≡ 0 → Added d (Take k)
   unfolding faultOf addOf withRun withStep RecordFits
   add-step k h =
-      let b = refuse-none (stepOut program k) 4 _ (refuse-none _ 3 _ h .1) in
-      let e = refuse-none (stepLeft k) 7 _ (b .1) in
+      let in-range = refuse-none (stepOut program k) 4 _ (refuse-none _ 3 _ h .1) in
+      let clean = refuse-none (stepLeft k) 7 _ (in-range .1) in
       let run = s .sized .of-run in
       let low = step-placed d k h in
       added d front s (Take k) (fromSteps + d .case .run .count)
       (record {
         reached = s .fronts .to-steps;
         inside = omega arith;
-        here = place-step _ _ (d .case .run .count) refl ∙ step-same (d .case .run) k (omega (arith, run .steps-long));
+        here =
+            place-step _ _ (d .case .run .count) refl
+            ∙ step-same (d .case .run) k (omega (arith, run .steps-long));
         other = λ j n. place-same (addOf d (Take k) .case) (d .case) j (λ z. refl) (λ l z. refl) (λ m z. refl)
             (λ l z. refl) (λ t z. refl) (λ i z. step-other (d .case .run) k i (λ q. n (omega arith)));
         grown = kept program;
-        fit = (b .0, e .0);
+        fit = (in-range .0, clean .0);
         sized = record {
           of-program = sized;
           of-ask = s .sized .of-ask;
@@ -304,6 +273,7 @@ module _ (d : Draft) (front : ℕ) (s : Sound d front) where
       let a = refuse-none (misplaced (d .kind) 1) 3 _ f in
       placed-kind (d .kind) 1 (s .fronts .begun) (a .0) .1 refl
 
+  -- a record of any kind
   pub add-record : (r : Record) → faultOf d r ≡ 0 → Added d r
   add-record (Declare h) f = absurd (declared-once h f)
   add-record (First w) f = add-first w f

@@ -18,7 +18,9 @@ use Rattle.cases.specs.Choice.{pick, refuse}
 use Rattle.cases.specs.Record.{recordBytes}
 use Rattle.cases.specs.Checks.{misplaced, headerOut, faultOf}
 use Rattle.cases.specs.Draft.{emptyCase, blankDraft, addOf, withProgram, withSizes}
-use Rattle.cases.specs.Places.{places, headerPlace, firstPlace, instructionPlace, wantPlace, passedPlace, stepPlace, placeOf, placeBytes, bytesAt, encodeOf}
+use Rattle.cases.specs.Places.{headerPlace, firstPlace, instructionPlace}
+use Rattle.cases.specs.Places.{wantPlace, passedPlace, stepPlace}
+use Rattle.cases.specs.Places.{places, placeOf, placeBytes, bytesAt, encodeOf}
 use Rattle.cases.proofs.ChoiceLaws.{either-false, refuse-none}
 use Rattle.cases.proofs.EachLaws.{each-more, each-none}
 use Rattle.cases.proofs.PlaceLaws.{place-cases, place-header}
@@ -26,7 +28,8 @@ use Rattle.cases.proofs.FitLaws.{RecordFits, PlaceFits, outside-low}
 use Rattle.cases.proofs.SoundLaws.{Sound}
 
 -- the first record is the program
-pub blank-first : (r : Record) → faultOf blankDraft r ≡ 0 → (h : Header) × (r ≡ Declare h) × (headerOut h ≡ false)
+pub blank-first : (r : Record) → faultOf blankDraft r ≡ 0
+    → (h : Header) × (r ≡ Declare h) × (headerOut h ≡ false)
 unfolding faultOf blankDraft misplaced refuse pick
 blank-first (Declare h) f = (h, refl, refuse-none (headerOut h) 4 0 f .0)
 blank-first (First w) f = absurd (omega arith)
@@ -35,6 +38,7 @@ blank-first (Want w) f = absurd (omega arith)
 blank-first (Passed t n) f = absurd (omega arith)
 blank-first (Take k) f = absurd (omega arith)
 
+-- a list of blanks has a blank at every index
 nothing : {A : Type 0} (n j : ℕ) (d : A) → getD (replicate n d) j d ≡ d
 nothing zero zero d = refl
 nothing zero (suc j) d = refl
@@ -46,6 +50,7 @@ module _ (h : Header) (fit : headerOut h ≡ false) where
   abbrev begun : Draft
   begun = addOf blankDraft (Declare h)
 
+  -- the program's record stands at its place, every other place is empty, and what stands there is in range
   begun-here : placeOf (begun .case) 0 ≡ Holds (Declare h)
   unfolding addOf withProgram withSizes headerPlace headerOut
   begun-here =
@@ -53,7 +58,8 @@ module _ (h : Header) (fit : headerOut h ≡ false) where
       place-header (begun .case) 0 refl ∙ rw (← v)
 
   begun-blank : (j : ℕ) → 1 ≤ j → placeOf (begun .case) j ≡ Empty
-  unfolding addOf withProgram withSizes blankDraft emptyCase firstPlace instructionPlace wantPlace passedPlace stepPlace pick
+  unfolding addOf withProgram withSizes blankDraft emptyCase
+      firstPlace instructionPlace wantPlace passedPlace stepPlace pick
   begun-blank j low =
       place-cases (λ (x : Place). x ≡ Empty) (begun .case) j
       (λ e. absurd (omega arith))
@@ -68,6 +74,7 @@ module _ (h : Header) (fit : headerOut h ≡ false) where
   begun-fits zero = rw begun-here fit
   begun-fits (suc j) = rw (begun-blank (suc j) (omega arith)) tt
 
+  -- the file is the program's record
   pub begun-longer : encodeOf (begun .case) ≡ recordBytes (Declare h)
   unfolding encodeOf bytesAt placeBytes
   begun-longer =
@@ -75,6 +82,7 @@ module _ (h : Header) (fit : headerOut h ≡ false) where
       (λ k n. ap placeBytes (begun-blank k (omega arith))) (λ k n. refl)
       ∙ rw (each-none places (λ (k : ℕ). []) (λ k. refl), begun-here)
 
+  -- the draft is sound, and the next record comes behind place 0
   pub begun-sound : Sound begun 1
   unfolding addOf withProgram withSizes blankDraft emptyCase headerOut
   begun-sound =

@@ -9,6 +9,7 @@ use borrow.Author.Tests.{lt-ltb, le-ltb, le-leb, lt-leb, eq-eqb, ne-eqb, not-tru
 use native.Mathlib.Omega.{arith}
 use Rattle.cases.specs.Choice.{pick, both, either, refuse}
 
+-- pick: the test is true; it is false
 pub pick-true {ℓ} : {A : Type ℓ} (t : Bool) (x y : A) → t ≡ true → pick t x y ≡ x
 unfolding pick
 pick-true t x y h = rw h
@@ -17,6 +18,7 @@ pub pick-false {ℓ} : {A : Type ℓ} (t : Bool) (x y : A) → t ≡ false → p
 unfolding pick
 pick-false t x y h = rw h
 
+-- both tests are true; neither is
 pub both-true : (a b : Bool) → both a b ≡ true → (a ≡ true) × (b ≡ true)
 unfolding both
 both-true true b h = (refl, h)
@@ -33,7 +35,7 @@ unfolding refuse
 refuse-none true n rest h = absurd (omega arith)
 refuse-none false n rest h = (refl, h)
 
--- For `choices`: what the code answers is what the definition says; the test decides here, or what comes next.
+-- For `choices`: what the code answers is what the definition says; the test decides here, or what comes next
 pub pick-here : {A : Type 0} (t : Bool) (r x y : A) → t ≡ true → r ≡ x → r ≡ pick t x y
 unfolding pick
 pick-here t r x y h e = rw h e
@@ -66,13 +68,14 @@ pub refuse-next : (t : Bool) (r n rest : ℕ) → t ≡ false → r ≡ rest →
 unfolding refuse
 refuse-next t r n rest h e = rw h e
 
+-- For `choices`: the negation of a test
 pub true-not : (t : Bool) → t ≡ true → not t ≡ false
 true-not t h = rw h
 
 pub false-not : (t : Bool) → t ≡ false → not t ≡ true
 false-not t h = rw h
 
--- For `choices`: a callee ensured that its answer r is the test t, and the code branched on r or on its negation.
+-- For `choices`: a callee ensured that its answer r is the test t, and the code branched on r or on `not r`
 pub told : (r t b : Bool) → r ≡ t → r ≡ b → t ≡ b
 told r t b e h = sym e ∙ h
 
@@ -82,6 +85,7 @@ told-false r t e h = sym e ∙ not-true r h
 pub told-true : (r t : Bool) → r ≡ t → not r ≡ false → t ≡ true
 told-true r t e h = sym e ∙ not-false r h
 
+-- the set: the above, and how the code's comparisons decide the definitions' tests
 pub ruleset choices = (
   pick-here,
   pick-next,
@@ -104,6 +108,7 @@ pub ruleset choices = (
   ne-eqb,
 )
 
+-- a chain of checks ends in no number above the most, where each of its numbers is at most that
 pub refuse-most : (t : Bool) (n rest most : ℕ) → n ≤ most → rest ≤ most → refuse t n rest ≤ most
 unfolding refuse
 refuse-most true n rest most h k = h

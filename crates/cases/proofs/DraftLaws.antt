@@ -40,7 +40,7 @@ step-placed d k e =
 
 module _ (d : Draft) (few : d .case .program .threads ≤ mostThreads)
     (near : d .case .program .locations ≤ mostLocations) where
-  -- every other faultless record names what there is, and an instruction finds room
+  -- a record that passed 4 and 5 names a location, or a thread, that there is
   located : (misplace : Bool) (l later : ℕ)
       → refuse misplace 4 (refuse (leb (d .case .program .locations) l) 5 later) ≡ 0
       → l < mostLocations
@@ -57,6 +57,7 @@ module _ (d : Draft) (few : d .case .program .threads ≤ mostThreads)
       let there : t < d .case .program .threads = leb-false _ _ (either-false _ _ inside .0) in
       omega arith
 
+  -- so a faultless record of each kind names what there is, and an instruction finds room
   pub first-placed : (w : Write) → faultOf d (First w) ≡ 0 → w .location .0 < mostLocations
   unfolding faultOf
   first-placed w e = located _ _ _ e

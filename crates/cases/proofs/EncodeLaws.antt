@@ -34,6 +34,7 @@ unfolding bytesAt placeBytes
 bytes-none c k h = rw h
 
 module _ {c : Case} {d : List ℕ} {k at : ℕ} {out : List ℕ} (put : Encoded c d k at out) where
+  -- putting keeps the length
   pub encoded-length : length out ≡ length d
   encoded-length = ap length (put .holds) ∙ length-sets d 0 (each k (bytesAt c))
 

@@ -6,16 +6,23 @@ use Prim.Native.Nat.{ℕ, _<_, _≤_}
 use mathlib.Core.Path.{_≡_}
 use mathlib.Core.Bool.{Bool, true, false}
 use lib.ListN.{getD}
-use lib.Dec.{leb, ltb}
+use lib.Dec.{eqb, leb, ltb}
 use borrow.Author.Tests.{leb-false, ltb-false, le-ltb, eqb-true, not-false}
 use native.Mathlib.Omega.{arith}
 use Rattle.cases.specs.declared.case.Program.{Program}
+use Rattle.cases.specs.declared.case.Thread.{Thread}
+use Rattle.cases.specs.declared.case.Instruction.{Instruction}
+use Rattle.cases.specs.declared.case.Step.{Step}
 use Rattle.cases.specs.declared.record.Record.{Record}
 use Rattle.cases.specs.declared.record.Record.the-variants.{Declare, First, Instruct, Want, Passed, Take}
 use Rattle.cases.specs.declared.places.Place.{Place}
 use Rattle.cases.specs.declared.places.Place.the-variants.{Holds, Empty}
+use Rattle.cases.specs.Sizes.{mostInstructions}
 use Rattle.cases.specs.Choice.{both, either}
-use Rattle.cases.specs.Checks.{outside, beyond, leftOver, headerOut, instructionOut, instructionLeft, countOf, passedOut, stepOut, stepLeft}
+use Rattle.cases.specs.Checks.{outside, beyond, leftOver, countOf}
+use Rattle.cases.specs.Checks.{headerOut, instructionOut, instructionLeft, passedOut, stepOut, stepLeft}
+use Rattle.cases.specs.Ranges.{InstructionFits}
+use Rattle.cases.specs.Checks.{usesLocation, usesRegister}
 use Rattle.cases.proofs.ChoiceLaws.{either-false}
 
 unfoldable pub RecordFits : Program → Record → Type 0
@@ -31,11 +38,14 @@ PlaceFits p (Holds r) = RecordFits p r
 PlaceFits p Empty = Unit {0}
 
 -- a field that passed 5 and 8 is below its limit, used or not
-pub field-low : (used : Bool) (x limit : ℕ) → beyond used x limit ≡ false → leftOver used x ≡ false → 0 < limit → x < limit
+pub field-low : (used : Bool) (x limit : ℕ) → beyond used x limit ≡ false → leftOver used x ≡ false
+    → 0 < limit
+    → x < limit
 unfolding beyond leftOver both
 field-low true x limit b l h = leb-false limit x b
 field-low false x limit b l h = omega (arith, eqb-true x 0 (not-false _ l))
 
+-- what is not outside is from 1 to the most
 pub outside-low : (x most : ℕ) → outside x most ≡ false → (1 ≤ x) × (x ≤ most)
 unfolding outside
 outside-low x most h =
@@ -57,10 +67,53 @@ record-grown p q g (Instruct t x) f = (rw (g .same-threads, g .same-locations) (
 record-grown p q g (Want w) f = rw (g .same-locations) f
 record-grown p q g (Passed t n) f =
     let e = either-false (leb (p .threads) (t .0)) (ltb (countOf p t) n) f in
-    rw (g .same-threads, e .0) (le-ltb (countOf q t) n (omega (arith, g .more (t .0), ltb-false (countOf p t) n (e .1))))
+    let few = ltb-false (countOf p t) n (e .1) in
+    rw (g .same-threads, e .0) (le-ltb (countOf q t) n (omega (arith, g .more (t .0), few)))
 record-grown p q g (Take k) f = (rw (g .same-threads, g .same-locations) (f .0), f .1)
 
 pub place-grown : (p q : Program) → Grown p q → (x : Place) → PlaceFits p x → PlaceFits q x
 unfolding PlaceFits
 place-grown p q g (Holds r) f = record-grown p q g r f
 place-grown p q g Empty f = f
+
+-- What the checks leave of an instruction and of a step
+pub instruction-fits : (p : Program) (t : Thread) (x : Instruction) → 1 ≤ p .locations
+    → instructionOut p t x ≡ false
+    → instructionLeft x ≡ false
+    → (t .0 < p .threads) × InstructionFits p x
+unfolding instructionOut instructionLeft
+instruction-fits p t x some out left =
+    let a = either-false (leb (p .threads) (t .0)) _ out in
+    let b = either-false (outside (x .operation) 8) _ (a .1) in
+    let c = either-false (beyond (usesLocation (x .operation)) (x .location .0) (p .locations)) _ (b .1) in
+    let e = either-false (leftOver (usesLocation (x .operation)) (x .location .0)) _ left in
+    let f = either-false (leftOver (usesRegister (x .operation)) (x .register .0)) _ (e .1) in
+    let o = outside-low (x .operation) 8 (b .0) in (
+      leb-false (p .threads) (t .0) (a .0),
+      record {
+        some-operation = o .0;
+        low-operation = o .1;
+        low-location = field-low (usesLocation (x .operation)) _ _ (c .0) (e .0) some;
+        low-register = field-low (usesRegister (x .operation)) _ _ (c .1) (f .0) (omega arith);
+      },
+    )
+
+pub step-low : (p : Program) (k : Step) → 1 ≤ p .threads → 1 ≤ p .locations
+    → stepOut p k ≡ false
+    → stepLeft k ≡ false
+    → (k .code ≤ 2)
+    × (k .thread .0 < p .threads)
+    × (k .position < mostInstructions)
+    × (k .location .0 < p .locations)
+unfolding stepOut stepLeft
+step-low p k some any out left =
+    let a = either-false (ltb 2 (k .code)) _ out in
+    let b = either-false (beyond (leb (k .code) 1) (k .thread .0) (p .threads)) _ (a .1) in
+    let c = either-false (beyond (eqb (k .code) 1) (k .position) mostInstructions) _ (b .1) in
+    let e = either-false (leftOver (leb (k .code) 1) (k .thread .0)) _ left in
+    let f = either-false (leftOver (eqb (k .code) 1) (k .position)) _ (e .1) in (
+      ltb-false 2 (k .code) (a .0),
+      field-low (leb (k .code) 1) _ _ (b .0) (e .0) some,
+      field-low (eqb (k .code) 1) _ _ (c .0) (f .0) (omega arith),
+      field-low (eqb (k .code) 2) _ _ (c .1) (f .1) any,
+    )

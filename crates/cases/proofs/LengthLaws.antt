@@ -13,7 +13,10 @@ use Rattle.cases.specs.Sizes.{longest}
 use Rattle.cases.specs.Choice.{pick}
 use Rattle.cases.specs.Bytes.{halfBytes, wordBytes}
 use Rattle.cases.specs.Record.{payloadBytes, recordBytes}
-use Rattle.cases.specs.Places.{fromFirsts, fromCode, fromWants, fromPassed, fromSteps, places, headerPlace, firstPlace, instructionPlace, wantPlace, passedPlace, stepPlace, placeOf, placeBytes, bytesAt, encodeOf}
+use Rattle.cases.specs.Places.{fromFirsts, fromCode, fromWants, fromPassed, fromSteps, places}
+use Rattle.cases.specs.Places.{headerPlace, firstPlace, instructionPlace}
+use Rattle.cases.specs.Places.{wantPlace, passedPlace, stepPlace}
+use Rattle.cases.specs.Places.{placeOf, placeBytes, bytesAt, encodeOf}
 use Rattle.cases.proofs.ChoiceLaws.{pick-cases, pick-pair}
 use Rattle.cases.proofs.EachLaws.{total, each-length}
 
@@ -26,10 +29,11 @@ width k =
     (pick (ltb k fromPassed) 9
     (pick (ltb k fromSteps) 6 8))))
 
--- no place of the part has more than n bytes
+-- what stands at a place has at most n bytes
 abbrev Within : Place → ℕ → Type 0
 Within x n = length (placeBytes x) ≤ n
 
+-- for each part of the case, how many bytes its places have at most
 first-width : (p : Program) (l : ℕ) → Within (firstPlace p l) 9
 unfolding firstPlace placeBytes recordBytes payloadBytes halfBytes wordBytes
 first-width p l = pick-cases (λ (x : Place). Within x 9) _ _ _ (λ e. omega arith) (λ e. omega arith)
@@ -64,10 +68,12 @@ place-width c k =
     (pick-pair Within (ltb k fromSteps) _ _ _ _ (passed-width (c .ask) (k - fromPassed))
     (step-width (c .run) (k - fromSteps))))))
 
+-- all of them filled
 longest-is : total places width ≡ longest
 unfolding total width pick
 longest-is = refl
 
+-- no case's file is longer than the longest
 pub encode-length : (c : Case) → length (encodeOf c) ≤ longest
 unfolding encodeOf
 encode-length c = omega (arith, each-length places (bytesAt c) width (place-width c), longest-is)

@@ -7,6 +7,7 @@ mod PutLaws
 mod EncodeLaws
 mod FitLaws
 mod SoundLaws
+mod CountLaws
 mod AddLaws
 mod BytesLaws
 mod ReadLaws
@@ -14,6 +15,7 @@ mod LengthLaws
 mod BlankLaws
 mod RoundTrip
 mod PrefixLaws
+mod BytewiseLaws
 mod RangeLaws
 mod DraftLaws
 mod SameLaws

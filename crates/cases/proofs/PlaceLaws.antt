@@ -22,9 +22,12 @@ use Rattle.cases.specs.declared.places.Place.the-variants.{Holds}
 use Rattle.cases.specs.Sizes.{mostThreads, mostInstructions, mostLocations, mostCode}
 use Rattle.cases.specs.Choice.{pick}
 use Rattle.cases.specs.Checks.{countOf}
-use Rattle.cases.specs.Draft.{withFirst, withInstruction, withWant, withPassed, withStep, noInstruction, noStep}
+use Rattle.cases.specs.Draft.{noInstruction, noStep}
+use Rattle.cases.specs.Draft.{withFirst, withInstruction, withWant, withPassed, withStep}
+use Rattle.cases.specs.Places.{fromFirsts, fromCode, fromWants, fromPassed, fromSteps, placeOf}
+use Rattle.cases.specs.Places.{headerPlace, firstPlace, instructionPlace}
+use Rattle.cases.specs.Places.{wantPlace, passedPlace, stepPlace}
 use Rattle.cases.proofs.ChoiceLaws.{pick-cases}
-use Rattle.cases.specs.Places.{fromFirsts, fromCode, fromWants, fromPassed, fromSteps, headerPlace, firstPlace, instructionPlace, wantPlace, passedPlace, stepPlace, placeOf}
 
 -- placeOf: the places of each kind
 module _ (c : Case) (k : ℕ) where
@@ -43,7 +46,12 @@ module _ (c : Case) (k : ℕ) where
     unfolding placeOf pick
     place-code e h =
         let at : k - fromCode ≡ i = omega arith in
-        rw (le-ltb k fromFirsts (omega arith), le-ltb k fromCode (omega arith), lt-ltb k fromWants (omega arith), at)
+        rw (
+          le-ltb k fromFirsts (omega arith),
+          le-ltb k fromCode (omega arith),
+          lt-ltb k fromWants (omega arith),
+          at,
+        )
 
     pub place-want : k ≡ fromWants + i → i < mostLocations → placeOf c k ≡ wantPlace (c .ask) i
     unfolding placeOf pick
@@ -94,16 +102,17 @@ pub place-cases {ℓ} : (P : Place → Type ℓ) (c : Case) (j : ℕ)
     → P (placeOf c j)
 unfolding placeOf
 place-cases P c j header first code want passed steps =
-    pick-cases P (ltb j fromFirsts) _ _ (λ h. header (omega (arith, ltb-true j fromFirsts h))) (λ h₁.
-    pick-cases P (ltb j fromCode) _ _
-    (λ h. first (j - fromFirsts) (omega (arith, ltb-false j fromFirsts h₁)) (omega (arith, ltb-true j fromCode h))) (λ h₂.
-    pick-cases P (ltb j fromWants) _ _
-    (λ h. code (j - fromCode) (omega (arith, ltb-false j fromCode h₂)) (omega (arith, ltb-true j fromWants h))) (λ h₃.
-    pick-cases P (ltb j fromPassed) _ _
-    (λ h. want (j - fromWants) (omega (arith, ltb-false j fromWants h₃)) (omega (arith, ltb-true j fromPassed h))) (λ h₄.
-    pick-cases P (ltb j fromSteps) _ _
-    (λ h. passed (j - fromPassed) (omega (arith, ltb-false j fromPassed h₄)) (omega (arith, ltb-true j fromSteps h))) (λ h₅.
-    steps (j - fromSteps) (omega (arith, ltb-false j fromSteps h₅)))))))
+    pick-cases P (ltb j fromFirsts) _ _
+    (λ h. header (omega (arith, ltb-true j fromFirsts h)))
+    (λ h₁. pick-cases P (ltb j fromCode) _ _
+    (λ h. first _ (omega (arith, ltb-false j fromFirsts h₁)) (omega (arith, ltb-true j fromCode h)))
+    (λ h₂. pick-cases P (ltb j fromWants) _ _
+    (λ h. code _ (omega (arith, ltb-false j fromCode h₂)) (omega (arith, ltb-true j fromWants h)))
+    (λ h₃. pick-cases P (ltb j fromPassed) _ _
+    (λ h. want _ (omega (arith, ltb-false j fromWants h₃)) (omega (arith, ltb-true j fromPassed h)))
+    (λ h₄. pick-cases P (ltb j fromSteps) _ _
+    (λ h. passed _ (omega (arith, ltb-false j fromPassed h₄)) (omega (arith, ltb-true j fromSteps h)))
+    (λ h₅. steps _ (omega (arith, ltb-false j fromSteps h₅)))))))
 
 -- two cases have the same at a place, if the part that it belongs to has
 pub place-same : (c d : Case) (j : ℕ)
@@ -123,8 +132,7 @@ place-same c d j header first code want passed steps =
     (λ t e h. passed t e ∙ sym (place-passed d j t e h))
     (λ k e. steps k e ∙ sym (place-step d j k e))
 
--- A part of the case with a record more: what stands at its place, and at every other
-
+-- A part of the case with a record more: what stands at its place, and at every other. Here: the first contents
 module _ (p : Program) (w : Write) where
   pub first-same : w .location .0 < length (p .first) → eqb (w .word) 0 ≡ false
       → firstPlace (withFirst p w) (w .location .0) ≡ Holds (First w)
@@ -135,7 +143,7 @@ module _ (p : Program) (w : Write) where
   unfolding firstPlace withFirst
   first-other l n = rw (getD-set-other (p .first) (w .location .0) l (w .word) 0 n)
 
--- a count more lets through one number more
+-- a count with one more lets through one number more
 leb-more : (n i : ℕ) → i ≢ n → leb (n + 1) i ≡ leb n i
 leb-more n i h = go (ltb i n) refl
   where
@@ -143,11 +151,14 @@ leb-more n i h = go (ltb i n) refl
     go true e = lt-leb (n + 1) i (omega (arith, ltb-true i n e)) ∙ sym (lt-leb n i (ltb-true i n e))
     go false e = let m = ltb-false i n e in le-leb (n + 1) i (omega arith) ∙ sym (le-leb n i m)
 
+-- the instructions
 module _ (p : Program) (t : Thread) (x : Instruction) where
   abbrev instruction-at : ℕ
   instruction-at = t .0 * mostInstructions + countOf p t
 
-  pub instruction-same : t .0 < length (p .counts) → instruction-at < length (p .code) → countOf p t < mostInstructions
+  pub instruction-same : t .0 < length (p .counts)
+      → instruction-at < length (p .code)
+      → countOf p t < mostInstructions
       → instructionPlace (withInstruction p t x) instruction-at ≡ Holds (Instruct t x)
   unfolding instructionPlace withInstruction pick
   instruction-same low here few =
@@ -165,32 +176,43 @@ module _ (p : Program) (t : Thread) (x : Instruction) where
       → instructionPlace (withInstruction p t x) m ≡ instructionPlace p m
   unfolding instructionPlace withInstruction
   instruction-other m low n =
-      rw (getD-set-other (p .code) instruction-at m x noInstruction n, go (eqb (m / mostInstructions) (t .0)) refl)
+      rw (getD-set-other (p .code) instruction-at m x noInstruction n, go (eqb thread (t .0)) refl)
     where
-      go : (b : Bool) → eqb (m / mostInstructions) (t .0) ≡ b
-          → leb (getD (set (p .counts) (t .0) (countOf p t + 1)) (m / mostInstructions) 0) (m % mostInstructions)
-          ≡ leb (getD (p .counts) (m / mostInstructions) 0) (m % mostInstructions)
+      thread : ℕ
+      thread = m / mostInstructions
+
+      go : (b : Bool) → eqb thread (t .0) ≡ b
+          → leb (getD (set (p .counts) (t .0) (countOf p t + 1)) thread 0) (m % mostInstructions)
+          ≡ leb (getD (p .counts) thread 0) (m % mostInstructions)
       go true e =
-          let q = eqb-true (m / mostInstructions) (t .0) e in
+          let q = eqb-true thread (t .0) e in
           rw (q, getD-set-same (p .counts) (t .0) (countOf p t + 1) 0 low)
           (leb-more (countOf p t) (m % mostInstructions) (λ z. n (omega arith)))
-      go false e =
-          rw (getD-set-other (p .counts) (t .0) (m / mostInstructions) (countOf p t + 1) 0 (eqb-false _ _ e))
+      go false e = rw (getD-set-other (p .counts) (t .0) thread (countOf p t + 1) 0 (eqb-false _ _ e))
 
+-- the wants
 module _ (a : Ask) (w : Write) where
   pub want-same : w .location .0 < length (a .wanted) → w .location .0 < length (a .want)
       → wantPlace (withWant a w) (w .location .0) ≡ Holds (Want w)
   unfolding wantPlace withWant pick
   want-same low here =
-      rw (getD-set-same (a .wanted) (w .location .0) true false low, getD-set-same (a .want) (w .location .0) (w .word) 0 here)
+      rw (
+        getD-set-same (a .wanted) (w .location .0) true false low,
+        getD-set-same (a .want) (w .location .0) (w .word) 0 here,
+      )
 
   pub want-other : (l : ℕ) → l ≢ w .location .0 → wantPlace (withWant a w) l ≡ wantPlace a l
   unfolding wantPlace withWant
   want-other l n =
-      rw (getD-set-other (a .wanted) (w .location .0) l true false n, getD-set-other (a .want) (w .location .0) l (w .word) 0 n)
+      rw (
+        getD-set-other (a .wanted) (w .location .0) l true false n,
+        getD-set-other (a .want) (w .location .0) l (w .word) 0 n,
+      )
 
+-- the passed counts
 module _ (a : Ask) (t : Thread) (n : ℕ) where
-  pub passed-same : t .0 < length (a .passed) → eqb n 0 ≡ false → passedPlace (withPassed a t n) (t .0) ≡ Holds (Passed t n)
+  pub passed-same : t .0 < length (a .passed) → eqb n 0 ≡ false
+      → passedPlace (withPassed a t n) (t .0) ≡ Holds (Passed t n)
   unfolding passedPlace withPassed pick
   passed-same low some = rw (getD-set-same (a .passed) (t .0) n 0 low, some)
 
@@ -198,6 +220,7 @@ module _ (a : Ask) (t : Thread) (n : ℕ) where
   unfolding passedPlace withPassed
   passed-other u d = rw (getD-set-other (a .passed) (t .0) u n 0 d)
 
+-- the steps
 module _ (r : Run) (k : Step) where
   pub step-same : r .count < length (r .steps) → stepPlace (withStep r k) (r .count) ≡ Holds (Take k)
   unfolding stepPlace withStep pick

@@ -1,4 +1,6 @@
--- Reading looks at no byte behind the longest file and one record more. Assumes nothing.
+-- Reading looks at no byte behind the longest file and one record more.
+--   SamePrefix n k d at m t   reading t behind the draft d, and reading its first m bytes, is the same
+-- Assumes nothing.
 use Prim.Native.Nat.{ℕ, zero, suc, _+_, _-_, _<_, _≤_}
 use mathlib.Core.Path.{_≡_, refl, sym, ap, _∙_}
 use mathlib.Core.List.{List, [], _∷_, _++_}
@@ -13,7 +15,8 @@ use Rattle.cases.specs.declared.reader.Reading.{Reading}
 use Rattle.cases.specs.Sizes.{longest, longestRecord}
 use Rattle.cases.specs.Choice.{refuse}
 use Rattle.cases.specs.Bytes.{half, wordAt}
-use Rattle.cases.specs.Record.{payloadOf, recordBytes, headerIn, writeIn, instructionIn, stepIn, recordOf, openNo, sizeOf}
+use Rattle.cases.specs.Record.{payloadOf, recordBytes, recordOf, openNo, sizeOf}
+use Rattle.cases.specs.Record.{headerIn, writeIn, instructionIn, stepIn}
 use Rattle.cases.specs.Checks.{faultOf}
 use Rattle.cases.specs.Draft.{blankDraft, addOf}
 use Rattle.cases.specs.Reading.{endedOf, refusedOf, readFrom, readOf}
@@ -23,7 +26,7 @@ use Rattle.cases.proofs.SoundLaws.{Sound}
 use Rattle.cases.proofs.AddLaws.{add-record}
 use Rattle.cases.proofs.LengthLaws.{encode-length}
 use Rattle.cases.proofs.BytesLaws.{open-whole}
-use Rattle.cases.proofs.ReadLaws.{recordIn, read-cases}
+use Rattle.cases.proofs.ReadLaws.{recordIn, behind, read-cases}
 use Rattle.cases.proofs.BlankLaws.{blank-first, begun-longer, begun-sound}
 use Rattle.cases.proofs.RoundTrip.{longer-by, less-left}
 
@@ -33,12 +36,16 @@ drop-take (suc i) zero l = let e : 0 - suc i ≡ 0 = omega arith in rw e
 drop-take (suc i) (suc m) [] = sym (take-nil (suc m - suc i))
 drop-take (suc i) (suc m) (x ∷ l) = let e : suc m - suc i ≡ m - i = omega arith in rw e (drop-take i m l)
 
+-- no payload, and so no record, is longer than the longest
 payload-most : (k : ℕ) → payloadOf k ≤ 8
 unfolding payloadOf
 payload-most k =
-    pick-cases Low _ _ _ (λ e. omega arith) (λ e. pick-cases Low _ _ _ (λ e. omega arith) (λ e.
-    pick-cases Low _ _ _ (λ e. omega arith) (λ e. pick-cases Low _ _ _ (λ e. omega arith) (λ e.
-    pick-cases Low _ _ _ (λ e. omega arith) (λ e. pick-cases Low _ _ _ (λ e. omega arith) (λ e. omega arith))))))
+    pick-cases Low _ _ _ (λ e. omega arith) (λ e.
+    pick-cases Low _ _ _ (λ e. omega arith) (λ e.
+    pick-cases Low _ _ _ (λ e. omega arith) (λ e.
+    pick-cases Low _ _ _ (λ e. omega arith) (λ e.
+    pick-cases Low _ _ _ (λ e. omega arith) (λ e.
+    pick-cases Low _ _ _ (λ e. omega arith) (λ e. omega arith))))))
   where
     Low : ℕ → Type 0
     Low n = n ≤ 8
@@ -46,6 +53,10 @@ payload-most k =
 size-most : (t : List ℕ) → openNo t ≡ 0 → sizeOf t ≤ longestRecord
 unfolding sizeOf
 size-most t o = omega (arith, open-whole t o .fitting, payload-most (half t 2))
+
+-- n and k are what `readFrom` counts its records by
+abbrev SamePrefix : (n k : ℕ) → Draft → (at m : ℕ) → List ℕ → Type 0
+SamePrefix n k d at m t = readFrom k d at (take m t) ≡ readFrom n d at t
 
 -- A record is read from its first bytes alone
 module _ (t : List ℕ) (m : ℕ) (enough : longestRecord ≤ m) where
@@ -78,19 +89,31 @@ module _ (t : List ℕ) (m : ℕ) (enough : longestRecord ≤ m) where
         byte-prefix 7 (omega arith),
       )
 
-  -- longer than what is taken: a record that is cut is cut in neither
+  -- what the checks behind the head's say, where the input has `long` bytes
+  abbrev laterNo : ℕ → ℕ
+  laterNo long =
+      refuse (eqb (payloadOf (half t 2)) 0) 2
+      (refuse (not (eqb (half t 0) (payloadOf (half t 2)))) 3
+      (refuse (ltb (long - 4) (half t 0)) 1 0))
+
+  -- longer than what is taken: the record is cut in neither
   open-long : m < length t → openNo (take m t) ≡ openNo t
   unfolding openNo refuse
   open-long more =
       let n : length (take m t) ≡ m = omega (arith, length-take m t) in
-      rw (half-prefix 2 (omega arith), half-prefix 0 (omega arith), n, le-ltb m 4 (omega arith), le-ltb (length t) 4 (omega arith))
+      rw (
+        half-prefix 2 (omega arith),
+        half-prefix 0 (omega arith),
+        n,
+        le-ltb m 4 (omega arith),
+        le-ltb (length t) 4 (omega arith),
+      )
       (go (eqb (half t 0) (payloadOf (half t 2))) refl)
     where
-      go : (b : Bool) → eqb (half t 0) (payloadOf (half t 2)) ≡ b
-          → refuse (eqb (payloadOf (half t 2)) 0) 2 (refuse (not (eqb (half t 0) (payloadOf (half t 2)))) 3 (refuse (ltb (m - 4) (half t 0)) 1 0))
-          ≡ refuse (eqb (payloadOf (half t 2)) 0) 2 (refuse (not (eqb (half t 0) (payloadOf (half t 2)))) 3 (refuse (ltb (length t - 4) (half t 0)) 1 0))
+      go : (b : Bool) → eqb (half t 0) (payloadOf (half t 2)) ≡ b → laterNo m ≡ laterNo (length t)
       go true e =
-          let h : half t 0 ≤ 8 = omega (arith, eqb-true (half t 0) (payloadOf (half t 2)) e, payload-most (half t 2)) in
+          let right = eqb-true (half t 0) (payloadOf (half t 2)) e in
+          let h : half t 0 ≤ 8 = omega (arith, right, payload-most (half t 2)) in
           rw (le-ltb (m - 4) (half t 0) (omega arith), le-ltb (length t - 4) (half t 0) (omega arith))
       go false e = rw e
 
@@ -107,9 +130,8 @@ module _ (t : List ℕ) (m : ℕ) (enough : longestRecord ≤ m) where
   -- a turn of reading: the same, if what follows is
   turn-prefix : (n k : ℕ) (d : Draft) (at : ℕ)
       → (openNo t ≡ 0 → faultOf d (recordIn t) ≡ 0
-      → readFrom k (addOf d (recordIn t)) (at + sizeOf t) (take (m - sizeOf t) (drop (sizeOf t) t))
-      ≡ readFrom n (addOf d (recordIn t)) (at + sizeOf t) (drop (sizeOf t) t))
-      → readFrom (suc k) d at (take m t) ≡ readFrom (suc n) d at t
+      → SamePrefix n k (addOf d (recordIn t)) (at + sizeOf t) (m - sizeOf t) (behind t))
+      → SamePrefix (suc n) (suc k) d at m t
   turn-prefix n k d at next =
       read-cases (λ (y : Reading). readFrom (suc k) d at (take m t) ≡ y) n d at t
       (λ z. let none : length (take m t) ≡ 0 = omega (arith, length-take m t) in
@@ -125,49 +147,56 @@ module _ (t : List ℕ) (m : ℕ) (enough : longestRecord ≤ m) where
       (λ j w q. absurd (omega (arith, open-prefix)))
       (λ j w q g. ap (λ (a : ℕ). refusedOf a at) (sym g ∙ ap (faultOf d) record-prefix ∙ f))
       (λ w q g. absurd (omega (arith, ap (faultOf d) record-prefix))))
-      (λ z o f. read-cases (λ (x : Reading). x ≡ readFrom n (addOf d (recordIn t)) (at + sizeOf t) (drop (sizeOf t) t)) k d at (take m t)
+      (λ z o f. let after : Reading = readFrom n (addOf d (recordIn t)) (at + sizeOf t) (behind t) in
+      read-cases (λ (x : Reading). x ≡ after) k d at (take m t)
       (λ e. absurd (z (none-prefix e)))
       (λ j w q. absurd (omega (arith, open-prefix)))
       (λ j w q g. absurd (omega (arith, ap (faultOf d) record-prefix)))
       (λ w q g. rw (record-prefix, size-prefix, drop-take (sizeOf t) m t) (next o f)))
 
--- what follows a record that was read
-on-prefix : (done t : List ℕ) (m n k : ℕ) (e : Draft) → openNo t ≡ 0 → encodeOf (e .case) ≡ done ++ recordBytes (recordIn t)
-    → length t < suc n → length (take m t) < suc k → longest + longestRecord ≤ length done + m → length done ≤ longest
-    → (length (drop (sizeOf t) t) < n → length (take (m - sizeOf t) (drop (sizeOf t) t)) < k
+-- what follows a record that was read behind the bytes `done`: the file is longer by it, and less is left
+on-prefix : (done t : List ℕ) (m n k : ℕ) (e : Draft) → openNo t ≡ 0
+    → encodeOf (e .case) ≡ done ++ recordBytes (recordIn t)
+    → length t < suc n
+    → length (take m t) < suc k
+    → longest + longestRecord ≤ length done + m
+    → length done ≤ longest
+    → (length (behind t) < n → length (take (m - sizeOf t) (behind t)) < k
     → longest + longestRecord ≤ length (encodeOf (e .case)) + (m - sizeOf t)
-    → readFrom k e (length (encodeOf (e .case))) (take (m - sizeOf t) (drop (sizeOf t) t))
-    ≡ readFrom n e (length (encodeOf (e .case))) (drop (sizeOf t) t))
-    → readFrom k e (length done + sizeOf t) (take (m - sizeOf t) (drop (sizeOf t) t))
-    ≡ readFrom n e (length done + sizeOf t) (drop (sizeOf t) t)
+    → SamePrefix n k e (length (encodeOf (e .case))) (m - sizeOf t) (behind t))
+    → SamePrefix n k e (length done + sizeOf t) (m - sizeOf t) (behind t)
 on-prefix done t m n k e o longer f g b low next =
     let w = open-whole t o in
     let size : sizeOf t ≤ longestRecord = size-most t o in
     let long : length (encodeOf (e .case)) ≡ length done + sizeOf t = ap length longer ∙ longer-by done t o in
-    let left = length-take (m - sizeOf t) (drop (sizeOf t) t) in
+    let left = length-take (m - sizeOf t) (behind t) in
     let same = next (less-left t n o f)
     (omega (arith, length-take m t, length-drop (sizeOf t) t, w .head, w .within))
     (omega arith) in
     rw long at same
 
--- Reading behind a sound draft, and from the start: the bytes behind the longest file and one record more don't matter
-prefix-from : (n k : ℕ) (d : Draft) (front m : ℕ) (t : List ℕ) → Sound d front → length t < n → length (take m t) < k
+-- Reading behind a sound draft, and from the start: the bytes behind the longest file and one record more don't
+-- matter
+prefix-from : (n k : ℕ) (d : Draft) (front m : ℕ) (t : List ℕ) → Sound d front
+    → length t < n
+    → length (take m t) < k
     → longest + longestRecord ≤ length (encodeOf (d .case)) + m
-    → readFrom k d (length (encodeOf (d .case))) (take m t) ≡ readFrom n d (length (encodeOf (d .case))) t
+    → SamePrefix n k d (length (encodeOf (d .case))) m t
 prefix-from zero k d front m t s f g b = absurd (omega arith)
 prefix-from (suc n) zero d front m t s f g b = absurd (omega arith)
 prefix-from (suc n) (suc k) d front m t s f g b =
     turn-prefix t m (omega (arith, encode-length (d .case))) n k d (length (encodeOf (d .case))) (λ o h.
     let a = add-record d front s (recordIn t) h in
-    on-prefix (encodeOf (d .case)) t m n k (addOf d (recordIn t)) o (a .longer) f g b (encode-length (d .case)) (λ x y z.
-    prefix-from n k (addOf d (recordIn t)) (suc (a .spot)) (m - sizeOf t) (drop (sizeOf t) t) (a .sound) x y z))
+    on-prefix (encodeOf (d .case)) t m n k (addOf d (recordIn t)) o (a .longer) f g b (encode-length (d .case))
+    (prefix-from n k (addOf d (recordIn t)) (suc (a .spot)) (m - sizeOf t) (behind t) (a .sound)))
 
 pub read-prefix : (s : List ℕ) (m : ℕ) → longest + longestRecord ≤ m → readOf (take m s) ≡ readOf s
 unfolding readOf
 read-prefix s m b =
-    turn-prefix s m (omega arith) (length s) (length (take m s)) blankDraft 0 (λ o h.
+    let k : ℕ = length (take m s) in
+    turn-prefix s m (omega arith) (length s) k blankDraft 0 (λ o h.
     let f = blank-first (recordIn s) h in
-    on-prefix [] s m (length s) (length (take m s)) (addOf blankDraft (recordIn s)) o (rw (f .1) (begun-longer (f .0) (f .2)))
-    (omega arith) (omega arith) (omega arith) (omega arith) (λ x y z.
-    prefix-from (length s) (length (take m s)) (addOf blankDraft (recordIn s)) 1 (m - sizeOf s) (drop (sizeOf s) s)
-    (rw (f .1) (begun-sound (f .0) (f .2))) x y z))
+    on-prefix [] s m (length s) k (addOf blankDraft (recordIn s)) o (rw (f .1) (begun-longer (f .0) (f .2)))
+    (omega arith) (omega arith) (omega arith) (omega arith)
+    (prefix-from (length s) k (addOf blankDraft (recordIn s)) 1 (m - sizeOf s) (behind s)
+    (rw (f .1) (begun-sound (f .0) (f .2)))))

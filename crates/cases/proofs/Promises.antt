@@ -20,10 +20,10 @@ use Rattle.cases.specs.Places.{encodeOf}
 use Rattle.cases.specs.Ranges.{Ranged}
 use Rattle.cases.specs.Writing.{readsAs, readsBack, wroteOf, writtenOf}
 use Rattle.cases.proofs.ChoiceLaws.{both-true}
-use Rattle.cases.proofs.LengthLaws as LengthLaws
 use Rattle.cases.proofs.RoundTrip.{read-all}
-use Rattle.cases.proofs.PrefixLaws as PrefixLaws
-use Rattle.cases.proofs.RangeLaws.{sound-bytes, sound-ranged}
+use Rattle.cases.proofs.PrefixLaws.{read-prefix}
+use Rattle.cases.proofs.BytewiseLaws.{sound-bytes}
+use Rattle.cases.proofs.RangeLaws.{sound-ranged}
 use Rattle.cases.proofs.WriteLaws.{stored-is, untouched-is}
 use Rattle.cases.proofs.SameLaws.{case-is, case-self}
 
@@ -37,10 +37,11 @@ module _ (s : List ℕ) where
   pub refusal-hands-out-nothing : numberOf (readOf s .answer) ≢ 0 → readOf s .case ≡ emptyCase
   refusal-hands-out-nothing = read-all s .hands
 
-  -- a faulty record starts within the input, and at most at the longest file's length
+  -- a faulty record starts within the input
   pub offset-within : offsetOf (readOf s .answer) ≤ length s
   offset-within = omega (arith, read-all s .within)
 
+  -- and at most at the longest file's length
   pub offset-low : offsetOf (readOf s .answer) ≤ longest
   offset-low = read-all s .early
 
@@ -48,24 +49,28 @@ module _ (s : List ℕ) where
   pub packed-fits : numberOf (readOf s .answer) + 256 * offsetOf (readOf s .answer) < 2 ^ 32
   packed-fits = omega (arith, number-in-table, offset-low)
 
-  -- a success has read all of the input, and leaves the empty rest
+  -- a success has read all of the input
   pub success-whole : numberOf (readOf s .answer) ≡ 0 → readOf s .answer ≡ Whole (length s)
   success-whole h = read-all s .ends h ∙ ap Whole (omega arith)
 
+  -- and leaves the empty rest
   pub success-rest : numberOf (readOf s .answer) ≡ 0 → unreadOf s ≡ []
   unfolding unreadOf
   success-rest h = rw (success-whole h) (drop-length s)
 
   -- no byte behind the longest file and one record more is looked at
   pub prefix-decides : (m : ℕ) → longest + longestRecord ≤ m → readOf (take m s) ≡ readOf s
-  prefix-decides m h = PrefixLaws.read-prefix s m h
+  prefix-decides m h = read-prefix s m h
 
 -- "A case written and read back is the same case, and the same bytes."
 -- any bytes that read give, written, the same bytes
-pub write-after-read : (s : List ℕ) → IsBytes s → numberOf (readOf s .answer) ≡ 0 → encodeOf (readOf s .case) ≡ s
+pub write-after-read : (s : List ℕ) → IsBytes s → numberOf (readOf s .answer) ≡ 0
+    → encodeOf (readOf s .case) ≡ s
 write-after-read s b h = read-all s .back b h
 
-pub read-reads-back : (s : List ℕ) → IsBytes s → numberOf (readOf s .answer) ≡ 0 → readsBack (readOf s .case) ≡ true
+-- and a case that passes the test for 32
+pub read-reads-back : (s : List ℕ) → IsBytes s → numberOf (readOf s .answer) ≡ 0
+    → readsBack (readOf s .case) ≡ true
 unfolding readsBack readsAs both
 read-reads-back s b h = rw (write-after-read s b h, eq-eqb _ 0 h) (case-self (readOf s .case))
 
@@ -100,16 +105,19 @@ module _ (c : Case) (readable : readsBack c ≡ true) where
 
 -- 32 refuses a case exactly when no byte string reads as it
 pub readable-exactly : (c : Case)
-    → (readsBack c ≡ true) ↔ ((s : List ℕ) × IsBytes s × (numberOf (readOf s .answer) ≡ 0) × (readOf s .case ≡ c))
+    → (readsBack c ≡ true)
+    ↔ ((s : List ℕ) × IsBytes s × (numberOf (readOf s .answer) ≡ 0) × (readOf s .case ≡ c))
 readable-exactly c = (
   (λ h. (encodeOf c, file-bytes c h, file-number c h, file-case c h)),
   (λ e. rw (e .3) at (read-reads-back (e .0) (e .1) (e .2))),
 )
 
--- "Refusals .. store nothing. A success writes from the front and touches nothing behind."
-pub refusal-stores-nothing : (c : Case) (out : List ℕ) (m : ℕ) → wroteOf c out ≡ Untouched m → writtenOf c out ≡ out
+-- "Refusals .. store nothing."
+pub refusal-stores-nothing : (c : Case) (out : List ℕ) (m : ℕ) → wroteOf c out ≡ Untouched m
+    → writtenOf c out ≡ out
 refusal-stores-nothing c out m h = untouched-is c out m h
 
+-- "A success writes from the front and touches nothing behind."
 pub success-from-the-front : (c : Case) (out : List ℕ) (n : ℕ) → wroteOf c out ≡ Stored n
     → (n ≡ length (encodeOf c)) × (writtenOf c out ≡ encodeOf c ++ drop n out)
 success-from-the-front c out n h =
@@ -121,16 +129,20 @@ pub written-reads : (c : Case) (out : List ℕ) (n : ℕ) → wroteOf c out ≡ 
     → readOf (take n (writtenOf c out)) ≡ record { answer = Whole n; case = c }
 written-reads c out n h =
     let e = stored-is c out n h in
-    rw (e .1, e .2, take-at (encodeOf c) (drop (length (encodeOf c)) out) (length (encodeOf c)) refl) (read-after-write c (e .0))
+    let front = take-at (encodeOf c) (drop (length (encodeOf c)) out) (length (encodeOf c)) refl in
+    rw (e .1, e .2, front) (read-after-write c (e .0))
 
 -- two readable cases with the same bytes are the same case
-pub same-bytes-same-case : (c d : Case) → readsBack c ≡ true → readsBack d ≡ true → encodeOf c ≡ encodeOf d → c ≡ d
+pub same-bytes-same-case : (c d : Case) → readsBack c ≡ true → readsBack d ≡ true
+    → encodeOf c ≡ encodeOf d
+    → c ≡ d
 same-bytes-same-case c d h k e =
     sym (file-case c h) ∙ ap (λ (s : List ℕ). readOf s .case) e ∙ file-case d k
 
 -- "Not wanted" and "wanted 0" are different cases that write different bytes
 pub not-wanted-differs : (c d : Case) (l : ℕ) → readsBack c ≡ true → readsBack d ≡ true
-    → getD (c .ask .wanted) l false ≡ false → getD (d .ask .wanted) l false ≡ true
+    → getD (c .ask .wanted) l false ≡ false
+    → getD (d .ask .wanted) l false ≡ true
     → encodeOf c ≢ encodeOf d
 not-wanted-differs c d l h k p q e =
     let same = ap (λ (x : Case). getD (x .ask .wanted) l false) (same-bytes-same-case c d h k e) in

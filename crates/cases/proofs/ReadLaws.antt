@@ -1,4 +1,7 @@
--- Laws of `readFrom`: one law for all that a turn of reading may come to, and one for each way out of a turn of the reader's loop.
+-- Laws of `readFrom`: one law for all that a turn of reading may come to, and one for each way out of a turn of
+-- the reader's loop.
+--   recordIn t   the record that t starts with
+--   behind t     what stands behind that record
 -- Assumes nothing.
 use Prim.Native.Nat.{ℕ, zero, suc, _+_, _-_, _<_, _≤_}
 use mathlib.Core.Path.{_≡_, refl, sym, ap, _∙_}
@@ -6,8 +9,8 @@ use mathlib.Core.Logic.{_≢_}
 use mathlib.Core.List.{List}
 use lib.ListN.{length, take, drop, length-drop}
 use lib.Seq.{drop-drop, take-all}
-use borrow.Author.Tests.{eq-eqb, ne-eqb}
 use lib.Dec.{eqb}
+use borrow.Author.Tests.{eq-eqb, ne-eqb}
 use native.Mathlib.Omega.{arith}
 use Rattle.cases.specs.declared.draft.Draft.{Draft}
 use Rattle.cases.specs.declared.record.Record.{Record}
@@ -27,13 +30,16 @@ use Rattle.cases.proofs.DraftLaws.{add-sizes}
 abbrev pub recordIn : List ℕ → Record
 recordIn t = recordOf (half t 2) t
 
+abbrev pub behind : List ℕ → List ℕ
+behind t = drop (sizeOf t) t
+
 -- a turn: the input ends, the record doesn't open, it has a fault, or reading goes on behind it
 pub read-cases {ℓ} : (P : Reading → Type ℓ) (n : ℕ) (d : Draft) (at : ℕ) (t : List ℕ)
     → (length t ≡ 0 → P (endedOf d at))
     → ((m : ℕ) → length t ≢ 0 → openNo t ≡ suc m → P (refusedOf (suc m) at))
     → ((m : ℕ) → length t ≢ 0 → openNo t ≡ 0 → faultOf d (recordIn t) ≡ suc m → P (refusedOf (suc m) at))
     → (length t ≢ 0 → openNo t ≡ 0 → faultOf d (recordIn t) ≡ 0
-    → P (readFrom n (addOf d (recordIn t)) (at + sizeOf t) (drop (sizeOf t) t)))
+    → P (readFrom n (addOf d (recordIn t)) (at + sizeOf t) (behind t)))
     → P (readFrom (suc n) d at t)
 unfolding readFrom
 read-cases P n d at t ended bad fault next = go (length t) (openNo t) (faultOf d (recordIn t)) refl refl refl
@@ -48,8 +54,7 @@ read-cases P n d at t ended bad fault next = go (length t) (openNo t) (faultOf d
                 | zero ↦
                     elim f as (λ _. Reading) [
                       | suc m ↦ refusedOf (suc m) at
-                      | zero ↦
-                          readFrom n (addOf d (recordIn t)) (at + sizeOf t) (drop (sizeOf t) t)
+                      | zero ↦ readFrom n (addOf d (recordIn t)) (at + sizeOf t) (behind t)
                     ]
               ]
         ]
@@ -60,7 +65,7 @@ read-cases P n d at t ended bad fault next = go (length t) (openNo t) (faultOf d
     go (suc l) zero (suc m) p q r = fault m (λ z. omega arith) q r
     go (suc l) zero zero p q r = next (λ z. omega arith) q r
 
--- how a record opens
+-- openedAs, back from what the code has: the record, or the number
 opened-as : (k : ℕ) (q r : Record) → Opens r ≡ openedAs k q → (k ≡ 0) × (r ≡ q)
 unfolding openedAs
 opened-as zero q r h = (refl, cc)
@@ -71,7 +76,8 @@ unfolding openedAs
 faulty-as zero m q h = absurd (let z : _≡_ {A = ℕ} 0 1 = cc in omega arith)
 faulty-as (suc k) m q h = let e : m ≡ suc k = cc in (sym e, λ z. omega arith)
 
--- What the reader's loop keeps: what is read from `at` on, behind the draft d, is what is read of the whole input s
+-- What the reader's loop keeps: what is read from `at` on, behind the draft d, is what is read of the whole
+-- input s
 pub record ReadSoFar (s : List ℕ) (d : Draft) (at : ℕ) : Type 0 where
   pub within : at ≤ length s
   pub few : d .case .program .threads ≤ mostThreads
@@ -80,11 +86,21 @@ pub record ReadSoFar (s : List ℕ) (d : Draft) (at : ℕ) : Type 0 where
   pub enough : length s < at + left
   pub same : readFrom left d at (drop at s) ≡ readOf s
 
+-- nothing is read yet
 pub read-start : (s : List ℕ) (d : Draft) → d ≡ blankDraft → ReadSoFar s d 0
 unfolding readOf blankDraft emptyCase
 read-start s d e =
-    rw e (record { within = omega arith; few = omega arith; near = omega arith; left = suc (length s); enough = omega arith; same = refl })
+    rw e
+    (record {
+      within = omega arith;
+      few = omega arith;
+      near = omega arith;
+      left = suc (length s);
+      enough = omega arith;
+      same = refl;
+    })
 
+-- A turn of the loop
 module _ {s : List ℕ} {d : Draft} {at : ℕ} (so : ReadSoFar s d at) where
   -- what a turn comes to is what is read of the whole
   turn : (x : Reading) → ((k : ℕ) → readFrom (suc k) d at (drop at s) ≡ x) → x ≡ readOf s
@@ -131,6 +147,7 @@ module _ {s : List ℕ} {d : Draft} {at : ℕ} (so : ReadSoFar s d at) where
         (λ i z q f. absurd (o .1 (sym (o .0) ∙ q)))
         (λ z q f. absurd (o .1 (sym (o .0) ∙ q))))
 
+    -- the record opens as r
     module _ (r : Record) (e : Opens r ≡ openOf rest) where
       opens : (openNo (drop at s) ≡ 0) × (r ≡ recordIn (drop at s))
       unfolding openOf
@@ -154,7 +171,10 @@ module _ {s : List ℕ} {d : Draft} {at : ℕ} (so : ReadSoFar s d at) where
           (omega (arith, w .head), omega (arith, w .within, length-drop at s))
 
       -- reading goes on behind it
-      pub read-next : faultOf d r ≡ 0 → (n : ℕ) → n ≡ sizeOf rest → (after : Draft) → after ≡ addOf d r → ReadSoFar s after (at + n)
+      pub read-next : faultOf d r ≡ 0
+          → (n : ℕ) → n ≡ sizeOf rest
+          → (after : Draft) → after ≡ addOf d r
+          → ReadSoFar s after (at + n)
       read-next f n z after a =
           let m : n ≡ sizeOf (drop at s) = z ∙ ap sizeOf rest-is in
           let w = read-within n z in
@@ -165,8 +185,11 @@ module _ {s : List ℕ} {d : Draft} {at : ℕ} (so : ReadSoFar s d at) where
           on n k = readFrom k (addOf d r) (at + n) (drop (at + n) s)
 
           go : (1 ≤ n) × (at + n ≤ length s) → n ≡ sizeOf (drop at s)
-              → (addOf d r .case .program .threads ≤ mostThreads) × (addOf d r .case .program .locations ≤ mostLocations)
-              → (k : ℕ) → length s < at + k → readFrom k d at (drop at s) ≡ readOf s → ReadSoFar s (addOf d r) (at + n)
+              → (addOf d r .case .program .threads ≤ mostThreads)
+              × (addOf d r .case .program .locations ≤ mostLocations)
+              → (k : ℕ) → length s < at + k
+              → readFrom k d at (drop at s) ≡ readOf s
+              → ReadSoFar s (addOf d r) (at + n)
           go w m sizes zero h i = absurd (omega arith)
           go w m sizes (suc k) h i =
               record {

@@ -1,12 +1,16 @@
--- Reading, from the first record to the last: the draft stays sound, the offset is the length of what is read, and what is read,
--- written again, is the same bytes. Assumes nothing.
+-- Reading, from the first record to the last: the draft stays sound, the offset is the length of what is read,
+-- and what is read, written again, is the same bytes.
+--   Told done t r    what is known of the answer r of reading t, which lies behind the bytes `done`
+--   ToldFrom n d t   the same of reading t behind the draft d, where those bytes are its case's file
+-- Assumes nothing.
 use Prim.Native.Nat.{ℕ, zero, suc, _+_, _<_, _≤_}
 use mathlib.Core.Path.{_≡_, refl, sym, ap, _∙_}
 use mathlib.Core.Logic.{_≢_}
 use mathlib.Core.List.{List, [], _∷_, _++_, append-assoc, append-nil}
-use lib.ListN.{length, take, drop, length-append, length-drop, take-append-drop}
+use lib.ListN.{length, take, length-append, length-drop, take-append-drop}
 use lib.Dec.{eqb}
 use borrow.Author.Tests.{ne-eqb}
+use borrow.Author.Needs.{needs}
 use native.Mathlib.Omega.{arith}
 use Rattle.cases.specs.declared.draft.Draft.{Draft}
 use Rattle.cases.specs.declared.record.Record.{Record}
@@ -26,37 +30,23 @@ use Rattle.cases.proofs.SoundLaws.{Sound}
 use Rattle.cases.proofs.AddLaws.{add-record}
 use Rattle.cases.proofs.LengthLaws.{encode-length}
 use Rattle.cases.proofs.BytesLaws.{bytes-drop, open-whole, open-size, open-bytes}
-use Rattle.cases.proofs.ReadLaws.{recordIn, read-cases}
+use Rattle.cases.proofs.ReadLaws.{recordIn, behind, read-cases}
 use Rattle.cases.proofs.BlankLaws.{blank-first, begun-longer, begun-sound}
 
 -- the numbers are those of the table
 open-most : (t : List ℕ) → openNo t ≤ 9
 unfolding openNo
-open-most t =
-    refuse-most _ _ _ 9 (omega arith)
-    (refuse-most _ _ _ 9 (omega arith)
-    (refuse-most _ _ _ 9 (omega arith)
-    (refuse-most _ _ _ 9 (omega arith) (omega arith))))
+open-most t = search (refuse-most, needs) depth 12
 
 fault-most : (d : Draft) (r : Record) → faultOf d r ≤ 9
 unfolding faultOf
-fault-most d (Declare h) = refuse-most _ _ _ 9 (omega arith) (refuse-most _ _ _ 9 (omega arith) (omega arith))
-fault-most d (First w) =
-    refuse-most _ _ _ 9 (omega arith) (refuse-most _ _ _ 9 (omega arith)
-    (refuse-most _ _ _ 9 (omega arith) (refuse-most _ _ _ 9 (omega arith) (omega arith))))
-fault-most d (Instruct t x) =
-    refuse-most _ _ _ 9 (omega arith) (refuse-most _ _ _ 9 (omega arith) (refuse-most _ _ _ 9 (omega arith)
-    (refuse-most _ _ _ 9 (omega arith) (refuse-most _ _ _ 9 (omega arith) (omega arith)))))
-fault-most d (Want w) =
-    refuse-most _ _ _ 9 (omega arith) (refuse-most _ _ _ 9 (omega arith) (refuse-most _ _ _ 9 (omega arith) (omega arith)))
-fault-most d (Passed t n) =
-    refuse-most _ _ _ 9 (omega arith) (refuse-most _ _ _ 9 (omega arith)
-    (refuse-most _ _ _ 9 (omega arith) (refuse-most _ _ _ 9 (omega arith) (omega arith))))
-fault-most d (Take k) =
-    refuse-most _ _ _ 9 (omega arith) (refuse-most _ _ _ 9 (omega arith)
-    (refuse-most _ _ _ 9 (omega arith) (refuse-most _ _ _ 9 (omega arith) (omega arith))))
+fault-most d (Declare h) = search (refuse-most, needs) depth 12
+fault-most d (First w) = search (refuse-most, needs) depth 12
+fault-most d (Instruct t x) = search (refuse-most, needs) depth 12
+fault-most d (Want w) = search (refuse-most, needs) depth 12
+fault-most d (Passed t n) = search (refuse-most, needs) depth 12
+fault-most d (Take k) = search (refuse-most, needs) depth 12
 
--- What reading t answers, behind the bytes `done`
 pub record Told (done t : List ℕ) (r : Reading) : Type 0 where
   pub within : offsetOf (r .answer) ≤ length done + length t
   pub early : offsetOf (r .answer) ≤ longest
@@ -66,7 +56,9 @@ pub record Told (done t : List ℕ) (r : Reading) : Type 0 where
   pub sound : numberOf (r .answer) ≡ 0 → (d : Draft) × (front : ℕ) × Sound d front × (r .case ≡ d .case)
   pub back : IsBytes t → numberOf (r .answer) ≡ 0 → encodeOf (r .case) ≡ done ++ t
 
-told-refused : (done t : List ℕ) (m : ℕ) → length done ≤ longest → suc m ≤ 9 → Told done t (refusedOf (suc m) (length done))
+-- a refusal at the start of t
+told-refused : (done t : List ℕ) (m : ℕ) → length done ≤ longest → suc m ≤ 9
+    → Told done t (refusedOf (suc m) (length done))
 unfolding refusedOf
 told-refused done t m low most =
     record {
@@ -84,8 +76,11 @@ length-none [] h = refl
 length-none (x ∷ t) h = absurd (omega arith)
 
 -- a record was read, and what follows is told
-told-next : (done t : List ℕ) (r : Reading) (more : List ℕ) → openNo t ≡ 0 → length more ≡ sizeOf t → (IsBytes t → more ≡ take (sizeOf t) t)
-    → Told (done ++ more) (drop (sizeOf t) t) r → Told done t r
+told-next : (done t : List ℕ) (r : Reading) (more : List ℕ) → openNo t ≡ 0
+    → length more ≡ sizeOf t
+    → (IsBytes t → more ≡ take (sizeOf t) t)
+    → Told (done ++ more) (behind t) r
+    → Told done t r
 told-next done t r more op long same told =
     let w = open-whole t op .within in
     let a = length-append done more in
@@ -98,11 +93,12 @@ told-next done t r more op long same told =
       hands = told .hands;
       sound = told .sound;
       back = λ i z. told .back (bytes-drop (sizeOf t) t i) z
-          ∙ append-assoc done more (drop (sizeOf t) t)
-          ∙ ap (λ (x : List ℕ). done ++ (x ++ drop (sizeOf t) t)) (same i)
+          ∙ append-assoc done more (behind t)
+          ∙ ap (λ (x : List ℕ). done ++ (x ++ behind t)) (same i)
           ∙ ap (λ (x : List ℕ). done ++ x) (take-append-drop (sizeOf t) t);
     }
 
+-- nothing is left behind a sound draft
 told-ended : (d : Draft) (front : ℕ) (t : List ℕ) → Sound d front → length t ≡ 0
     → Told (encodeOf (d .case)) t (endedOf d (length (encodeOf (d .case))))
 unfolding endedOf
@@ -115,27 +111,36 @@ told-ended d front t s z =
       table = omega arith;
       hands = λ e. absurd (e refl);
       sound = λ e. (d, front, s, refl);
-      back = λ b e. sym (append-nil (encodeOf (d .case))) ∙ ap (λ (x : List ℕ). encodeOf (d .case) ++ x) (sym (length-none t z));
+      back = λ b e. sym (append-nil (encodeOf (d .case)))
+          ∙ ap (λ (x : List ℕ). encodeOf (d .case) ++ x) (sym (length-none t z));
     })
 
 -- a record's bytes behind those of a case are as long as its head says
-pub longer-by : (done t : List ℕ) → openNo t ≡ 0 → length (done ++ recordBytes (recordIn t)) ≡ length done + sizeOf t
-longer-by done t o = length-append done (recordBytes (recordIn t)) ∙ ap (λ (n : ℕ). length done + n) (open-size t o)
+pub longer-by : (done t : List ℕ) → openNo t ≡ 0
+    → length (done ++ recordBytes (recordIn t)) ≡ length done + sizeOf t
+longer-by done t o =
+    length-append done (recordBytes (recordIn t)) ∙ ap (λ (n : ℕ). length done + n) (open-size t o)
+
+abbrev ToldFrom : ℕ → Draft → List ℕ → Type 0
+ToldFrom n d t = Told (encodeOf (d .case)) t (readFrom n d (length (encodeOf (d .case))) t)
 
 -- a record was added, and what follows it is told
-told-added : (done t : List ℕ) (n : ℕ) (e : Draft) → openNo t ≡ 0 → encodeOf (e .case) ≡ done ++ recordBytes (recordIn t)
-    → Told (encodeOf (e .case)) (drop (sizeOf t) t) (readFrom n e (length (encodeOf (e .case))) (drop (sizeOf t) t))
-    → Told done t (readFrom n e (length done + sizeOf t) (drop (sizeOf t) t))
+told-added : (done t : List ℕ) (n : ℕ) (e : Draft) → openNo t ≡ 0
+    → encodeOf (e .case) ≡ done ++ recordBytes (recordIn t)
+    → ToldFrom n e (behind t)
+    → Told done t (readFrom n e (length done + sizeOf t) (behind t))
 told-added done t n e o longer told =
-    told-next done t _ (recordBytes (recordIn t)) o (open-size t o) (λ b. open-bytes t b o) (rw (longer, longer-by done t o) at told)
+    told-next done t _ (recordBytes (recordIn t)) o (open-size t o) (λ b. open-bytes t b o)
+    (rw (longer, longer-by done t o) at told)
 
 -- less is left behind a record
-pub less-left : (t : List ℕ) (n : ℕ) → openNo t ≡ 0 → length t < suc n → length (drop (sizeOf t) t) < n
+pub less-left : (t : List ℕ) (n : ℕ) → openNo t ≡ 0 → length t < suc n → length (behind t) < n
 less-left t n o f = let w = open-whole t o in omega (arith, length-drop (sizeOf t) t, w .head, w .within)
 
-module _ (n : ℕ) (t : List ℕ) (next : openNo t ≡ 0 → (d : Draft) (front : ℕ) → Sound d front
-    → Told (encodeOf (d .case)) (drop (sizeOf t) t) (readFrom n d (length (encodeOf (d .case))) (drop (sizeOf t) t))) where
-  told-turn : (d : Draft) (front : ℕ) → Sound d front → Told (encodeOf (d .case)) t (readFrom (suc n) d (length (encodeOf (d .case))) t)
+-- a turn of reading, if what follows is told: behind a sound draft, and from the start
+module _ (n : ℕ) (t : List ℕ)
+    (next : openNo t ≡ 0 → (d : Draft) (front : ℕ) → Sound d front → ToldFrom n d (behind t)) where
+  told-turn : (d : Draft) (front : ℕ) → Sound d front → ToldFrom (suc n) d t
   told-turn d front s =
       read-cases (Told (encodeOf (d .case)) t) n d (length (encodeOf (d .case))) t
       (λ z. told-ended d front t s z)
@@ -156,13 +161,14 @@ module _ (n : ℕ) (t : List ℕ) (next : openNo t ≡ 0 → (d : Draft) (front 
       (rw (b .1) (begun-longer (b .0) (b .2))) (next o _ 1 (rw (b .1) (begun-sound (b .0) (b .2)))))
 
 -- what reading behind a sound draft answers
-read-told : (n : ℕ) (d : Draft) (front : ℕ) (t : List ℕ) → length t < n → Sound d front
-    → Told (encodeOf (d .case)) t (readFrom n d (length (encodeOf (d .case))) t)
+read-told : (n : ℕ) (d : Draft) (front : ℕ) (t : List ℕ) → length t < n → Sound d front → ToldFrom n d t
 read-told zero d front t f s = absurd (omega arith)
 read-told (suc n) d front t f s =
-    told-turn n t (λ o e g h. read-told n e g (drop (sizeOf t) t) (less-left t n o f) h) d front s
+    told-turn n t (λ o e g h. read-told n e g (behind t) (less-left t n o f) h) d front s
 
 -- what reading answers
 pub read-all : (s : List ℕ) → Told [] s (readOf s)
 unfolding readOf
-read-all s = told-first (length s) s (λ o e g h. read-told (length s) e g (drop (sizeOf s) s) (less-left s (length s) o (omega arith)) h)
+read-all s =
+    told-first (length s) s (λ o e g h.
+    read-told (length s) e g (behind s) (less-left s (length s) o (omega arith)) h)

@@ -1,5 +1,5 @@
--- Laws of `sameList`, for a loop that compares two arrays from the front, and of `sameCase`: only a case itself is
--- the same. Assumes nothing.
+-- Laws of `sameList`, for a loop that compares two arrays from the front, and of `sameCase`: only a case itself
+-- is the same. Assumes nothing.
 use Prim.Native.Nat.{ℕ, _+_, _<_, _≤_}
 use mathlib.Core.Path.{_≡_, refl, sym, _∙_}
 use mathlib.Core.List.{List, [], _∷_, map}
@@ -32,10 +32,12 @@ pub record SameSoFar {A : Type 0} (e : A → A → Bool) (a b : List A) (n i : �
   pub within : i ≤ n
   pub rest : sameList e (drop i a) (drop i b) ≡ sameList e a b
 
+-- nothing is compared yet
 pub same-start : {A : Type 0} (e : A → A → Bool) (a b : List A) (n : ℕ) → length a ≡ n → length b ≡ n
     → SameSoFar e a b n 0
 same-start e a b n p q = record { sized = p; sized-other = q; within = omega arith; rest = refl }
 
+-- a turn of that loop: the two elements are the same; they are not; every element is compared
 module _ {A : Type 0} {e : A → A → Bool} {a b : List A} {n i : ℕ} (o : SameSoFar e a b n i) where
   module _ (d : A) (h : i < n) where
     same-at : sameList e a b
@@ -142,6 +144,7 @@ run-is r s h =
     let k = same-is sameStep step-is (r .steps) (s .steps) (count .1) in
     λ i. record { count = n i; steps = k i }
 
+-- so a case that the test calls the same is the same
 pub case-is : (c d : Case) → sameCase c d ≡ true → c ≡ d
 unfolding sameCase
 case-is c d h =
@@ -185,6 +188,7 @@ run-self : (r : Run) → sameRun r r ≡ true
 unfolding sameRun both
 run-self r = simp (number-self, same-self sameStep step-self)
 
+-- so a case is the same as itself
 pub case-self : (c : Case) → sameCase c c ≡ true
 unfolding sameCase both
 case-self c = simp (program-self, ask-self, run-self)

@@ -1,5 +1,5 @@
--- What holds of a draft after each record, and what a record more does to the case's file: its bytes are added at the end.
--- Records come at rising places: `front` is the place behind the last one. Assumes nothing.
+-- What holds of a draft after each record, and what a record more does to the case's file: its bytes are added
+-- at the end. Records come at rising places: `front` is the place behind the last one. Assumes nothing.
 use Prim.Native.Nat.{ℕ, suc, _+_, _*_, _<_, _≤_}
 use mathlib.Core.Path.{_≡_, refl, ap, _∙_}
 use mathlib.Core.Logic.{_≢_}
@@ -20,7 +20,8 @@ use Rattle.cases.specs.declared.places.Place.the-variants.{Holds, Empty}
 use Rattle.cases.specs.Sizes.{mostThreads, mostInstructions, mostLocations, mostSteps, mostCode}
 use Rattle.cases.specs.Record.{recordBytes}
 use Rattle.cases.specs.Draft.{addOf}
-use Rattle.cases.specs.Places.{fromFirsts, fromCode, fromWants, fromPassed, fromSteps, places, placeOf, placeBytes, bytesAt, encodeOf}
+use Rattle.cases.specs.Places.{fromFirsts, fromCode, fromWants, fromPassed, fromSteps}
+use Rattle.cases.specs.Places.{places, placeOf, placeBytes, bytesAt, encodeOf}
 use Rattle.cases.proofs.EachLaws.{each-more}
 use Rattle.cases.proofs.FitLaws.{RecordFits, PlaceFits, Grown, record-grown, place-grown}
 
@@ -59,6 +60,7 @@ pub record Fronts (d : Draft) (front : ℕ) : Type 0 where
   pub to-passed : d .kind ≤ 5 → (n : ℕ) → (d .kind ≡ 5 → d .next ≤ n) → front ≤ fromPassed + n
   pub to-steps : front ≤ fromSteps + d .case .run .count
 
+-- the case keeps to its sizes, no record stands at the front or behind it, and every record is in range
 pub record Sound (d : Draft) (front : ℕ) : Type 0 where
   pub sized : Sized (d .case)
   pub fronts : Fronts d front
@@ -71,7 +73,8 @@ pub record Added (d : Draft) (r : Record) : Type 0 where
   pub sound : Sound (addOf d r) (suc spot)
   pub longer : encodeOf (addOf d r .case) ≡ encodeOf (d .case) ++ recordBytes r
 
--- A record behind a sound draft: it stands at a place of its own, at the front or behind it, and every other place is as it was
+-- A record behind a sound draft: it stands at a place of its own, at the front or behind it, and every other
+-- place is as it was
 pub record Stands (d : Draft) (front : ℕ) (r : Record) (spot : ℕ) : Type 0 where
   pub reached : front ≤ spot
   pub inside : spot < places
@@ -82,7 +85,9 @@ pub record Stands (d : Draft) (front : ℕ) (r : Record) (spot : ℕ) : Type 0 w
   pub sized : Sized (addOf d r .case)
   pub fronts : Fronts (addOf d r) (suc spot)
 
-module _ (d : Draft) (front : ℕ) (s : Sound d front) (r : Record) (spot : ℕ) (stands : Stands d front r spot) where
+-- A record that stands so: its bytes are added at the end, no record stands behind it, and all are in range
+module _ (d : Draft) (front : ℕ) (s : Sound d front)
+    (r : Record) (spot : ℕ) (stands : Stands d front r spot) where
   add-longer : encodeOf (addOf d r .case) ≡ encodeOf (d .case) ++ recordBytes r
   unfolding encodeOf bytesAt placeBytes
   add-longer =
@@ -111,6 +116,11 @@ module _ (d : Draft) (front : ℕ) (s : Sound d front) (r : Record) (spot : ℕ)
   added =
       record {
         spot = spot;
-        sound = record { sized = stands .sized; fronts = stands .fronts; blank = add-blank; ranged = add-ranged };
+        sound = record {
+          sized = stands .sized;
+          fronts = stands .fronts;
+          blank = add-blank;
+          ranged = add-ranged;
+        };
         longer = add-longer;
       }

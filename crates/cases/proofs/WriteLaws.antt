@@ -1,5 +1,5 @@
--- Laws of what the reader and the writer hand to one another: the unread part, and a file in a buffer of the longest length.
--- Assumes nothing.
+-- Laws of what the reader and the writer hand to one another: the unread part, and a file in a buffer of the
+-- longest length; and of what the writer answers. Assumes nothing.
 use Prim.Native.Nat.{ℕ, _-_, _<_, _≤_}
 use mathlib.Core.Path.{_≡_, refl, sym, ap, _∙_}
 use mathlib.Core.Logic.{_≢_}
@@ -22,7 +22,7 @@ use Rattle.cases.proofs.ChoiceLaws.{pick-true, false-not}
 use Rattle.cases.proofs.LengthLaws.{encode-length}
 use Rattle.cases.proofs.RoundTrip.{read-all}
 
--- the offset of a reading of s
+-- the offset of a reading of s is within s, and what stands from there on is the unread part
 module _ (s : List ℕ) (r : Reading) (at : ℕ) (is-read : r ≡ readOf s) (is-at : at ≡ offsetOf (r .answer)) where
   pub unread-within : at ≤ length s
   unread-within = omega (arith, is-at ∙ ap (λ (x : Reading). offsetOf (x .answer)) is-read, read-all s .within)
@@ -39,11 +39,13 @@ module _ (s : List ℕ) (c : Case) (r : Reading) (is-read : r ≡ readOf s) wher
   unfolding readsAs both
   reads-none n e h = rw (← is-read, ← e, ne-eqb n 0 h)
 
-  pub reads-some : (n : ℕ) → n ≡ numberOf (r .answer) → n ≡ 0 → (b : Bool) → b ≡ sameCase c (r .case) → b ≡ readsAs s c
+  pub reads-some : (n : ℕ) → n ≡ numberOf (r .answer) → n ≡ 0
+      → (b : Bool) → b ≡ sameCase c (r .case)
+      → b ≡ readsAs s c
   unfolding readsAs both
   reads-some n e h b same = rw (← is-read, ← e, eq-eqb n 0 h) same
 
--- a case's file at the front of a blank buffer
+-- a case's file at the front of a blank buffer: it has room, it is the first n bytes, and they are read back
 module _ (c : Case) (blank : List ℕ) (is-blank : blank ≡ replicate longest 0) where
   pub file-room : length (encodeOf c) ≤ length blank
   file-room = rw is-blank (simp length-replicate (encode-length c))
@@ -74,24 +76,36 @@ module _ (c : Case) (out : List ℕ) where
   module _ (readable : readsBack c ≡ true) (n : ℕ) (is-length : n ≡ length (encodeOf c)) where
     pub write-short : length out < n → (Untouched 31 ≡ wroteOf c out) × (out ≡ writtenOf c out)
     unfolding wroteOf writtenOf pick
-    write-short h = (rw (readable, ← is-length, lt-ltb (length out) n h), rw (readable, ← is-length, lt-ltb (length out) n h))
+    write-short h =
+        let short = lt-ltb (length out) n h in
+        (rw (readable, ← is-length, short), rw (readable, ← is-length, short))
 
-    pub write-whole : n ≤ length out → (after : List ℕ) → after ≡ encodeOf c ++ drop (length (encodeOf c)) out
+    pub write-whole : n ≤ length out
+        → (after : List ℕ) → after ≡ encodeOf c ++ drop (length (encodeOf c)) out
         → (Stored n ≡ wroteOf c out) × (after ≡ writtenOf c out)
     unfolding wroteOf writtenOf pick
-    write-whole h after e = (rw (readable, ← is-length, le-ltb (length out) n h), rw (readable, le-ltb (length out) (length (encodeOf c)) (omega arith)) e)
+    write-whole h after e = (
+      rw (readable, ← is-length, le-ltb (length out) n h),
+      rw (readable, le-ltb (length out) (length (encodeOf c)) (omega arith)) e,
+    )
 
   -- back from the answer: what was stored
-  pub stored-is : (n : ℕ) → wroteOf c out ≡ Stored n
-      → (readsBack c ≡ true) × (n ≡ length (encodeOf c)) × (writtenOf c out ≡ encodeOf c ++ drop (length (encodeOf c)) out)
+  abbrev WasStored : ℕ → Type 0
+  WasStored n =
+      (readsBack c ≡ true)
+      × (n ≡ length (encodeOf c))
+      × (writtenOf c out ≡ encodeOf c ++ drop (length (encodeOf c)) out)
+
+  pub stored-is : (n : ℕ) → wroteOf c out ≡ Stored n → WasStored n
   unfolding wroteOf writtenOf pick
   stored-is n h = go (readsBack c) (ltb (length out) (length (encodeOf c))) refl refl
     where
-      go : (b t : Bool) → readsBack c ≡ b → ltb (length out) (length (encodeOf c)) ≡ t
-          → (readsBack c ≡ true) × (n ≡ length (encodeOf c)) × (writtenOf c out ≡ encodeOf c ++ drop (length (encodeOf c)) out)
+      go : (b t : Bool) → readsBack c ≡ b → ltb (length out) (length (encodeOf c)) ≡ t → WasStored n
       go false t p q = let e = rw p at h in absurd (let z : _≡_ {A = ℕ} 0 1 = cc in omega arith)
       go true true p q = let e = rw (p, q) at h in absurd (let z : _≡_ {A = ℕ} 0 1 = cc in omega arith)
-      go true false p q = let e : Stored (length (encodeOf c)) ≡ Stored n = rw (p, q) at h in (p, cc, rw (p, q))
+      go true false p q =
+          let e : Stored (length (encodeOf c)) ≡ Stored n = rw (p, q) at h in
+          (p, cc, rw (p, q))
 
   -- back from the answer: what a refusal leaves
   pub untouched-is : (m : ℕ) → wroteOf c out ≡ Untouched m → writtenOf c out ≡ out

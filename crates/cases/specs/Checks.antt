@@ -1,7 +1,10 @@
 -- Document 01, "Refusal numbers": what is wrong with a record that opens, after the records before it.
--- "Within a record the checks go in the order 1 (head), 2, 3, 1 (payload), 4, 5, 8, 6, 7, 9." Number 5 looks only at fields that
--- are used; an unused field is a matter for 8.
---   misplaced (4)    disordered (6)    ..Out (5)    ..Left (8): a field left over that is not used, or a 0 that says nothing
+-- "Within a record the checks go in the order 1 (head), 2, 3, 1 (payload), 4, 5, 8, 6, 7, 9." Number 5 looks
+-- only at fields that are used; an unused field is a matter for 8.
+--   misplaced        4
+--   disordered       6
+--   ..Out            5
+--   ..Left           8: a field left over that is not used, or a 0 that says nothing
 --   faultOf d r      0, or the number of the first fault of record r behind the draft d
 -- Assumes nothing.
 use Prim.Native.Nat.{ℕ}
@@ -23,8 +26,8 @@ use Rattle.cases.specs.Choice.{pick, both, either, refuse}
 unfoldable pub misplaced : ℕ → ℕ → Bool
 misplaced before kind = pick (eqb before 0) (not (eqb kind 1)) (either (eqb kind 1) (ltb kind before))
 
--- "Kinds 2 and 4 have locations strictly rising, kind 5 threads strictly rising, kind 3 threads never falling": the draft has the
--- least number that may come next in its kind.
+-- "Kinds 2 and 4 have locations strictly rising, kind 5 threads strictly rising, kind 3 threads never falling":
+-- the draft has the least number that may come next in its kind.
 unfoldable pub disordered : Draft → ℕ → ℕ → Bool
 disordered d kind n = both (eqb (d .kind) kind) (ltb n (d .next))
 
@@ -46,8 +49,9 @@ headerOut h =
     (either (outside (h .threads) mostThreads)
     (outside (h .locations) mostLocations))
 
--- "Operations (fields used): 1 store word (location, word); 2 store register (location, register); 3 load (location, register);
--- 4 exchange (location, register, word); 5 flush (location); 6 flush-opt (location); 7 sfence; 8 mfence."
+-- "Operations (fields used): 1 store word (location, word); 2 store register (location, register); 3 load
+-- (location, register); 4 exchange (location, register, word); 5 flush (location); 6 flush-opt (location);
+-- 7 sfence; 8 mfence."
 abbrev pub usesLocation : ℕ → Bool
 usesLocation op = leb op 6
 

@@ -1,5 +1,5 @@
--- A case while it is read: the case so far, the kind of the record before (0: none), and the least number that may come next in
--- that kind.
+-- A case while it is read: the case so far, the kind of the record before (0: none), and the least number that
+-- may come next in that kind.
 --   emptyCase   "the fixed empty one: one thread, one location, no further records"
 --   addOf d r   the draft with the record r behind it
 -- Assumes nothing.
@@ -104,11 +104,19 @@ unfoldable pub blankDraft : Draft
 blankDraft = record { case = emptyCase; kind = 0; next = 0 }
 
 unfoldable pub addOf : Draft → Record → Draft
-addOf d (Declare h) = record { case = withProgram (d .case) (withSizes (d .case .program) h); kind = 1; next = 0 }
+addOf d (Declare h) =
+    record { case = withProgram (d .case) (withSizes (d .case .program) h); kind = 1; next = 0 }
 addOf d (First w) =
-    record { case = withProgram (d .case) (withFirst (d .case .program) w); kind = 2; next = w .location .0 + 1 }
+    record {
+      case = withProgram (d .case) (withFirst (d .case .program) w);
+      kind = 2;
+      next = w .location .0 + 1;
+    }
 addOf d (Instruct t x) =
     record { case = withProgram (d .case) (withInstruction (d .case .program) t x); kind = 3; next = t .0 }
-addOf d (Want w) = record { case = withAsk (d .case) (withWant (d .case .ask) w); kind = 4; next = w .location .0 + 1 }
-addOf d (Passed t n) = record { case = withAsk (d .case) (withPassed (d .case .ask) t n); kind = 5; next = t .0 + 1 }
-addOf d (Take k) = record { case = withRun (d .case) (withStep (d .case .run) k); kind = 6; next = 0 }
+addOf d (Want w) =
+    record { case = withAsk (d .case) (withWant (d .case .ask) w); kind = 4; next = w .location .0 + 1 }
+addOf d (Passed t n) =
+    record { case = withAsk (d .case) (withPassed (d .case .ask) t n); kind = 5; next = t .0 + 1 }
+addOf d (Take k) =
+    record { case = withRun (d .case) (withStep (d .case .run) k); kind = 6; next = 0 }

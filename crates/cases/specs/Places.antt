@@ -1,6 +1,6 @@
--- Document 01, "Records of a case": a case as a file. A file has a place for each record that may stand in it, in one fixed order: the
--- program; the first content of each location; the instructions of each thread; the want of each location; the passed count of
--- each thread; the steps. A place holds a record or is empty.
+-- Document 01, "Records of a case": a case as a file. A file has a place for each record that may stand in it,
+-- in one fixed order: the program; the first content of each location; the instructions of each thread; the
+-- want of each location; the passed count of each thread; the steps. A place holds a record or is empty.
 --   placeOf c k    what stands at place k of the case's file
 --   bytesAt c k    its bytes: none where it is empty
 --   encodeOf c     the case's file

@@ -1,6 +1,8 @@
--- Document 01, "Records of a case" and "Refusal numbers": reading. "Records are checked from the left; the first faulty one decides."
+-- Document 01, "Records of a case" and "Refusal numbers": reading. "Records are checked from the left; the
+-- first faulty one decides."
 --   numberOf, offsetOf   the number that an answer stands for, and its offset
---   readFrom n d at s    what reading s answers, which lies at offset `at` behind the draft d; fewer than n records are left
+--   readFrom n d at s    what reading s answers, which lies at offset `at` behind the draft d; fewer than n
+--                        records are left
 --   readOf s             what reading s answers
 --   unreadOf s           the part of s that was not read
 -- Assumes nothing.

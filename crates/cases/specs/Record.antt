@@ -42,8 +42,9 @@ payloadOf k =
     (pick (eqb k 5) 2
     (pick (eqb k 6) 4 0)))))
 
--- kind 1: version (2 bytes), threads, locations. Kinds 2 and 4: location, word. Kind 3: thread, operation, location,
--- register, word. Kind 5: thread, least number of instructions issued. Kind 6: thread, code, position, location
+-- kind 1: version (2 bytes), threads, locations. Kinds 2 and 4: location, word. Kind 3: thread, operation,
+-- location, register, word. Kind 5: thread, least number of instructions issued. Kind 6: thread, code,
+-- position, location
 unfoldable pub payloadBytes : Record → List ℕ
 payloadBytes (Declare h) = halfBytes (h .version) ++ h .threads ∷ h .locations ∷ []
 payloadBytes (First w) = w .location .0 ∷ wordBytes (w .word)

@@ -1,4 +1,5 @@
-// What may be wrong with a record that opens, each fault by its name; `fault` tries them in 01's order: 4, 5, 8, 6, 7, 9.
+// What may be wrong with a record that opens, each fault by its name; `fault` tries them in 01's order:
+// 4, 5, 8, 6, 7, 9.
 use crate::case::Instruction;
 use crate::case::Program;
 use crate::case::Step;
@@ -13,7 +14,8 @@ use crate::sizes::REGISTERS;
 use crate::sizes::STEPS;
 use crate::sizes::THREADS;
 ghost use mathlib.Core.Path.{_≡_};
-ghost use Rattle.cases.specs.declared.record.Record.the-variants.{Declare, First, Instruct, Want, Passed, Take};
+ghost use Rattle.cases.specs.declared.record.Record.the-variants.{Declare, First, Instruct};
+ghost use Rattle.cases.specs.declared.record.Record.the-variants.{Want, Passed, Take};
 ghost use Rattle.cases.specs.Checks.{
   misplaced,
   disordered,

@@ -18,12 +18,14 @@ use crate::sizes::STEPS;
 use crate::sizes::THREADS;
 ghost use mathlib.Core.Path.{_≡_};
 ghost use Prim.Native.Nat.{_<_, _≤_};
-ghost use Rattle.cases.specs.declared.record.Record.the-variants.{Declare, First, Instruct, Want, Passed, Take};
+ghost use Rattle.cases.specs.declared.record.Record.the-variants.{Declare, First, Instruct};
+ghost use Rattle.cases.specs.declared.record.Record.the-variants.{Want, Passed, Take};
 ghost use Rattle.cases.specs.Sizes.{mostThreads, mostInstructions, mostLocations, mostSteps};
 ghost use Rattle.cases.specs.Checks.{countOf, faultOf};
 ghost use Rattle.cases.specs.Draft.{emptyCase, blankDraft, addOf};
 
-// The case so far, the kind of the record before (0: none), and the least number that may come next in that kind.
+// The case so far, the kind of the record before (0: none), and the least number that may come next in that
+// kind.
 pub struct Draft {
     pub case: Case,
     pub kind: u8,
@@ -170,7 +172,9 @@ fn add_step(d: Draft, k: Step) -> Draft
 
 // The draft with a faultless record behind it.
 pub(crate) fn add(d: Draft, r: Record) -> Draft
-    requires { ⌜ (d .case .program .threads ≤ mostThreads) × (d .case .program .locations ≤ mostLocations) × (faultOf d r ≡ 0) ⌝ }
+    requires { ⌜ (d .case .program .threads ≤ mostThreads)
+        × (d .case .program .locations ≤ mostLocations)
+        × (faultOf d r ≡ 0) ⌝ }
     ensures { λ z. ⌜ z ≡ addOf d r ⌝ }
 {
     match r {

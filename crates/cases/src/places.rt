@@ -157,7 +157,8 @@ fn place_at(c: Case, k: usize) -> Place
 // Puts the case's file at the front of bytes that it fits into, and says how long it is.
 pub(crate) fn encode(c: Case, out: &mut [u8]) -> usize
     requires { ⌜ length (encodeOf c) ≤ length (now out) ⌝ }
-    ensures { λ r. ⌜ (r ≡ length (encodeOf c)) × (now (out .exit) ≡ encodeOf c ++ drop (length (encodeOf c)) (now (out .entry))) ⌝ }
+    ensures { λ r. ⌜ (r ≡ length (encodeOf c))
+        × (now (out .exit) ≡ encodeOf c ++ drop (length (encodeOf c)) (now (out .entry))) ⌝ }
 {
     let mut at = 0;
     let mut k = 0;

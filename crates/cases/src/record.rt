@@ -10,11 +10,11 @@ use crate::case::Step;
 use crate::case::Thread;
 use crate::case::Write;
 ghost use mathlib.Core.Path.{_≡_};
-ghost use mathlib.Core.List.{[], _∷_};
+ghost use mathlib.Core.List.{_∷_};
 ghost use Prim.Native.Nat.{_+_, _≤_};
 ghost use lib.ListN.{length};
 ghost use lib.Seq.{sets};
-ghost use Rattle.cases.specs.declared.record.Record.the-variants.{Declare, First, Instruct, Want, Passed, Take};
+ghost use Rattle.cases.specs.declared.record.Record.the-variants.{Declare, Instruct, Passed, Take};
 ghost use Rattle.cases.specs.Bytes.{wordBytes};
 ghost use Rattle.cases.specs.Record.{
   payloadOf,
@@ -279,7 +279,8 @@ fn packed_record(r: Record) -> Packed
 // Puts the record's bytes from `at` on, and says where they end.
 pub(crate) fn put_record(out: &mut [u8], at: usize, r: Record) -> usize
     requires { ⌜ at + length (recordBytes r) ≤ length (now out) ⌝ }
-    ensures { λ z. ⌜ (z ≡ at + length (recordBytes r)) × (now (out .exit) ≡ sets (now (out .entry)) at (recordBytes r)) ⌝ }
+    ensures { λ z. ⌜ (z ≡ at + length (recordBytes r))
+        × (now (out .exit) ≡ sets (now (out .entry)) at (recordBytes r)) ⌝ }
 {
     let p = packed_record(r);
     let n = p.length;

@@ -1,4 +1,5 @@
-// Reads a case from standard input, of any length, and says what it is: READ and its length, or REFUSED, the number and the offset.
+// Reads a case from standard input, of any length, and says what it is: READ and its length, or REFUSED, the
+// number and the offset.
 use cases::reader::Answer;
 use libc::STDIN_FILENO;
 use libc::STDOUT_FILENO;

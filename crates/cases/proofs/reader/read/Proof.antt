@@ -1,14 +1,14 @@
--- `read` meets its contract. The loop's invariant: what is read from `at` on, behind the draft, is what is read of the whole input.
--- The measure is what is left of the input. Assumes nothing.
+-- `read` meets its contract. The loop's invariant: what is read from `at` on, behind the draft, is what is read
+-- of the whole input. The measure is what is left of the input. Assumes nothing.
 use Prim.Native.Nat.{_-_}
-use mathlib.Core.Path.{_≡_, sym, ap, _∙_}
+use mathlib.Core.Path.{sym, ap, _∙_}
 use lib.ListN.{length}
 use borrow.Author.Needs.{needs}
 use native.Mathlib.Omega.{arith}
 use Rattle.cases.specs.Record.{openedNo}
-use Rattle.cases.specs.Checks.{faultOf}
-use Rattle.cases.specs.Reading.{refusedOf, endedOf}
-use Rattle.cases.proofs.ReadLaws.{ReadSoFar, read-start, read-none, read-whole, read-faulty, read-fault, read-within, read-next}
+use Rattle.cases.specs.Reading.{refusedOf}
+use Rattle.cases.proofs.ReadLaws.{ReadSoFar, read-start, read-none, read-whole}
+use Rattle.cases.proofs.ReadLaws.{read-faulty, read-fault, read-within, read-next}
 use Rattle.cases.proofs.reader.read.Statement.{statement}
 use Rattle.cases.proofs.reader.read.Tie as tie
 
@@ -69,7 +69,8 @@ returns-2 c =
     let l = o .before .before .before in
     let e = sym (c .before .before .before .before .opened .given .1) ∙ o .open-record .ensures in
     c .refused2 .ensures
-    ∙ read-fault (l .loop .inv) (o .before .before .loop-test .taken) _ e _ (c .before .before .fault .ensures) (c .before .if1 .taken)
+    ∙ read-fault (l .loop .inv) (o .before .before .loop-test .taken) _ e _
+    (c .before .before .fault .ensures) (c .before .if1 .taken)
 
 add-requires : tie.Need-add-requires Inv-loop μ-loop
 add-requires c κs =
@@ -84,7 +85,8 @@ add-at c =
     let o = c .before .before .before .before .before .before .before in
     let l = o .before .before .before in
     let e = sym (c .before .before .before .before .before .opened .given .1) ∙ o .open-record .ensures in
-    omega (arith, read-within (l .loop .inv) (o .before .before .loop-test .taken) _ e _ (c .size .ensures) .1, l .before .before .before .good .0 .0)
+    let w = read-within (l .loop .inv) (o .before .before .loop-test .taken) _ e _ (c .size .ensures) in
+    omega (arith, w .1, l .before .before .before .good .0 .0)
 
 loop-less : tie.Need-loop-less Inv-loop μ-loop
 loop-less c =
@@ -100,7 +102,8 @@ loop-again c =
     let l = o .before .before .before in
     let e = sym (c .before .before .before .before .before .opened .given .1) ∙ o .open-record .ensures in
     let clean = sym (c .before .before .before .fault .ensures) ∙ c .before .before .if1 .left in
-    read-next (l .loop .inv) (o .before .before .loop-test .taken) _ e clean _ (c .size .ensures) _ (c .before .add .ensures)
+    read-next (l .loop .inv) (o .before .before .loop-test .taken) _ e clean
+    _ (c .size .ensures) _ (c .before .add .ensures)
 
 refused-requires-3 : tie.Need-refused-requires-3 Inv-loop μ-loop
 refused-requires-3 c κs = search needs
@@ -108,7 +111,8 @@ refused-requires-3 c κs = search needs
 returns-3 : tie.Need-returns-3 Inv-loop μ-loop
 returns-3 c =
     let l = c .before .before .before .before in
-    c .refused3 .ensures ∙ read-none (l .loop .inv) (c .before .before .before .loop-test .left) (c .before .if2 .taken)
+    c .refused3 .ensures
+    ∙ read-none (l .loop .inv) (c .before .before .before .loop-test .left) (c .before .if2 .taken)
 
 returns-4 : tie.Need-returns-4 Inv-loop μ-loop
 returns-4 c =

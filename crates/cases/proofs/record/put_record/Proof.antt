@@ -1,5 +1,5 @@
--- `put_record` meets its contract. The loop's invariant: the first `i` of the packed bytes are put, and the rest
--- of the lent bytes is as it was. The measure is how many are left to put. Assumes nothing.
+-- `put_record` meets its contract. The loop's invariant: the first `i` of the packed bytes are put, and the
+-- rest of the lent bytes is as it was. The measure is how many are left to put. Assumes nothing.
 use Prim.Native.Nat.{_≤_, _+_, _-_}
 use mathlib.Core.Path.{_≡_, refl, _∙_}
 use lib.ListN.{length, length-set}

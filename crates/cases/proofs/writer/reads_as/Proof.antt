@@ -19,7 +19,8 @@ same-case-requires c κs = search needs
 returns-2 : tie.Need-returns-2
 returns-2 c =
     let n = c .before .before .before in
-    reads-some _ _ _ (n .before .read .ensures) _ (n .number .ensures) (c .before .before .if1 .left) _ (c .same-case .ensures)
+    reads-some _ _ _ (n .before .read .ensures) _ (n .number .ensures) (c .before .before .if1 .left)
+    _ (c .same-case .ensures)
 
 pub reads-as-spec : {M : Type 1} → statement M
 reads-as-spec =

@@ -29,7 +29,8 @@ reads-as-requires c κs = search needs
 returns : tie.Need-returns
 returns c =
     let e = c .before .before .before in
-    file-reads _ _ (e .before .before .blank-file .ensures) _ _ (e .encode .ensures .0) (e .encode .ensures .1) _ (c .reads-as .ensures)
+    file-reads _ _ (e .before .before .blank-file .ensures) _ _ (e .encode .ensures .0) (e .encode .ensures .1)
+    _ (c .reads-as .ensures)
 
 pub reads-back-spec : {M : Type 1} → statement M
 reads-back-spec =

@@ -1,7 +1,8 @@
 -- `write` meets its contract: for each way out, the law of that way. Assumes nothing.
 use borrow.Author.Needs.{needs}
 use Rattle.cases.proofs.ChoiceLaws.{told-true, told-false}
-use Rattle.cases.proofs.WriteLaws.{file-room, file-within, file-count, file-reads, write-unreadable, write-short, write-whole}
+use Rattle.cases.proofs.WriteLaws.{file-room, file-within, file-count, file-reads}
+use Rattle.cases.proofs.WriteLaws.{write-unreadable, write-short, write-whole}
 use Rattle.cases.proofs.writer.write.Statement.{statement}
 use Rattle.cases.proofs.writer.write.Tie as tie
 
@@ -30,15 +31,15 @@ reads-as-requires c κs = search needs
 returns : tie.Need-returns
 returns c =
     let e = c .before .before .before .before in
-    let r = file-reads _ _ (e .before .before .blank-file .ensures) _ _ (e .encode .ensures .0) (e .encode .ensures .1) _
-    (c .before .reads-as .ensures) in
+    let r = file-reads _ _ (e .before .before .blank-file .ensures) _ _ (e .encode .ensures .0)
+    (e .encode .ensures .1) _ (c .before .reads-as .ensures) in
     write-unreadable _ _ (told-false _ _ r (c .if1 .taken))
 
 returns-2 : tie.Need-returns-2
 returns-2 c =
     let e = c .before .before .before .before .before in
-    let r = file-reads _ _ (e .before .before .blank-file .ensures) _ _ (e .encode .ensures .0) (e .encode .ensures .1) _
-    (c .before .before .reads-as .ensures) in
+    let r = file-reads _ _ (e .before .before .blank-file .ensures) _ _ (e .encode .ensures .0)
+    (e .encode .ensures .1) _ (c .before .before .reads-as .ensures) in
     write-short _ _ (told-true _ _ r (c .before .if1 .left)) _ (e .encode .ensures .0) (c .if2 .taken)
 
 encode-requires-2 : tie.Need-encode-requires-2
@@ -51,9 +52,10 @@ returns-3 : tie.Need-returns-3
 returns-3 c =
     let e = c .before .before .before .before .before .before .before .before .before in
     let i = c .before .before .before .before in
-    let r = file-reads _ _ (e .before .before .blank-file .ensures) _ _ (e .encode .ensures .0) (e .encode .ensures .1) _
-    (i .before .before .reads-as .ensures) in
-    write-whole _ _ (told-true _ _ r (i .before .if1 .left)) _ (e .encode .ensures .0) (i .if2 .left) _ (c .before .before .encode2 .ensures .1)
+    let r = file-reads _ _ (e .before .before .blank-file .ensures) _ _ (e .encode .ensures .0)
+    (e .encode .ensures .1) _ (i .before .before .reads-as .ensures) in
+    write-whole _ _ (told-true _ _ r (i .before .if1 .left)) _ (e .encode .ensures .0) (i .if2 .left)
+    _ (c .before .before .encode2 .ensures .1)
 
 pub write-spec : {M : Type 1} → statement M
 write-spec =
