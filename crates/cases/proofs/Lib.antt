@@ -1,23 +1,27 @@
--- The laws of cases.
+-- The laws of cases. Other crates can name Promises alone.
+pub mod Promises
+-- definitions' own laws: choices, bytes, records, places, checks, drafts
 mod ChoiceLaws
+mod BytesLaws
+mod RecordLaws
 mod EachLaws
 mod PlaceLaws
-mod RecordLaws
-mod PutLaws
-mod EncodeLaws
 mod FitLaws
-mod SoundLaws
-mod CountLaws
-mod AddLaws
-mod BytesLaws
-mod ReadLaws
-mod LengthLaws
-mod BlankLaws
-mod RoundTrip
-mod PrefixLaws
-mod BytewiseLaws
-mod RangeLaws
 mod DraftLaws
 mod SameLaws
+-- a record more: what it does to the case and to its file
+mod CountLaws
+mod SoundLaws
+mod AddLaws
+mod BlankLaws
+-- whole inputs and whole files
+mod ReadLaws
+mod LengthLaws
+mod RoundTrip
+mod PrefixLaws
+mod RangeLaws
+mod BytewiseLaws
+-- bytes put into lent bytes, and the writer
+mod PutLaws
+mod EncodeLaws
 mod WriteLaws
-pub mod Promises

@@ -1,4 +1,7 @@
 -- `taken_fault` meets its contract. Assumes nothing.
+use Prim.Native.Nat.{_≤_}
+use native.Mathlib.Omega.{arith}
+use Rattle.cases.specs.Sizes.{mostSteps}
 use Rattle.cases.specs.Checks.{faultOf}
 use Rattle.cases.proofs.ChoiceLaws.{choices}
 use borrow.Author.Needs.{needs}
@@ -31,7 +34,10 @@ cast-if4 c = search needs
 
 returns-4 : tie.Need-returns-4
 unfolding faultOf
-returns-4 c = search choices
+returns-4 c =
+    let start = c .before .before .before .before .before .before .before .before .before in
+    let full : mostSteps ≤ start .args .d .case .run .count = omega arith in
+    search choices
 
 returns-5 : tie.Need-returns-5
 unfolding faultOf
