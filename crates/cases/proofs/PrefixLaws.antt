@@ -200,3 +200,17 @@ read-prefix s m b =
     (omega arith) (omega arith) (omega arith) (omega arith)
     (prefix-from (length s) k (addOf blankDraft (recordIn s)) 1 (m - sizeOf s) (behind s)
     (rw (f .1) (begun-sound (f .0) (f .2)))))
+
+-- the number that reading counts down never decides, once it is above the input's length
+pub fuel-same : (n k : ℕ) (d : Draft) (at : ℕ) (t : List ℕ) → length t < n → length t < k
+    → readFrom k d at t ≡ readFrom n d at t
+fuel-same zero k d at t f g = absurd (omega arith)
+fuel-same (suc n) zero d at t f g = absurd (omega arith)
+fuel-same (suc n) (suc k) d at t f g =
+    let m : ℕ = length t + longestRecord in
+    sym (ap (readFrom (suc k) d at) (take-all m t (omega arith)))
+    ∙ turn-prefix t m (omega arith) n k d at (λ o h.
+    let size = size-most t o in
+    let left = length-drop (sizeOf t) t in
+    ap (readFrom k (addOf d (recordIn t)) (at + sizeOf t)) (take-all (m - sizeOf t) (behind t) (omega arith))
+    ∙ fuel-same n k (addOf d (recordIn t)) (at + sizeOf t) (behind t) (less-left t n o f) (less-left t k o g))

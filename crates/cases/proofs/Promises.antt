@@ -1,5 +1,5 @@
 -- What cases promises to the layers above: all that they may cite. Each law is stated in full. Assumes nothing.
-use Prim.Native.Nat.{ℕ, _+_, _*_, _^_, _<_, _≤_}
+use Prim.Native.Nat.{ℕ, suc, _+_, _*_, _^_, _<_, _≤_}
 use mathlib.Core.Path.{_≡_, refl, sym, ap, _∙_}
 use mathlib.Core.Logic.{_≢_, _↔_}
 use mathlib.Core.List.{List, [], _++_}
@@ -14,14 +14,14 @@ use Rattle.cases.specs.declared.writer.Wrote.the-variants.{Stored, Untou
 use Rattle.cases.specs.Sizes.{longest, longestRecord}
 use Rattle.cases.specs.Choice.{both}
 use Rattle.cases.specs.Bytes.{IsBytes}
-use Rattle.cases.specs.Draft.{emptyCase}
-use Rattle.cases.specs.Reading.{numberOf, offsetOf, readOf, unreadOf}
+use Rattle.cases.specs.Draft.{emptyCase, blankDraft}
+use Rattle.cases.specs.Reading.{numberOf, offsetOf, readFrom, readOf, unreadOf}
 use Rattle.cases.specs.Places.{encodeOf}
 use Rattle.cases.specs.Ranges.{Ranged}
 use Rattle.cases.specs.Writing.{readsAs, readsBack, wroteOf, writtenOf}
 use Rattle.cases.proofs.ChoiceLaws.{both-true}
 use Rattle.cases.proofs.RoundTrip.{read-all}
-use Rattle.cases.proofs.PrefixLaws.{read-prefix}
+use Rattle.cases.proofs.PrefixLaws.{read-prefix, fuel-same}
 use Rattle.cases.proofs.BytewiseLaws.{sound-bytes}
 use Rattle.cases.proofs.RangeLaws.{sound-ranged}
 use Rattle.cases.proofs.WriteLaws.{stored-is, untouched-is}
@@ -61,6 +61,11 @@ module _ (s : List ℕ) where
   -- no byte behind the longest file and one record more is looked at
   pub prefix-decides : (m : ℕ) → longest + longestRecord ≤ m → readOf (take m s) ≡ readOf s
   prefix-decides m h = read-prefix s m h
+
+  -- the number that the definition counts down never decides
+  pub fuel-never-decides : (n : ℕ) → length s < n → readFrom n blankDraft 0 s ≡ readOf s
+  unfolding readOf
+  fuel-never-decides n h = fuel-same (suc (length s)) n blankDraft 0 s (omega arith) h
 
 -- "A case written and read back is the same case, and the same bytes."
 -- any bytes that read give, written, the same bytes
