@@ -1,7 +1,7 @@
--- The laws of cases. Other crates can name Promises alone.
+-- The laws of cases. Other crates can name Promises, and the laws of how definitions choose, alone.
 pub mod Promises
--- definitions' own laws: choices, bytes, records, places, checks, drafts
-mod ChoiceLaws
+pub mod ChoiceLaws
+-- definitions' own laws: bytes, records, places, checks, drafts
 mod BytesLaws
 mod RecordLaws
 mod EachLaws

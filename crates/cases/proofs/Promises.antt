@@ -79,6 +79,12 @@ pub read-reads-back : (s : List ℕ) → IsBytes s → numberOf (readOf s .answe
 unfolding readsBack readsAs both
 read-reads-back s b h = rw (write-after-read s b h, eq-eqb _ 0 h) (case-self (readOf s .case))
 
+-- a case that is handed out with 0 has every number in range
+pub read-ranged : (s : List ℕ) → numberOf (readOf s .answer) ≡ 0 → Ranged (readOf s .case)
+read-ranged s h =
+    let d = read-all s .sound h in
+    rw (sym (d .3)) at (sound-ranged (d .0) (d .1) (d .2))
+
 -- A case that passes the test for 32
 module _ (c : Case) (readable : readsBack c ≡ true) where
   file-number : numberOf (readOf (encodeOf c) .answer) ≡ 0
@@ -104,9 +110,7 @@ module _ (c : Case) (readable : readsBack c ≡ true) where
 
   -- and every number of it is in range
   pub readable-ranged : Ranged c
-  readable-ranged =
-      let d = read-all (encodeOf c) .sound file-number in
-      rw (sym (d .3) ∙ file-case) at (sound-ranged (d .0) (d .1) (d .2))
+  readable-ranged = rw file-case at (read-ranged (encodeOf c) file-number)
 
 -- 32 refuses a case exactly when no byte string reads as it
 pub readable-exactly : (c : Case)

@@ -1,0 +1,321 @@
+-- The candidates are exactly the steps that 5 and 8 have nothing against, in 01's order, once each; and so the
+-- legal ones among them. Assumes nothing.
+use Prim.Native.Nat.{ℕ, zero, suc, _+_, _*_, _≤_, _<_}
+use mathlib.Core.Path.{_≡_, refl, sym, ap, _∙_, subst}
+use mathlib.Core.Logic.{_⊎_, inl, inr, _≢_}
+use mathlib.Core.Bool.{Bool, true, false}
+use mathlib.Core.List.{List, [], _∷_, _++_, append-assoc}
+use native.Mathlib.Omega.{arith}
+use native.Mathlib.Nat.{eq-or-lt-of-le}
+use borrow.Author.Tests.{eqb-true, eqb-false, lt-leb}
+use lib.Dec.{eqb}
+use Rattle.cases.specs.declared.case.Step.{Step}
+use Rattle.cases.specs.declared.case.Program.{Program}
+use Rattle.cases.specs.Choice.{pick, both, either, refuse}
+use Rattle.cases.specs.Checks.{stepFault, stepOut, stepLeft, beyond, leftOver}
+use Rattle.cases.specs.Sizes.{mostInstructions, mostLocations, mostCode}
+use Rattle.machine.specs.declared.cells.State.{State}
+use Rattle.machine.specs.Rules.{ruleOf}
+use Rattle.machine.specs.Fit.{ProgramFits}
+use Rattle.machine.proofs.StepLaws.{InRange, fault-none}
+use Rattle.machine.specs.Next.{issueStep, moveStep, persistStep, issuesFrom, movesAt, movesFrom}
+use Rattle.machine.specs.Next.{persistsFrom, candidates, allowed, legalSteps, rankOf, Rising, Listed}
+
+-- Rising
+rising-low : (n m : ℕ) (ks : List Step) → n ≤ m → Rising m ks → Rising n ks
+unfolding Rising
+rising-low n m [] h r = tt
+rising-low n m (k ∷ ks) h r = (let a = r .0 in omega arith, r .1)
+
+-- the ranks of the three kinds of steps
+issue-rank : (t : ℕ) → rankOf (issueStep t) ≡ t * mostInstructions
+unfolding rankOf
+issue-rank t = omega arith
+
+move-rank : (t i : ℕ) → rankOf (moveStep t i) ≡ mostCode + mostLocations + t * mostInstructions + i
+unfolding rankOf
+move-rank t i = omega arith
+
+persist-rank : (l : ℕ) → rankOf (persistStep l) ≡ 2 * (mostCode + mostLocations) + l
+unfolding rankOf
+persist-rank l = omega arith
+
+-- one kind rises, and what comes behind it begins above it
+rising-issues : (t m n : ℕ) (rest : List Step) → n ≤ t * mostInstructions
+    → Rising ((t + m) * mostInstructions) rest
+    → Rising n (issuesFrom t m ++ rest)
+unfolding issuesFrom Rising
+rising-issues t zero n rest h r = rising-low n _ rest (omega arith) r
+rising-issues t (suc m) n rest h r =
+    let e = issue-rank t in (
+      omega arith,
+      rising-issues (suc t) m _ rest (omega arith) (rising-low _ _ rest (omega arith) r),
+    )
+
+rising-positions : (t i m n : ℕ) (rest : List Step) → n ≤ mostCode + mostLocations + t * mostInstructions + i
+    → Rising (mostCode + mostLocations + t * mostInstructions + i + m) rest
+    → Rising n (movesAt t i m ++ rest)
+unfolding movesAt Rising
+rising-positions t i zero n rest h r = rising-low n _ rest (omega arith) r
+rising-positions t i (suc m) n rest h r =
+    let e = move-rank t i in (
+      omega arith,
+      rising-positions t (suc i) m _ rest (omega arith) (rising-low _ _ rest (omega arith) r),
+    )
+
+rising-moves : (t m n : ℕ) (rest : List Step) → n ≤ mostCode + mostLocations + t * mostInstructions
+    → Rising (mostCode + mostLocations + (t + m) * mostInstructions) rest
+    → Rising n (movesFrom t m ++ rest)
+unfolding movesFrom
+rising-moves t zero n rest h r = rising-low n _ rest (omega arith) r
+rising-moves t (suc m) n rest h r =
+    rw (append-assoc (movesAt t 0 mostInstructions))
+    (rising-positions t 0 mostInstructions n _ (omega arith)
+    (rising-moves (suc t) m _ rest (omega arith) (rising-low _ _ rest (omega arith) r)))
+
+rising-persists : (l m n : ℕ) → n ≤ 2 * (mostCode + mostLocations) + l → Rising n (persistsFrom l m)
+unfolding persistsFrom Rising
+rising-persists l zero n h = tt
+rising-persists l (suc m) n h =
+    let e = persist-rank l in (omega arith, rising-persists (suc l) m _ (omega arith))
+
+rising-allowed : (rule : Step → ℕ) (n : ℕ) (ks : List Step) → Rising n ks → Rising n (allowed rule ks)
+unfolding allowed Rising pick
+rising-allowed rule n [] r = tt
+rising-allowed rule n (k ∷ ks) r = go (eqb (rule k) 0) (rising-allowed rule (suc (rankOf k)) ks (r .1))
+  where
+    go : (b : Bool) → Rising (suc (rankOf k)) (allowed rule ks)
+        → Rising n (pick b (k ∷ allowed rule ks) (allowed rule ks))
+    go true ih = (r .0, ih)
+    go false ih = rising-low n (suc (rankOf k)) (allowed rule ks) (let a = r .0 in omega arith) ih
+
+pub candidates-rising : (p : Program) → ProgramFits p → Rising 0 (candidates p)
+unfolding candidates
+candidates-rising p g =
+    let f = g .few-threads in
+    rw (append-assoc (issuesFrom 0 (p .threads)))
+    (rising-issues 0 (p .threads) 0 _ (omega arith)
+    (rising-moves 0 (p .threads) _ _ (omega arith)
+    (rising-persists 0 (p .locations) _ (omega arith))))
+
+pub legal-rising : (p : Program) (s : State) → ProgramFits p → Rising 0 (legalSteps p s)
+unfolding legalSteps
+legal-rising p s g = rising-allowed (ruleOf p s) 0 (candidates p) (candidates-rising p g)
+
+-- Listed: in the first of two lists, in the second, in one of them
+listed-left : (k : Step) (ks js : List Step) → Listed k ks → Listed k (ks ++ js)
+unfolding Listed
+listed-left k [] js h = absurd h
+listed-left k (j ∷ ks) js (inl e) = inl e
+listed-left k (j ∷ ks) js (inr h) = inr (listed-left k ks js h)
+
+listed-right : (k : Step) (ks js : List Step) → Listed k js → Listed k (ks ++ js)
+unfolding Listed
+listed-right k [] js h = h
+listed-right k (j ∷ ks) js h = inr (listed-right k ks js h)
+
+listed-either : (k : Step) (ks js : List Step) → Listed k (ks ++ js) → Listed k ks ⊎ Listed k js
+unfolding Listed
+listed-either k [] js h = inr h
+listed-either k (j ∷ ks) js (inl e) = inl (inl e)
+listed-either k (j ∷ ks) js (inr h) = go (listed-either k ks js h)
+  where
+    go : Listed k ks ⊎ Listed k js → ((k ≡ j) ⊎ Listed k ks) ⊎ Listed k js
+    go (inl a) = inl (inr a)
+    go (inr a) = inr a
+
+-- among the allowed are exactly the listed ones that the rule has nothing against
+pub allowed-listed : (rule : Step → ℕ) (k : Step) (ks : List Step) → Listed k ks → rule k ≡ 0
+    → Listed k (allowed rule ks)
+unfolding allowed Listed pick
+allowed-listed rule k [] h e = h
+allowed-listed rule k (j ∷ ks) h e = go (eqb (rule j) 0) refl h (allowed-listed rule k ks)
+  where
+    go : (b : Bool) → eqb (rule j) 0 ≡ b → (k ≡ j) ⊎ Listed k ks
+        → (Listed k ks → rule k ≡ 0 → Listed k (allowed rule ks))
+        → Listed k (pick b (j ∷ allowed rule ks) (allowed rule ks))
+    go true q (inl d) ih = inl d
+    go true q (inr d) ih = inr (ih d e)
+    go false q (inl d) ih = absurd (eqb-false _ _ q (sym (ap rule d) ∙ e))
+    go false q (inr d) ih = ih d e
+
+pub listed-allowed : (rule : Step → ℕ) (k : Step) (ks : List Step) → Listed k (allowed rule ks)
+    → Listed k ks × (rule k ≡ 0)
+unfolding allowed Listed pick
+listed-allowed rule k [] h = absurd h
+listed-allowed rule k (j ∷ ks) h = go (eqb (rule j) 0) refl h (listed-allowed rule k ks)
+  where
+    go : (b : Bool) → eqb (rule j) 0 ≡ b → Listed k (pick b (j ∷ allowed rule ks) (allowed rule ks))
+        → (Listed k (allowed rule ks) → Listed k ks × (rule k ≡ 0))
+        → ((k ≡ j) ⊎ Listed k ks) × (rule k ≡ 0)
+    go true q (inl d) ih = (inl d, ap rule d ∙ eqb-true _ _ q)
+    go true q (inr d) ih = let r = ih d in (inr (r .0), r .1)
+    go false q d ih = let r = ih d in (inr (r .0), r .1)
+
+-- A candidate of each kind is listed
+listed-issue : (t m i : ℕ) → t ≤ i → i < t + m → Listed (issueStep i) (issuesFrom t m)
+unfolding issuesFrom Listed
+listed-issue t zero i h k = absurd (omega arith)
+listed-issue t (suc m) i h k = go (eq-or-lt-of-le h) (listed-issue (suc t) m i)
+  where
+    go : (t ≡ i) ⊎ (t < i) → (suc t ≤ i → i < suc t + m → Listed (issueStep i) (issuesFrom (suc t) m))
+        → (issueStep i ≡ issueStep t) ⊎ Listed (issueStep i) (issuesFrom (suc t) m)
+    go (inl e) ih = inl (ap issueStep (sym e))
+    go (inr l) ih = inr (ih l (omega arith))
+
+listed-position : (t i m j : ℕ) → i ≤ j → j < i + m → Listed (moveStep t j) (movesAt t i m)
+unfolding movesAt Listed
+listed-position t i zero j h k = absurd (omega arith)
+listed-position t i (suc m) j h k = go (eq-or-lt-of-le h) (listed-position t (suc i) m j)
+  where
+    go : (i ≡ j) ⊎ (i < j) → (suc i ≤ j → j < suc i + m → Listed (moveStep t j) (movesAt t (suc i) m))
+        → (moveStep t j ≡ moveStep t i) ⊎ Listed (moveStep t j) (movesAt t (suc i) m)
+    go (inl e) ih = inl (ap (moveStep t) (sym e))
+    go (inr l) ih = inr (ih l (omega arith))
+
+listed-move : (t m i j : ℕ) → t ≤ i → i < t + m → j < mostInstructions → Listed (moveStep i j) (movesFrom t m)
+unfolding movesFrom
+listed-move t zero i j h k l = absurd (omega arith)
+listed-move t (suc m) i j h k l = go (eq-or-lt-of-le h) (listed-move (suc t) m i j)
+  where
+    go : (t ≡ i) ⊎ (t < i)
+        → (suc t ≤ i → i < suc t + m → j < mostInstructions → Listed (moveStep i j) (movesFrom (suc t) m))
+        → Listed (moveStep i j) (movesAt t 0 mostInstructions ++ movesFrom (suc t) m)
+    go (inl e) ih =
+        rw (← e) (listed-left _ _ (movesFrom (suc t) m) (listed-position t 0 mostInstructions j (omega arith) (omega arith)))
+    go (inr a) ih = listed-right _ (movesAt t 0 mostInstructions) _ (ih a (omega arith) l)
+
+listed-persist : (l m i : ℕ) → l ≤ i → i < l + m → Listed (persistStep i) (persistsFrom l m)
+unfolding persistsFrom Listed
+listed-persist l zero i h k = absurd (omega arith)
+listed-persist l (suc m) i h k = go (eq-or-lt-of-le h) (listed-persist (suc l) m i)
+  where
+    go : (l ≡ i) ⊎ (l < i) → (suc l ≤ i → i < suc l + m → Listed (persistStep i) (persistsFrom (suc l) m))
+        → (persistStep i ≡ persistStep l) ⊎ Listed (persistStep i) (persistsFrom (suc l) m)
+    go (inl e) ih = inl (ap persistStep (sym e))
+    go (inr a) ih = inr (ih a (omega arith))
+
+-- every step that 5 and 8 have nothing against is a candidate
+pub fault-candidate : (p : Program) (k : Step) → stepFault p k ≡ 0 → Listed k (candidates p)
+unfolding candidates
+fault-candidate p k h = go (eqb (k .code) 0) refl (eqb (k .code) 1) refl (fault-none p k h)
+  where
+    go : (a : Bool) → eqb (k .code) 0 ≡ a → (b : Bool) → eqb (k .code) 1 ≡ b → InRange p k
+        → Listed k (issuesFrom 0 (p .threads) ++ movesFrom 0 (p .threads) ++ persistsFrom 0 (p .locations))
+    go true e b g r =
+        let code : k .code ≡ 0 = eqb-true _ _ e in
+        let position = r .no-position (λ z. omega arith) in
+        let location = r .no-location (λ z. omega arith) in
+        let is : k ≡ issueStep (k .thread .0) =
+        λ i. record {
+          thread = k .thread;
+          code = code i;
+          position = position i;
+          location = record { 0 = location i };
+        } in
+        let t = r .low-thread (omega arith) in
+        listed-left k _ _ (listed-left k _ _
+        (subst (λ j. Listed j (issuesFrom 0 (p .threads))) (sym is)
+        (listed-issue 0 (p .threads) (k .thread .0) (omega arith) (omega arith))))
+    go false e true g r =
+        let code : k .code ≡ 1 = eqb-true _ _ g in
+        let location = r .no-location (λ z. omega arith) in
+        let is : k ≡ moveStep (k .thread .0) (k .position) =
+        λ i. record {
+          thread = k .thread;
+          code = code i;
+          position = k .position;
+          location = record { 0 = location i };
+        } in
+        let t = r .low-thread (omega arith) in
+        let n = r .low-position code in
+        listed-left k _ _ (listed-right k (issuesFrom 0 (p .threads)) _
+        (subst (λ j. Listed j (movesFrom 0 (p .threads))) (sym is)
+        (listed-move 0 (p .threads) (k .thread .0) (k .position) (omega arith) (omega arith) n)))
+    go false e false g r =
+        let c : k .code ≢ 0 = eqb-false _ _ e in
+        let d : k .code ≢ 1 = eqb-false _ _ g in
+        let m = r .low-code in
+        let code : k .code ≡ 2 = omega arith in
+        let thread = r .no-thread (omega arith) in
+        let position = r .no-position d in
+        let is : k ≡ persistStep (k .location .0) =
+        λ i. record {
+          thread = record { 0 = thread i };
+          code = code i;
+          position = position i;
+          location = k .location;
+        } in
+        let l = r .low-location code in
+        listed-right k (issuesFrom 0 (p .threads) ++ movesFrom 0 (p .threads)) _
+        (subst (λ j. Listed j (persistsFrom 0 (p .locations))) (sym is)
+        (listed-persist 0 (p .locations) (k .location .0) (omega arith) (omega arith)))
+
+-- and every candidate is such a step
+module _ (p : Program) where
+  issue-fault : (t : ℕ) → t < p .threads → stepFault p (issueStep t) ≡ 0
+  unfolding stepFault stepOut stepLeft beyond leftOver both either refuse
+  issue-fault t h = rw (lt-leb _ _ h)
+
+  move-fault : (t i : ℕ) → t < p .threads → i < mostInstructions → stepFault p (moveStep t i) ≡ 0
+  unfolding stepFault stepOut stepLeft beyond leftOver both either refuse
+  move-fault t i h k = rw (lt-leb _ _ h, lt-leb _ _ k)
+
+  persist-fault : (l : ℕ) → l < p .locations → stepFault p (persistStep l) ≡ 0
+  unfolding stepFault stepOut stepLeft beyond leftOver both either refuse
+  persist-fault l h = rw (lt-leb _ _ h)
+
+  issues-fault : (k : Step) (t m : ℕ) → t + m ≤ p .threads → Listed k (issuesFrom t m) → stepFault p k ≡ 0
+  unfolding issuesFrom Listed
+  issues-fault k t zero h e = absurd e
+  issues-fault k t (suc m) h (inl e) = ap (stepFault p) e ∙ issue-fault t (omega arith)
+  issues-fault k t (suc m) h (inr e) = issues-fault k (suc t) m (omega arith) e
+
+  positions-fault : (k : Step) (t i m : ℕ) → t < p .threads → i + m ≤ mostInstructions → Listed k (movesAt t i m)
+      → stepFault p k ≡ 0
+  unfolding movesAt Listed
+  positions-fault k t i zero h g e = absurd e
+  positions-fault k t i (suc m) h g (inl e) = ap (stepFault p) e ∙ move-fault t i h (omega arith)
+  positions-fault k t i (suc m) h g (inr e) = positions-fault k t (suc i) m h (omega arith) e
+
+  moves-fault : (k : Step) (t m : ℕ) → t + m ≤ p .threads → Listed k (movesFrom t m) → stepFault p k ≡ 0
+  unfolding movesFrom
+  moves-fault k t zero h e = absurd (unfold Listed in e)
+  moves-fault k t (suc m) h e =
+      go (listed-either k (movesAt t 0 mostInstructions) (movesFrom (suc t) m) e) (moves-fault k (suc t) m)
+    where
+      go : Listed k (movesAt t 0 mostInstructions) ⊎ Listed k (movesFrom (suc t) m)
+          → (suc t + m ≤ p .threads → Listed k (movesFrom (suc t) m) → stepFault p k ≡ 0) → stepFault p k ≡ 0
+      go (inl a) ih = positions-fault k t 0 mostInstructions (omega arith) (omega arith) a
+      go (inr a) ih = ih (omega arith) a
+
+  persists-fault : (k : Step) (l m : ℕ) → l + m ≤ p .locations → Listed k (persistsFrom l m) → stepFault p k ≡ 0
+  unfolding persistsFrom Listed
+  persists-fault k l zero h e = absurd e
+  persists-fault k l (suc m) h (inl e) = ap (stepFault p) e ∙ persist-fault l (omega arith)
+  persists-fault k l (suc m) h (inr e) = persists-fault k (suc l) m (omega arith) e
+
+  pub candidate-fault : (k : Step) → Listed k (candidates p) → stepFault p k ≡ 0
+  unfolding candidates
+  candidate-fault k h = go (listed-either k (issuesFrom 0 (p .threads) ++ movesFrom 0 (p .threads)) _ h)
+    where
+      to : Listed k (issuesFrom 0 (p .threads)) ⊎ Listed k (movesFrom 0 (p .threads)) → stepFault p k ≡ 0
+      to (inl a) = issues-fault k 0 (p .threads) (omega arith) a
+      to (inr a) = moves-fault k 0 (p .threads) (omega arith) a
+
+      go : Listed k (issuesFrom 0 (p .threads) ++ movesFrom 0 (p .threads)) ⊎ Listed k (persistsFrom 0 (p .locations))
+          → stepFault p k ≡ 0
+      go (inl a) = to (listed-either k (issuesFrom 0 (p .threads)) _ a)
+      go (inr a) = persists-fault k 0 (p .locations) (omega arith) a
+
+-- the list of next steps holds exactly the legal ones
+module _ (p : Program) (s : State) (k : Step) where
+  pub legal-listed : stepFault p k ≡ 0 → ruleOf p s k ≡ 0 → Listed k (legalSteps p s)
+  unfolding legalSteps
+  legal-listed h e = allowed-listed (ruleOf p s) k (candidates p) (fault-candidate p k h) e
+
+  pub listed-legal : Listed k (legalSteps p s) → (stepFault p k ≡ 0) × (ruleOf p s k ≡ 0)
+  unfolding legalSteps
+  listed-legal h =
+      let a = listed-allowed (ruleOf p s) k (candidates p) h in
+      (candidate-fault p k (a .0), a .1)

@@ -1,0 +1,217 @@
+-- Laws of a change to a queue or a buffer: what the code writes is the state with an entry more at the end, or
+-- without one. Assumes nothing.
+use Prim.Native.Nat.{ℕ, _+_, _*_, _-_, _≤_, _<_}
+use mathlib.Core.Path.{_≡_, refl, sym, _∙_}
+use mathlib.Core.List.{List, [], _∷_, _++_}
+use native.Mathlib.Omega.{arith}
+use native.Mathlib.Nat.{add-zero}
+use lib.ListN.{length, getD, set, drop, length-append, length-drop}
+use Rattle.cases.specs.Sizes.{mostThreads, mostInstructions, mostLocations, mostCode}
+use Rattle.machine.specs.declared.cells.State.{State}
+use Rattle.machine.specs.declared.cells.Waiting.{Waiting}
+use Rattle.machine.specs.declared.cells.Entry.{Entry}
+use Rattle.machine.specs.Sizes.{room, mostSlots}
+use Rattle.machine.specs.View.{Slot, wordsOf, marksOf, part, put, shift, closeGap, without}
+use Rattle.machine.specs.View.{marksIn, queueIn, queueLen, queue, withQueue}
+use Rattle.machine.specs.View.{blankWaiting, bufferIn, bufferLen, buffer, withBuffer}
+use Rattle.machine.specs.Rules.{enqueue, await}
+use Rattle.machine.proofs.PartLaws.{length-part, put-push, put-without, shift-none, shift-next}
+use Rattle.machine.proofs.PartLaws.{length-without}
+use Rattle.machine.proofs.SlotLaws.{words-slots, marks-slots, length-slots, words-append, marks-append}
+use Rattle.machine.proofs.SlotLaws.{words-drop, marks-drop}
+
+-- a loop closes the gap at `from` in a row of n and has come to i: the row is the one before, shifted so far
+pub record Closing {A : Type 0} (from end n : ℕ) (before row : List A) (i : ℕ) : Type 0 where
+  pub sized : length before ≡ n
+  pub fits : end ≤ n
+  pub behind : from < i
+  pub within : i ≤ end
+  pub shifted : row ≡ shift from i before
+
+-- nothing is moved yet
+pub closing-start : {A : Type 0} (from end n : ℕ) (row : List A) → length row ≡ n → from < end → end ≤ n
+    → Closing from end n row row (from + 1)
+closing-start from end n row e h k =
+    record {
+      sized = e;
+      fits = k;
+      behind = omega arith;
+      within = omega arith;
+      shifted = sym (shift-none from row);
+    }
+
+-- a turn of that loop moves one more; all are moved, and the last place is made blank
+module _ {A : Type 0} {from end n : ℕ} {before row : List A} {i : ℕ} (o : Closing from end n before row i) where
+  pub closing-next : (d : A) → i < end → Closing from end n before (set row (i - 1) (getD row i d)) (i + 1)
+  closing-next d h =
+      record {
+        sized = o .sized;
+        fits = o .fits;
+        behind = omega arith;
+        within = omega arith;
+        shifted = rw (o .shifted) (shift-next from i before d (o .behind) (omega arith));
+      }
+
+  pub closing-end : (blank : A) → end ≤ i → set row (end - 1) blank ≡ closeGap blank from end before
+  unfolding closeGap
+  closing-end blank h = let e : i ≡ end = omega arith in rw (o .shifted, e)
+
+-- a queue's words, its marks, its length
+module _ (held marks lengths : List ℕ) (l : ℕ) (h : l * room + getD lengths l 0 ≤ length held)
+    (k : l * room + getD lengths l 0 ≤ length marks) where
+  alike : length (part (l * room) (getD lengths l 0) held) ≡ length (marksIn marks lengths l)
+  unfolding marksIn
+  alike = length-part _ _ held h ∙ sym (length-part _ _ marks k)
+
+  words-queue : wordsOf (queueIn held marks lengths l) ≡ part (l * room) (getD lengths l 0) held
+  unfolding queueIn
+  words-queue = words-slots _ _ alike
+
+  marks-queue : marksOf (queueIn held marks lengths l) ≡ part (l * room) (getD lengths l 0) marks
+  unfolding queueIn marksIn
+  marks-queue = marks-slots _ _ alike
+
+  pub length-queue : length (queueIn held marks lengths l) ≡ getD lengths l 0
+  unfolding queueIn
+  length-queue = length-slots _ _ alike ∙ length-part _ _ held h
+
+-- the same of a queue with one more at its end
+module _ (held marks lengths : List ℕ) (l : ℕ) (h : l * room + getD lengths l 0 < length held)
+    (k : l * room + getD lengths l 0 < length marks) (x : Slot) where
+  words-push : put 0 (l * room) (getD lengths l 0) (wordsOf (queueIn held marks lengths l ++ (x ∷ []))) held
+      ≡ set held (l * room + getD lengths l 0) (x .word)
+  unfolding wordsOf
+  words-push =
+      rw (
+        words-append (queueIn held marks lengths l) (x ∷ []),
+        words-queue held marks lengths l (omega arith) (omega arith),
+      )
+      (put-push 0 held _ _ (x .word) h)
+
+  marks-push : put 0 (l * room) (getD lengths l 0) (marksOf (queueIn held marks lengths l ++ (x ∷ []))) marks
+      ≡ set marks (l * room + getD lengths l 0) (x .mark)
+  unfolding marksOf
+  marks-push =
+      rw (
+        marks-append (queueIn held marks lengths l) (x ∷ []),
+        marks-queue held marks lengths l (omega arith) (omega arith),
+      )
+      (put-push 0 marks _ _ (x .mark) k)
+
+  length-push : length (queueIn held marks lengths l ++ (x ∷ [])) ≡ getD lengths l 0 + 1
+  length-push =
+      rw (
+        length-append (queueIn held marks lengths l),
+        length-queue held marks lengths l (omega arith) (omega arith),
+      )
+
+-- and without its oldest
+module _ (held marks lengths : List ℕ) (l : ℕ) (h : l * room + getD lengths l 0 ≤ length held)
+    (k : l * room + getD lengths l 0 ≤ length marks) (some : 0 < getD lengths l 0) where
+  words-pop : put 0 (l * room) (getD lengths l 0) (wordsOf (drop 1 (queueIn held marks lengths l))) held
+      ≡ closeGap 0 (l * room) (l * room + getD lengths l 0) held
+  unfolding without
+  words-pop =
+      rw (words-drop 1 (queueIn held marks lengths l), words-queue held marks lengths l h k)
+      (put-without 0 held (l * room) _ 0 some h ∙ rw add-zero)
+
+  marks-pop : put 0 (l * room) (getD lengths l 0) (marksOf (drop 1 (queueIn held marks lengths l))) marks
+      ≡ closeGap 0 (l * room) (l * room + getD lengths l 0) marks
+  unfolding without
+  marks-pop =
+      rw (marks-drop 1 (queueIn held marks lengths l), marks-queue held marks lengths l h k)
+      (put-without 0 marks (l * room) _ 0 some k ∙ rw add-zero)
+
+  length-pop : length (drop 1 (queueIn held marks lengths l)) ≡ getD lengths l 0 - 1
+  length-pop = rw (length-drop, length-queue held marks lengths l h k)
+
+-- what the code makes of the state as it changes a queue
+module _ (s : State) (l : ℕ) (h : length (s .held) ≡ mostSlots) (k : length (s .marks) ≡ mostSlots)
+    (low : l < mostLocations) where
+  pub enqueue-is : (x : Slot) → queueLen s l < room
+      → record {
+        words = s .words;
+        held = set (s .held) (l * room + queueLen s l) (x .word);
+        marks = set (s .marks) (l * room + queueLen s l) (x .mark);
+        lengths = set (s .lengths) l (queueLen s l + 1);
+        buffers = s .buffers;
+        waiting = s .waiting;
+        registers = s .registers;
+        issued = s .issued;
+      } ≡ enqueue s l x
+  unfolding enqueue withQueue
+  enqueue-is x less =
+      rw (
+        words-push (s .held) (s .marks) (s .lengths) l (omega arith) (omega arith) x,
+        marks-push (s .held) (s .marks) (s .lengths) l (omega arith) (omega arith) x,
+        length-push (s .held) (s .marks) (s .lengths) l (omega arith) (omega arith) x,
+      )
+      refl
+
+  pub dequeue-is : (held marks : List ℕ) → 0 < queueLen s l → queueLen s l ≤ room
+      → held ≡ closeGap 0 (l * room) (l * room + queueLen s l) (s .held)
+      → marks ≡ closeGap 0 (l * room) (l * room + queueLen s l) (s .marks)
+      → record {
+        words = s .words;
+        held = held;
+        marks = marks;
+        lengths = set (s .lengths) l (queueLen s l - 1);
+        buffers = s .buffers;
+        waiting = s .waiting;
+        registers = s .registers;
+        issued = s .issued;
+      } ≡ withQueue s l (drop 1 (queue s l))
+  unfolding withQueue
+  dequeue-is held marks some most e f =
+      rw (
+        words-pop (s .held) (s .marks) (s .lengths) l (omega arith) (omega arith) some,
+        marks-pop (s .held) (s .marks) (s .lengths) l (omega arith) (omega arith) some,
+        length-pop (s .held) (s .marks) (s .lengths) l (omega arith) (omega arith) some,
+        e,
+        f,
+      )
+      refl
+
+-- and as it changes a buffer
+module _ (s : State) (t : ℕ) (h : length (s .buffers) ≡ mostCode) (low : t < mostThreads) where
+  pub await-is : (e : Entry) → bufferLen s t < mostInstructions
+      → record {
+        words = s .words;
+        held = s .held;
+        marks = s .marks;
+        lengths = s .lengths;
+        buffers = set (s .buffers) (t * mostInstructions + bufferLen s t) (record { entry = e });
+        waiting = set (s .waiting) t (bufferLen s t + 1);
+        registers = s .registers;
+        issued = s .issued;
+      } ≡ await s t e
+  unfolding await withBuffer bufferIn
+  await-is e less =
+      let at = t * mostInstructions in
+      let k : length (part at (bufferLen s t) (s .buffers)) ≡ bufferLen s t = length-part _ _ _ (omega arith) in
+      rw (
+        put-push blankWaiting (s .buffers) at (bufferLen s t) (record { entry = e }) (omega arith),
+        length-append (part at (bufferLen s t) (s .buffers)),
+        k,
+      )
+      refl
+
+  pub take-out-is : (b : List Waiting) (i : ℕ) → i < bufferLen s t → bufferLen s t ≤ mostInstructions
+      → b ≡ closeGap blankWaiting (t * mostInstructions + i) (t * mostInstructions + bufferLen s t) (s .buffers)
+      → record {
+        words = s .words;
+        held = s .held;
+        marks = s .marks;
+        lengths = s .lengths;
+        buffers = b;
+        waiting = set (s .waiting) t (bufferLen s t - 1);
+        registers = s .registers;
+        issued = s .issued;
+      } ≡ withBuffer s t (without i (buffer s t))
+  unfolding withBuffer bufferIn
+  take-out-is b i some most e =
+      let at = t * mostInstructions in
+      let k : length (part at (bufferLen s t) (s .buffers)) ≡ bufferLen s t = length-part _ _ _ (omega arith) in
+      let m = length-without i (part at (bufferLen s t) (s .buffers)) (omega arith) in
+      let n : length (without i (part at (bufferLen s t) (s .buffers))) ≡ bufferLen s t - 1 = omega arith in
+      rw (put-without blankWaiting (s .buffers) at (bufferLen s t) i some (omega arith), n, e) refl

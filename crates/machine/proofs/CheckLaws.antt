@@ -1,0 +1,226 @@
+-- Laws of the test of a state's fit, for each place of the code that makes it: loops through the entries of a
+-- buffer, the marks of a queue, the threads or the locations; loops that sum; chains of tests. Assumes nothing.
+use Prim.Native.Nat.{ℕ, zero, suc, _+_, _*_, _-_, _≤_, _<_}
+use mathlib.Core.Path.{_≡_, refl}
+use mathlib.Core.Logic.{_⊎_, inl, inr}
+use mathlib.Core.Bool.{Bool, true, false}
+use mathlib.Core.List.{List, [], _∷_}
+use native.Mathlib.Omega.{arith}
+use native.Mathlib.Numerals.{add-one}
+use lib.Dec.{leb, ltb}
+use lib.ListN.{length, getD, drop}
+use borrow.Author.Tests.{lt-ltb, le-ltb, le-leb, lt-leb}
+use mir.Syntax.{w8}
+use mir.Val.{Fits}
+use Rattle.cases.specs.declared.case.Program.{Program}
+use Rattle.cases.specs.Choice.{both, either}
+use Rattle.cases.specs.Sizes.{mostThreads, mostInstructions}
+use Rattle.machine.specs.declared.cells.State.{State}
+use Rattle.machine.specs.declared.cells.Waiting.{Waiting}
+use Rattle.machine.specs.Sizes.{room}
+use Rattle.machine.specs.View.{part, marksIn, queueLen, blankWaiting, buffer, bufferLen, issuedOf}
+use Rattle.machine.specs.Rules.{countAt}
+use Rattle.machine.specs.Fit.{sumTo, anyFrom, strays, anyStrays, anyForeign, unissued, due}
+use Rattle.machine.specs.Fit.{threadMisfits, queueMisfits}
+use Rattle.machine.proofs.PartLaws.{getD-part, part-next, part-end}
+use Rattle.machine.proofs.SumLaws.{sum-most}
+
+-- a loop has looked at the first i of the n entries from base on: those still to look at say what all say
+pub record StraySoFar (k : ℕ) (xs : List Waiting) (base n i : ℕ) : Type 0 where
+  pub within : base + n ≤ length xs
+  pub rest : anyStrays k (drop i (part base n xs)) ≡ anyStrays k (part base n xs)
+
+pub stray-start : (k : ℕ) (xs : List Waiting) (base n : ℕ) → base + n ≤ length xs → StraySoFar k xs base n 0
+stray-start k xs base n h = record { within = h; rest = refl }
+
+-- an entry that names a location that there is; one that doesn't; the buffer ends
+module _ {k : ℕ} {xs : List Waiting} {base n i : ℕ} (o : StraySoFar k xs base n i) where
+  module _ (h : i < n) where
+    stray-at :
+        either (strays k (getD xs (base + i) blankWaiting .entry)) (anyStrays k (drop (i + 1) (part base n xs)))
+        ≡ anyStrays k (part base n xs)
+    unfolding anyStrays
+    stray-at = rw (part-next base n i xs blankWaiting h (o .within)) at (o .rest)
+
+    pub stray-next : strays k (getD xs (base + i) blankWaiting .entry) ≡ false → StraySoFar k xs base n (i + 1)
+    unfolding either
+    stray-next e = record { within = o .within; rest = rw e at stray-at }
+
+    pub stray-here : strays k (getD xs (base + i) blankWaiting .entry) ≡ true
+        → true ≡ anyStrays k (part base n xs)
+    unfolding either
+    stray-here e = rw e at stray-at
+
+  pub stray-end : n ≤ i → false ≡ anyStrays k (part base n xs)
+  unfolding anyStrays
+  stray-end h = rw (part-end base n i xs h) at (o .rest)
+
+-- the same of marks. How long their array is need not be known: what a list lacks counts as 0, a write's mark
+pub record ForeignSoFar (k : ℕ) (xs : List ℕ) (base n i : ℕ) : Type 0 where
+  pub rest : anyForeign k (drop i (part base n xs)) ≡ anyForeign k (part base n xs)
+
+pub foreign-start : (k : ℕ) (xs : List ℕ) (base n : ℕ) → ForeignSoFar k xs base n 0
+foreign-start k xs base n = record { rest = refl }
+
+foreign-drop : (k : ℕ) (ys : List ℕ) (i : ℕ)
+    → anyForeign k (drop i ys) ≡ either (ltb k (getD ys i 0)) (anyForeign k (drop (i + 1) ys))
+unfolding anyForeign either
+foreign-drop k [] zero = rw (le-ltb k 0 (omega arith))
+foreign-drop k [] (suc i) = rw (le-ltb k 0 (omega arith), add-one)
+foreign-drop k (y ∷ ys) zero = refl
+foreign-drop k (y ∷ ys) (suc i) = rw add-one (rw add-one at (foreign-drop k ys i))
+
+-- a mark of a thread that there is; one that isn't; the queue ends
+module _ {k : ℕ} {xs : List ℕ} {base n i : ℕ} (o : ForeignSoFar k xs base n i) where
+  module _ (h : i < n) where
+    foreign-at : either (ltb k (getD xs (base + i) 0)) (anyForeign k (drop (i + 1) (part base n xs)))
+        ≡ anyForeign k (part base n xs)
+    foreign-at = rw (foreign-drop k (part base n xs) i, getD-part base n i xs 0 h) at (o .rest)
+
+    pub foreign-next : getD xs (base + i) 0 ≤ k → ForeignSoFar k xs base n (i + 1)
+    unfolding either
+    foreign-next e = record { rest = rw (le-ltb k (getD xs (base + i) 0) e) at foreign-at }
+
+    pub foreign-here : k < getD xs (base + i) 0 → true ≡ anyForeign k (part base n xs)
+    unfolding either
+    foreign-here e = rw (lt-ltb k (getD xs (base + i) 0) e) at foreign-at
+
+  pub foreign-end : n ≤ i → false ≡ anyForeign k (part base n xs)
+  unfolding anyForeign
+  foreign-end h = rw (part-end base n i xs h) at (o .rest)
+
+-- a loop has asked the first i of n: those still to ask say what all say
+pub record AskedSoFar (f : ℕ → Bool) (n i : ℕ) : Type 0 where
+  pub far : i ≤ n
+  pub rest : anyFrom i (n - i) f ≡ anyFrom 0 n f
+
+pub any-start : (f : ℕ → Bool) (n : ℕ) → AskedSoFar f n 0
+any-start f n = record { far = omega arith; rest = let e : n - 0 ≡ n = omega arith in rw e }
+
+-- one of which it is false; one of which it is true; all are asked
+module _ {f : ℕ → Bool} {n i : ℕ} (o : AskedSoFar f n i) where
+  module _ (h : i < n) where
+    any-at : either (f i) (anyFrom (i + 1) (n - (i + 1)) f) ≡ anyFrom 0 n f
+    unfolding anyFrom
+    any-at = let e : n - i ≡ suc (n - suc i) = omega arith in rw add-one (rw e at (o .rest))
+
+    pub any-next : f i ≡ false → AskedSoFar f n (i + 1)
+    unfolding either
+    any-next e = record { far = omega arith; rest = rw e at any-at }
+
+    pub any-here : f i ≡ true → true ≡ anyFrom 0 n f
+    unfolding either
+    any-here e = rw e at any-at
+
+  pub any-end : n ≤ i → false ≡ anyFrom 0 n f
+  unfolding anyFrom
+  any-end h = let e : n - i ≡ 0 = omega arith in rw e at (o .rest)
+
+-- a loop has summed the first i of n, each at most m
+pub record SummedSoFar (f : ℕ → ℕ) (n m total i : ℕ) : Type 0 where
+  pub far : i ≤ n
+  pub few : total ≤ i * m
+  pub sum : total ≡ sumTo i f
+
+pub sum-start : (f : ℕ → ℕ) (n m : ℕ) → SummedSoFar f n m 0 0
+unfolding sumTo
+sum-start f n m = record { far = omega arith; few = omega arith; sum = refl }
+
+-- one more; all are summed
+module _ {f : ℕ → ℕ} {n m total i : ℕ} (o : SummedSoFar f n m total i) where
+  pub sum-next : (x : ℕ) → i < n → x ≡ f i → x ≤ m → SummedSoFar f n m (total + x) (i + 1)
+  unfolding sumTo
+  sum-next x h e k =
+      record {
+        far = omega arith;
+        few = let w = o .few in omega arith;
+        sum = rw add-one (let s = o .sum in omega arith);
+      }
+
+  pub sum-end : n ≤ i → total ≡ sumTo n f
+  sum-end h = let e : i ≡ n = let w = o .far in omega arith in rw e at (o .sum)
+
+-- a count is a byte: what that bounds
+module _ (p : Program) (s : State) where
+  pub unissued-most : (t : ℕ) → Fits w8 (countAt p t) → unissued p s t ≤ 255
+  unfolding unissued
+  unissued-most t h = omega arith
+
+  pub due-most : ((t : ℕ) → Fits w8 (bufferLen s t)) → ((t : ℕ) → Fits w8 (countAt p t)) → due p s ≤ 2040
+  unfolding due
+  due-most h k =
+      let a = sum-most mostThreads 255 (bufferLen s) (λ t l. let e = h t in omega arith) in
+      let b = sum-most mostThreads 255 (unissued p s) (λ t l. unissued-most t (k t)) in
+      omega arith
+
+-- place i of m, and n that stand there: something stands where there is no such place, or it doesn't. Of the
+-- two ways in which the code finds that it doesn't, each tells what it found.
+module _ (m i n : ℕ) where
+  lacked-some : m ≤ i → ltb 0 n ≡ true → both (leb m i) (ltb 0 n) ≡ true
+  unfolding both
+  lacked-some h k = rw (le-leb m i h, k)
+
+  lacked-none : {A B : Type 0} → A ⊎ B → (A → ltb 0 n ≡ false) → (B → i < m) → both (leb m i) (ltb 0 n) ≡ false
+  lacked-none (inl a) f g = go (leb m i)
+    where
+      go : (b : Bool) → both b (ltb 0 n) ≡ false
+      go true = unfold both in f a
+      go false = unfold both in refl
+  lacked-none (inr b) f g = unfold both in rw (lt-leb m i (g b))
+
+-- threadMisfits: too many are issued; there is no such thread; too much may wait; else an entry that strays
+module _ (p : Program) (s : State) (t : ℕ) where
+  pub thread-over : countAt p t < issuedOf s t → true ≡ threadMisfits p s t
+  unfolding threadMisfits either
+  thread-over h = rw (lt-ltb (countAt p t) (issuedOf s t) h)
+
+  module _ (h : issuedOf s t ≤ countAt p t) where
+    pub thread-lacked : p .threads ≤ t → ltb 0 (bufferLen s t) ≡ true → true ≡ threadMisfits p s t
+    unfolding threadMisfits either
+    thread-lacked k e =
+        rw (le-ltb (countAt p t) (issuedOf s t) h, lacked-some (p .threads) t (bufferLen s t) k e)
+
+    module _ {A B : Type 0} (k : A ⊎ B) (f : A → ltb 0 (bufferLen s t) ≡ false) (g : B → t < p .threads)
+        (n : ℕ) (e : n ≡ unissued p s t) where
+      pub thread-full : mostInstructions < bufferLen s t + n → true ≡ threadMisfits p s t
+      unfolding threadMisfits either
+      thread-full l =
+          rw (
+            le-ltb (countAt p t) (issuedOf s t) h,
+            lacked-none (p .threads) t (bufferLen s t) k f g,
+            ← e,
+            lt-ltb mostInstructions (bufferLen s t + n) l,
+          )
+
+      pub thread-rest : bufferLen s t + n ≤ mostInstructions → (r : Bool)
+          → r ≡ anyStrays (p .locations) (buffer s t)
+          → r ≡ threadMisfits p s t
+      unfolding threadMisfits either
+      thread-rest l r q =
+          rw (
+            le-ltb (countAt p t) (issuedOf s t) h,
+            lacked-none (p .threads) t (bufferLen s t) k f g,
+            ← e,
+            le-ltb mostInstructions (bufferLen s t + n) l,
+          )
+          q
+
+-- queueMisfits: there is no such location; too much may come; else a mark of another thread
+module _ (p : Program) (s : State) (l : ℕ) where
+  pub queue-lacked : p .locations ≤ l → ltb 0 (queueLen s l) ≡ true → true ≡ queueMisfits p s l
+  unfolding queueMisfits either
+  queue-lacked k e = rw (lacked-some (p .locations) l (queueLen s l) k e)
+
+  module _ {A B : Type 0} (k : A ⊎ B) (f : A → ltb 0 (queueLen s l) ≡ false) (g : B → l < p .locations)
+      (n : ℕ) (e : n ≡ due p s) where
+    pub queue-full : room < queueLen s l + n → true ≡ queueMisfits p s l
+    unfolding queueMisfits either
+    queue-full h =
+        rw (lacked-none (p .locations) l (queueLen s l) k f g, ← e, lt-ltb room (queueLen s l + n) h)
+
+    pub queue-rest : queueLen s l + n ≤ room → (r : Bool)
+        → r ≡ anyForeign (p .threads) (marksIn (s .marks) (s .lengths) l)
+        → r ≡ queueMisfits p s l
+    unfolding queueMisfits either
+    queue-rest h r q =
+        rw (lacked-none (p .locations) l (queueLen s l) k f g, ← e, le-ltb room (queueLen s l + n) h) q

@@ -1,0 +1,208 @@
+-- The test of a state's fit and the facts of it say the same. Assumes nothing.
+use Prim.Native.Nat.{ℕ, zero, suc, _+_, _≤_, _<_}
+use mathlib.Core.Path.{_≡_, refl}
+use mathlib.Core.Logic.{_⊎_, inl, inr}
+use mathlib.Core.Bool.{Bool, true, false}
+use mathlib.Core.List.{List, [], _∷_}
+use native.Mathlib.Omega.{arith}
+use native.Mathlib.Nat.{eq-or-lt-of-le}
+use lib.Dec.{leb, ltb}
+use borrow.Author.Tests.{leb-true, leb-false, lt-leb, le-leb, ltb-false, le-ltb}
+use Rattle.cases.specs.declared.case.Program.{Program}
+use Rattle.cases.specs.declared.case.Case.{Case}
+use Rattle.cases.specs.Choice.{both, either}
+use Rattle.cases.specs.Sizes.{mostThreads, mostInstructions, mostLocations}
+use Rattle.cases.specs.Writing.{readsBack}
+use Rattle.cases.proofs.ChoiceLaws.{either-false}
+use Rattle.cases.proofs.Promises.{readable-ranged}
+use Rattle.machine.specs.declared.cells.State.{State}
+use Rattle.machine.specs.declared.cells.Waiting.{Waiting}
+use Rattle.machine.specs.declared.cells.Entry.{Entry}
+use Rattle.machine.specs.declared.cells.Entry.the-variants.{Store, Flush, FlushOpt, Sfence}
+use Rattle.machine.specs.Sizes.{room}
+use Rattle.machine.specs.View.{queueLen, marksIn, buffer, bufferLen, issuedOf}
+use Rattle.machine.specs.Rules.{countAt, startOf}
+use Rattle.machine.specs.Fit.{anyFrom, strays, anyStrays, anyForeign, unissued, due, threadMisfits}
+use Rattle.machine.specs.Fit.{queueMisfits, misfits, Sized, ProgramFits, Named, AllNamed, AllBorne, Fits}
+use Rattle.machine.proofs.StartLaws.{ranged-fits, start-fits}
+
+-- two tests of which neither is true
+either-none : (a b : Bool) → a ≡ false → b ≡ false → either a b ≡ false
+unfolding either
+either-none a b h k = rw (h, k)
+
+-- nothing stands where the program has no such place
+none-is : (m i n : ℕ) → both (leb m i) (ltb 0 n) ≡ false → m ≤ i → n ≡ 0
+unfolding both
+none-is m i n h l = let e = ltb-false 0 n (rw (le-leb m i l) at h) in omega arith
+
+is-none : (m i n : ℕ) → (m ≤ i → n ≡ 0) → both (leb m i) (ltb 0 n) ≡ false
+is-none m i n h = go (leb m i) refl
+  where
+    go : (b : Bool) → leb m i ≡ b → both b (ltb 0 n) ≡ false
+    go true e = unfold both in le-ltb 0 n (let z = h (leb-true m i e) in omega arith)
+    go false e = unfold both in refl
+
+-- a test that is true of none of the numbers is false of each, and back
+any-none : (i n : ℕ) (f : ℕ → Bool) → anyFrom i n f ≡ false → (k : ℕ) → i ≤ k → k < i + n → f k ≡ false
+unfolding anyFrom
+any-none i zero f e k h l = absurd (omega arith)
+any-none i (suc n) f e k h l = go (either-false _ _ e) (eq-or-lt-of-le h) (any-none (suc i) n f)
+  where
+    go : (f i ≡ false) × (anyFrom (suc i) n f ≡ false) → (i ≡ k) ⊎ (i < k)
+        → (anyFrom (suc i) n f ≡ false → (k : ℕ) → suc i ≤ k → k < suc i + n → f k ≡ false)
+        → f k ≡ false
+    go d (inl p) ih = rw p at (d .0)
+    go d (inr p) ih = ih (d .1) k p (omega arith)
+
+none-any : (i n : ℕ) (f : ℕ → Bool) → ((k : ℕ) → k < i + n → f k ≡ false) → anyFrom i n f ≡ false
+unfolding anyFrom
+none-any i zero f h = refl
+none-any i (suc n) f h =
+    either-none _ _ (h i (omega arith)) (none-any (suc i) n f (λ k l. h k (omega arith)))
+
+-- entries: none is stray, so each names a location that there is, and back
+named-is : (n : ℕ) (e : Entry) → strays n e ≡ false → Named n e
+unfolding strays Named
+named-is n (Store w) h = leb-false _ _ h
+named-is n (Flush l) h = leb-false _ _ h
+named-is n (FlushOpt l) h = leb-false _ _ h
+named-is n Sfence h = tt
+
+is-named : (n : ℕ) (e : Entry) → Named n e → strays n e ≡ false
+unfolding strays Named
+is-named n (Store w) h = lt-leb _ _ h
+is-named n (Flush l) h = lt-leb _ _ h
+is-named n (FlushOpt l) h = lt-leb _ _ h
+is-named n Sfence h = refl
+
+all-named-is : (n : ℕ) (b : List Waiting) → anyStrays n b ≡ false → AllNamed n b
+unfolding anyStrays AllNamed
+all-named-is n [] h = tt
+all-named-is n (w ∷ b) h =
+    let d = either-false _ _ h in
+    (named-is n (w .entry) (d .0), all-named-is n b (d .1))
+
+is-all-named : (n : ℕ) (b : List Waiting) → AllNamed n b → anyStrays n b ≡ false
+unfolding anyStrays AllNamed
+is-all-named n [] h = refl
+is-all-named n (w ∷ b) h = either-none _ _ (is-named n (w .entry) (h .0)) (is-all-named n b (h .1))
+
+-- marks: none is foreign, so each bears a thread that there is, and back
+borne-is : (n : ℕ) (ms : List ℕ) → anyForeign n ms ≡ false → AllBorne n ms
+unfolding anyForeign AllBorne
+borne-is n [] h = tt
+borne-is n (m ∷ ms) h =
+    let d = either-false _ _ h in
+    (ltb-false _ _ (d .0), borne-is n ms (d .1))
+
+is-borne : (n : ℕ) (ms : List ℕ) → AllBorne n ms → anyForeign n ms ≡ false
+unfolding anyForeign AllBorne
+is-borne n [] h = refl
+is-borne n (m ∷ ms) h = either-none _ _ (le-ltb _ _ (h .0)) (is-borne n ms (h .1))
+
+-- a thread's part, and a location's
+record ThreadFits (p : Program) (s : State) (t : ℕ) : Type 0 where
+  few-issued : issuedOf s t ≤ countAt p t
+  no-buffer : p .threads ≤ t → bufferLen s t ≡ 0
+  few-waiting : bufferLen s t + unissued p s t ≤ mostInstructions
+  named : AllNamed (p .locations) (buffer s t)
+
+record QueueFits (p : Program) (s : State) (l : ℕ) : Type 0 where
+  no-queue : p .locations ≤ l → queueLen s l ≡ 0
+  few-queued : queueLen s l + due p s ≤ room
+  borne : AllBorne (p .threads) (marksIn (s .marks) (s .lengths) l)
+
+module _ (p : Program) (s : State) where
+  thread-is : (t : ℕ) → threadMisfits p s t ≡ false → ThreadFits p s t
+  unfolding threadMisfits
+  thread-is t h =
+      let a = either-false _ _ h in
+      let b = either-false _ _ (a .1) in
+      let c = either-false _ _ (b .1) in
+      record {
+        few-issued = ltb-false _ _ (a .0);
+        no-buffer = none-is _ _ _ (b .0);
+        few-waiting = ltb-false _ _ (c .0);
+        named = all-named-is _ _ (c .1);
+      }
+
+  is-thread : (t : ℕ) → ThreadFits p s t → threadMisfits p s t ≡ false
+  unfolding threadMisfits
+  is-thread t f =
+      either-none _ _ (le-ltb _ _ (f .few-issued))
+      (either-none _ _ (is-none _ _ _ (f .no-buffer))
+      (either-none _ _ (le-ltb _ _ (f .few-waiting))
+      (is-all-named _ _ (f .named))))
+
+  queue-is : (l : ℕ) → queueMisfits p s l ≡ false → QueueFits p s l
+  unfolding queueMisfits
+  queue-is l h =
+      let a = either-false _ _ h in
+      let b = either-false _ _ (a .1) in
+      record {
+        no-queue = none-is _ _ _ (a .0);
+        few-queued = ltb-false _ _ (b .0);
+        borne = borne-is _ _ (b .1);
+      }
+
+  is-queue : (l : ℕ) → QueueFits p s l → queueMisfits p s l ≡ false
+  unfolding queueMisfits
+  is-queue l f =
+      either-none _ _ (is-none _ _ _ (f .no-queue))
+      (either-none _ _ (le-ltb _ _ (f .few-queued))
+      (is-borne _ _ (f .borne)))
+
+  -- the test is false: the facts hold
+  pub fits-is : ProgramFits p → Sized s → misfits p s ≡ false → Fits p s
+  unfolding misfits
+  fits-is g z h =
+      record {
+        program = g;
+        sized = z;
+        few-issued = λ t k. thread t k .few-issued;
+        few-waiting = λ t k. thread t k .few-waiting;
+        few-queued = λ l k. queue l k .few-queued;
+        no-buffer = λ t k. thread t k .no-buffer;
+        no-queue = λ l k. queue l k .no-queue;
+        named = λ t k. thread t k .named;
+        borne = λ l k. queue l k .borne;
+      }
+    where
+      thread : (t : ℕ) → t < mostThreads → ThreadFits p s t
+      thread t k = thread-is t (any-none 0 mostThreads _ (either-false _ _ h .0) t (omega arith) (omega arith))
+
+      queue : (l : ℕ) → l < mostLocations → QueueFits p s l
+      queue l k = queue-is l (any-none 0 mostLocations _ (either-false _ _ h .1) l (omega arith) (omega arith))
+
+  -- and back
+  pub is-fits : Fits p s → misfits p s ≡ false
+  unfolding misfits
+  is-fits f =
+      either-none _ _ (none-any 0 mostThreads _ (λ t k. is-thread t (thread t (omega arith))))
+      (none-any 0 mostLocations _ (λ l k. is-queue l (queue l (omega arith))))
+    where
+      thread : (t : ℕ) → t < mostThreads → ThreadFits p s t
+      thread t k =
+          record {
+            few-issued = f .few-issued t k;
+            no-buffer = f .no-buffer t k;
+            few-waiting = f .few-waiting t k;
+            named = f .named t k;
+          }
+
+      queue : (l : ℕ) → l < mostLocations → QueueFits p s l
+      queue l k =
+          record {
+            no-queue = f .no-queue l k;
+            few-queued = f .few-queued l k;
+            borne = f .borne l k;
+          }
+
+-- the program of a case that passes 32 fits: with a state that passes 33, and where its runs start
+module _ (c : Case) (readable : readsBack c ≡ true) where
+  pub readable-fits : (s : State) → Sized s → misfits (c .program) s ≡ false → Fits (c .program) s
+  readable-fits s z h = fits-is (c .program) s (ranged-fits c (readable-ranged c readable)) z h
+
+  pub readable-start : (s : State) → s ≡ startOf (c .program) → Fits (c .program) s
+  readable-start s e = rw e (start-fits (c .program) (ranged-fits c (readable-ranged c readable)))

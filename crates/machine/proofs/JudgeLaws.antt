@@ -1,0 +1,134 @@
+-- The judge and legality: a run is legal to its end, or to its first illegal step, and the judge says which.
+-- Assumes nothing.
+use Prim.Native.Nat.{ℕ, zero, suc, _+_}
+use mathlib.Core.Path.{_≡_, refl, sym, ap, _∙_, subst}
+use mathlib.Core.Logic.{_⊎_, inl, inr, _≢_}
+use mathlib.Core.Bool.{Bool, true, false}
+use mathlib.Core.List.{List, [], _∷_}
+use native.Mathlib.Omega.{arith}
+use native.Mathlib.Nat.{zero-add, add-zero, add-suc, suc-add}
+use borrow.Author.Tests.{eqb-true, eqb-false, eq-eqb, ne-eqb}
+use lib.Dec.{eqb}
+use lib.ListN.{length, getD, take}
+use Rattle.cases.specs.declared.case.Step.{Step}
+use Rattle.cases.specs.declared.case.Program.{Program}
+use Rattle.cases.specs.Draft.{noStep}
+use Rattle.cases.proofs.ChoiceLaws.{pick-true, pick-false}
+use Rattle.machine.specs.declared.cells.State.{State}
+use Rattle.machine.specs.declared.runs.Verdict.{Verdict}
+use Rattle.machine.specs.declared.runs.Verdict.the-variants.{Legal, Illegal}
+use Rattle.machine.specs.declared.runs.Judged.{Judged}
+use Rattle.machine.specs.Rules.{ruleOf, nextOf}
+use Rattle.machine.specs.Judge.{Leads, StopsAt, judged, judgeFrom}
+
+module _ (p : Program) where
+  -- a turn of the judge: a legal step; an illegal one; none is left
+  module _ (i : ℕ) (s : State) (k : Step) (ks : List Step) where
+    pub judge-next : ruleOf p s k ≡ 0 → judgeFrom p i s (k ∷ ks) ≡ judgeFrom p (suc i) (nextOf p s k) ks
+    unfolding judgeFrom
+    judge-next h = pick-true _ _ _ (eq-eqb _ _ h)
+
+    pub judge-here : ruleOf p s k ≢ 0 → judgeFrom p i s (k ∷ ks) ≡ judged (Illegal (ruleOf p s k) i) s
+    unfolding judgeFrom
+    judge-here h = pick-false _ _ _ (ne-eqb _ _ h)
+
+  -- every step is legal: the judge says so, with their number and the end state
+  pub leads-judged : (i : ℕ) (s : State) (ks : List Step) (u : State) → Leads p s ks u
+      → judgeFrom p i s ks ≡ judged (Legal (i + length ks)) u
+  unfolding Leads judgeFrom
+  leads-judged i s [] u h = rw (h, add-zero)
+  leads-judged i s (k ∷ ks) u h =
+      judge-next i s k ks (h .0) ∙ leads-judged (suc i) (nextOf p s k) ks u (h .1) ∙ rw (add-suc, suc-add)
+
+  -- one is not: the judge names the first, its rule there, and the state before it
+  pub stops-judged : (i : ℕ) (s : State) (ks : List Step) (n : ℕ) (u : State) → StopsAt p s ks n u
+      → judgeFrom p i s ks ≡ judged (Illegal (ruleOf p u (getD ks n noStep)) (i + n)) u
+  stops-judged i s [] n u h = absurd (let w = h .within in omega arith)
+  stops-judged i s (k ∷ ks) zero u h =
+      let e : s ≡ u = unfold Leads in h .before in
+      let b : ruleOf p s k ≢ 0 = rw (sym e) at (h .broken) in
+      judge-here i s k ks b ∙ rw (e, add-zero)
+  stops-judged i s (k ∷ ks) (suc n) u h =
+      let e : (ruleOf p s k ≡ 0) × Leads p (nextOf p s k) (take n ks) u = unfold Leads in h .before in
+      let w = h .within in
+      let rest : StopsAt p (nextOf p s k) ks n u
+      = record { within = omega arith; before = e .1; broken = h .broken } in
+      judge-next i s k ks (e .0) ∙ stops-judged (suc i) (nextOf p s k) ks n u rest ∙ rw (add-suc, suc-add)
+
+  -- one of the two it is
+  pub leads-or-stops : (s : State) (ks : List Step)
+      → ((u : State) × Leads p s ks u) ⊎ ((n : ℕ) × (u : State) × StopsAt p s ks n u)
+  unfolding Leads
+  leads-or-stops s [] = inl (s, refl)
+  leads-or-stops s (k ∷ ks) = go (eqb (ruleOf p s k) 0) refl (leads-or-stops (nextOf p s k) ks)
+    where
+      go : (b : Bool) → eqb (ruleOf p s k) 0 ≡ b
+          → ((u : State) × Leads p (nextOf p s k) ks u) ⊎ ((n : ℕ) × (u : State) × StopsAt p (nextOf p s k) ks n u)
+          → ((u : State) × ((ruleOf p s k ≡ 0) × Leads p (nextOf p s k) ks u))
+          ⊎ ((n : ℕ) × (u : State) × StopsAt p s (k ∷ ks) n u)
+      go true e (inl r) = inl (r .0, (eqb-true _ _ e, r .1))
+      go true e (inr r) =
+          inr (
+            suc (r .0),
+            r .1,
+            record {
+              within = let w = r .2 .within in omega arith;
+              before = (eqb-true _ _ e, r .2 .before);
+              broken = r .2 .broken;
+            },
+          )
+      go false e r =
+          inr (zero, s, record { within = omega arith; before = refl; broken = eqb-false _ _ e })
+
+-- From the start: what the judge says of a run, and what its saying so tells
+module _ (p : Program) (s : State) (ks : List Step) where
+  pub says-legal : (u : State) → Leads p s ks u → judgeFrom p 0 s ks ≡ judged (Legal (length ks)) u
+  says-legal u h = leads-judged p 0 s ks u h ∙ rw zero-add
+
+  pub says-illegal : (n : ℕ) (u : State) → StopsAt p s ks n u
+      → judgeFrom p 0 s ks ≡ judged (Illegal (ruleOf p u (getD ks n noStep)) n) u
+  says-illegal n u h = stops-judged p 0 s ks n u h ∙ rw zero-add
+
+  verdict-is : (v : Verdict) (u : State) → judgeFrom p 0 s ks ≡ judged v u → judgeFrom p 0 s ks .verdict ≡ v
+  unfolding judged
+  verdict-is v u e = ap (λ (j : Judged). j .verdict) e
+
+  pub state-is : (v : Verdict) (u : State) → judgeFrom p 0 s ks ≡ judged v u → judgeFrom p 0 s ks .state ≡ u
+  unfolding judged
+  state-is v u e = ap (λ (j : Judged). j .state) e
+
+  pub legal-says : (u : State) → Leads p s ks u → judgeFrom p 0 s ks .verdict ≡ Legal (length ks)
+  legal-says u h = verdict-is _ u (says-legal u h)
+
+  pub illegal-says : (n : ℕ) (u : State) (r : ℕ) → StopsAt p s ks n u → ruleOf p u (getD ks n noStep) ≡ r
+      → judgeFrom p 0 s ks .verdict ≡ Illegal r n
+  illegal-says n u r h e = verdict-is _ u (says-illegal n u h) ∙ ap (λ x. Illegal x n) e
+
+  -- a verdict of one kind is none of the other
+  legal-illegal : (n r i : ℕ) → Legal n ≡ Illegal r i → ⊥
+  legal-illegal n r i e = let z : _≡_ {A = ℕ} 0 1 = cc in omega arith
+
+  index-is : (r i q j : ℕ) → Illegal r i ≡ Illegal q j → (r ≡ q) × (i ≡ j)
+  index-is r i q j e = (cc, cc)
+
+  pub says-leads : (n : ℕ) → judgeFrom p 0 s ks .verdict ≡ Legal n → (u : State) × Leads p s ks u
+  says-leads n h = go (leads-or-stops p s ks)
+    where
+      go : ((u : State) × Leads p s ks u) ⊎ ((n : ℕ) × (u : State) × StopsAt p s ks n u)
+          → (u : State) × Leads p s ks u
+      go (inl e) = e
+      go (inr e) = absurd (legal-illegal n _ (e .0) (sym h ∙ illegal-says (e .0) (e .1) _ (e .2) refl))
+
+  pub says-stops : (r i : ℕ) → judgeFrom p 0 s ks .verdict ≡ Illegal r i
+      → (u : State) × StopsAt p s ks i u × (ruleOf p u (getD ks i noStep) ≡ r)
+  says-stops r i h = go (leads-or-stops p s ks)
+    where
+      go : ((u : State) × Leads p s ks u) ⊎ ((n : ℕ) × (u : State) × StopsAt p s ks n u)
+          → (u : State) × StopsAt p s ks i u × (ruleOf p u (getD ks i noStep) ≡ r)
+      go (inl e) = absurd (legal-illegal (length ks) r i (sym (legal-says (e .0) (e .1)) ∙ h))
+      go (inr e) =
+          let w = index-is _ (e .0) r i (sym (illegal-says (e .0) (e .1) _ (e .2) refl) ∙ h) in (
+            e .1,
+            subst (λ n. StopsAt p s ks n (e .1)) (w .1) (e .2),
+            subst (λ n. ruleOf p (e .1) (getD ks n noStep) ≡ r) (w .1) (w .0),
+          )

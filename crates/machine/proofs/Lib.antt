@@ -1,0 +1,30 @@
+-- The laws of the machine. Other crates can name Promises alone.
+pub mod Promises
+-- lists in places, and the state's parts
+mod PartLaws
+mod SlotLaws
+mod ViewLaws
+mod SumLaws
+-- looks, changes, rules, each as the code meets them
+mod LookLaws
+mod ChangeLaws
+mod MoveLaws
+mod CheckLaws
+mod WeighLaws
+mod RuleLaws
+mod ReadyLaws
+-- the fit: its test and its facts, what a change leaves of it, the start
+mod FitLaws
+mod KeepLaws
+mod SpareLaws
+mod StartLaws
+-- the work left, and a legal step
+mod WorkLaws
+mod StepLaws
+-- next steps
+mod NextLaws
+mod OfferLaws
+mod CandidateLaws
+-- runs
+mod JudgeLaws
+mod RunLaws

@@ -1,0 +1,238 @@
+-- Laws of the looks: for each loop a record of what it has found so far, made where the loop begins (start),
+-- and one law for each place of the loop that uses it (next, here, end). Assumes nothing.
+use Prim.Native.Nat.{ℕ, suc, _+_, _*_, _-_, _≤_, _<_}
+use mathlib.Core.Path.{_≡_, refl, sym, _∙_}
+use mathlib.Core.Bool.{true, false}
+use mathlib.Core.List.{List, [], _∷_}
+use native.Mathlib.Omega.{arith}
+use native.Mathlib.Nat.{zero-add, add-zero}
+use native.Mathlib.Numerals.{add-one}
+use borrow.Author.Tests.{eq-eqb, ne-eqb}
+use lib.Dec.{eqb}
+use lib.ListN.{length, getD, take, drop}
+use Rattle.cases.specs.Choice.{pick}
+use Rattle.cases.specs.Sizes.{mostInstructions, mostLocations}
+use Rattle.machine.specs.declared.cells.Waiting.{Waiting}
+use Rattle.machine.specs.declared.look.Found.{Found}
+use Rattle.machine.specs.declared.look.Found.the-variants.{At, Nothing}
+use Rattle.machine.specs.Sizes.{room, mostSlots}
+use Rattle.machine.specs.View.{part, slots, marksIn, queueIn, blankWaiting, bufferIn}
+use Rattle.machine.specs.Fit.{Shallow}
+use Rattle.machine.specs.Look.{wordOr, newestIn, storedOr, newestStore}
+use Rattle.machine.specs.Look.{markerIn, markerFrom, markerOf, bars, firstBar}
+use Rattle.machine.proofs.PartLaws.{length-part, take-part, part-next, part-end}
+use Rattle.machine.proofs.SlotLaws.{drop-slots}
+
+-- a queue's words and marks side by side: the slot at place i, and the end
+module _ (held marks : List ℕ) (base n : ℕ) (h : base + n ≤ length held) (k : base + n ≤ length marks) where
+  slots-rest : (i : ℕ) → drop i (slots (part base n held) (part base n marks))
+      ≡ slots (drop i (part base n held)) (drop i (part base n marks))
+  slots-rest i =
+      let p : length (part base n held) ≡ n = length-part base n held h in
+      let q : length (part base n marks) ≡ n = length-part base n marks k in
+      drop-slots i (part base n held) (part base n marks) (p ∙ sym q)
+
+  pub slots-next : (i : ℕ) → i < n
+      → drop i (slots (part base n held) (part base n marks))
+      ≡ record { word = getD held (base + i) 0; mark = getD marks (base + i) 0 }
+      ∷ drop (i + 1) (slots (part base n held) (part base n marks))
+  unfolding slots
+  slots-next i r =
+      slots-rest i ∙ rw (part-next base n i held 0 r h, part-next base n i marks 0 r k, slots-rest (i + 1))
+
+  pub slots-end : (i : ℕ) → n ≤ i → drop i (slots (part base n held) (part base n marks)) ≡ []
+  unfolding slots
+  slots-end i r = slots-rest i ∙ rw (part-end base n i held r)
+
+-- newestIn: the slots behind the first i say of the word so far what all of them say of the word given
+pub record NewestSoFar (held marks : List ℕ) (base n i word other : ℕ) : Type 0 where
+  pub held-long : base + n ≤ length held
+  pub marks-long : base + n ≤ length marks
+  pub rest : newestIn (drop i (slots (part base n held) (part base n marks))) word
+      ≡ newestIn (slots (part base n held) (part base n marks)) other
+
+pub newest-start : (held marks : List ℕ) (base n other : ℕ) → base + n ≤ length held → base + n ≤ length marks
+    → NewestSoFar held marks base n 0 other other
+newest-start held marks base n other h k = record { held-long = h; marks-long = k; rest = refl }
+
+pub newest-next : {held marks : List ℕ} {base n i word other : ℕ} → NewestSoFar held marks base n i word other
+    → i < n → (next : ℕ)
+    → next ≡ wordOr (record { word = getD held (base + i) 0; mark = getD marks (base + i) 0 }) word
+    → NewestSoFar held marks base n (i + 1) next other
+unfolding newestIn
+newest-next {held} {marks} {base} {n} {i} {word} {other} o h next e =
+    record {
+      held-long = o .held-long;
+      marks-long = o .marks-long;
+      rest = rw e (rw (slots-next held marks base n (o .held-long) (o .marks-long) i h) at (o .rest));
+    }
+
+pub newest-end : {held marks : List ℕ} (lengths : List ℕ) (l : ℕ) {i word other : ℕ}
+    → NewestSoFar held marks (l * room) (getD lengths l 0) i word other → getD lengths l 0 ≤ i
+    → word ≡ newestIn (queueIn held marks lengths l) other
+unfolding newestIn queueIn marksIn
+newest-end {held} {marks} lengths l {i} o h =
+    rw (slots-end held marks (l * room) (getD lengths l 0) (o .held-long) (o .marks-long) i h) at (o .rest)
+
+-- newestStore: the entries behind the first i say of the word so far what all of them say of the word given
+pub record StoreSoFar (l : ℕ) (b : List Waiting) (base n i word other : ℕ) : Type 0 where
+  pub long : base + n ≤ length b
+  pub rest : newestStore l (drop i (part base n b)) word ≡ newestStore l (part base n b) other
+
+pub store-start : (l : ℕ) (b : List Waiting) (base n other : ℕ) → base + n ≤ length b
+    → StoreSoFar l b base n 0 other other
+store-start l b base n other h = record { long = h; rest = refl }
+
+pub store-next : {l : ℕ} {b : List Waiting} {base n i word other : ℕ} → StoreSoFar l b base n i word other
+    → i < n → (next : ℕ) → next ≡ storedOr l (getD b (base + i) blankWaiting .entry) word
+    → StoreSoFar l b base n (i + 1) next other
+unfolding newestStore
+store-next {l} {b} {base} {n} {i} {word} {other} o h next e =
+    record {
+      long = o .long;
+      rest = rw e (rw (part-next base n i b blankWaiting h (o .long)) at (o .rest));
+    }
+
+pub store-end : {l : ℕ} {b : List Waiting} (waiting : List ℕ) (t : ℕ) {i word other : ℕ}
+    → StoreSoFar l b (t * mostInstructions) (getD waiting t 0) i word other → getD waiting t 0 ≤ i
+    → word ≡ newestStore l (bufferIn b waiting t) other
+unfolding newestStore bufferIn
+store-end {l} {b} waiting t {i} o h =
+    rw (part-end (t * mostInstructions) (getD waiting t 0) i b h) at (o .rest)
+
+-- markerOf, from queue to queue: the queues from l on say what all of them say
+pub record QueuesSoFar (marks lengths : List ℕ) (mark l : ℕ) (found : Found) : Type 0 where
+  pub long : length marks ≡ mostSlots
+  pub shallow : Shallow lengths
+  pub within : l ≤ mostLocations
+  pub none : found ≡ Nothing
+  pub rest : (t : ℕ) → mark ≡ t + 1
+      → markerFrom marks lengths t (mostLocations - l) l ≡ markerOf marks lengths t
+
+-- and within queue l: its marks from place i on, and the queues behind it, say what all queues say
+pub record MarksSoFar (marks lengths : List ℕ) (mark l n i : ℕ) (found : Found) : Type 0 where
+  pub long : length marks ≡ mostSlots
+  pub shallow : Shallow lengths
+  pub low : l < mostLocations
+  pub few : n ≤ room
+  pub counted : n ≡ getD lengths l 0
+  pub none : found ≡ Nothing
+  pub rest : (t : ℕ) → mark ≡ t + 1
+      → markerIn t l i (drop i (marksIn marks lengths l))
+      (markerFrom marks lengths t (mostLocations - (l + 1)) (l + 1))
+      ≡ markerOf marks lengths t
+
+pub queues-start : (marks lengths : List ℕ) (mark : ℕ) → length marks ≡ mostSlots → Shallow lengths
+    → QueuesSoFar marks lengths mark 0 Nothing
+unfolding markerOf
+queues-start marks lengths mark h k =
+    record { long = h; shallow = k; within = omega arith; none = refl; rest = λ t e. refl }
+
+marker-from-next : (marks lengths : List ℕ) (t n l : ℕ) → l < n
+    → markerIn t l 0 (marksIn marks lengths l) (markerFrom marks lengths t (n - (l + 1)) (l + 1))
+    ≡ markerFrom marks lengths t (n - l) l
+unfolding markerFrom
+marker-from-next marks lengths t n l h =
+    let e : n - l ≡ suc (n - (l + 1)) = omega arith in
+    rw (e, add-one)
+
+module _ {marks lengths : List ℕ} {mark l : ℕ} {found : Found}
+    (o : QueuesSoFar marks lengths mark l found) where
+  pub marks-start : l < mostLocations → MarksSoFar marks lengths mark l (getD lengths l 0) 0 found
+  unfolding Shallow
+  marks-start h =
+      record {
+        long = o .long;
+        shallow = o .shallow;
+        low = h;
+        few = o .shallow l h;
+        counted = refl;
+        none = o .none;
+        rest = λ t k. marker-from-next marks lengths t mostLocations l h ∙ o .rest t k;
+      }
+
+  pub marker-end : (t : ℕ) → mark ≡ t + 1 → mostLocations ≤ l → found ≡ markerOf marks lengths t
+  unfolding markerFrom
+  marker-end t k h =
+      let e : mostLocations - l ≡ 0 = omega arith in
+      o .none ∙ (rw e at (o .rest t k))
+
+module _ {marks lengths : List ℕ} {mark l n i : ℕ} {found : Found}
+    (o : MarksSoFar marks lengths mark l n i found) where
+  module _ (h : i < n) where
+    marks-at : drop i (marksIn marks lengths l)
+        ≡ getD marks (l * room + i) 0 ∷ drop (i + 1) (marksIn marks lengths l)
+    unfolding marksIn
+    marks-at = part-next (l * room) (getD lengths l 0) i marks 0 (omega arith) (omega arith)
+
+    marker-in-next : (t : ℕ) (after : Found) → eqb (getD marks (l * room + i) 0) (t + 1) ≡ false
+        → markerIn t l (i + 1) (drop (i + 1) (marksIn marks lengths l)) after
+        ≡ markerIn t l i (drop i (marksIn marks lengths l)) after
+    unfolding markerIn pick
+    marker-in-next t after e = rw (marks-at, e, add-one)
+
+    pub marks-next : (getD marks (l * room + i) 0 ≡ mark → ⊥) → MarksSoFar marks lengths mark l n (i + 1) found
+    marks-next f =
+        record {
+          long = o .long;
+          shallow = o .shallow;
+          low = o .low;
+          few = o .few;
+          counted = o .counted;
+          none = o .none;
+          rest = λ t e. marker-in-next t _ (ne-eqb _ _ (λ p. f (p ∙ sym e))) ∙ o .rest t e;
+        }
+
+    pub marker-here : (t : ℕ) → mark ≡ t + 1 → getD marks (l * room + i) 0 ≡ mark
+        → At (record { 0 = l }) i ≡ markerOf marks lengths t
+    unfolding markerIn pick
+    marker-here t e p = rw (marks-at, eq-eqb _ _ (p ∙ e)) at (o .rest t e)
+
+  pub queues-next : n ≤ i → QueuesSoFar marks lengths mark (l + 1) found
+  unfolding markerIn marksIn
+  queues-next h =
+      record {
+        long = o .long;
+        shallow = o .shallow;
+        within = omega arith;
+        none = o .none;
+        rest = λ t e. rw (part-end (l * room) (getD lengths l 0) i marks (omega arith)) at (o .rest t e);
+      }
+
+-- firstBar: what the entries behind the first j say, counted from there, is what the first i say
+pub record BarSoFar (l : ℕ) (b : List Waiting) (base i j : ℕ) : Type 0 where
+  pub long : base + i ≤ length b
+  pub within : j ≤ i
+  pub rest : j + firstBar l (drop j (part base i b)) ≡ firstBar l (part base i b)
+
+pub bar-start : (l : ℕ) (b : List Waiting) (base i : ℕ) → base + i ≤ length b → BarSoFar l b base i 0
+bar-start l b base i h = record { long = h; within = omega arith; rest = zero-add _ }
+
+module _ {l : ℕ} {b : List Waiting} {base i j : ℕ} (o : BarSoFar l b base i j) where
+  pub bar-next : j < i → bars l (getD b (base + j) blankWaiting .entry) ≡ false → BarSoFar l b base i (j + 1)
+  unfolding firstBar pick
+  bar-next h e =
+      let r : j + suc (firstBar l (drop (j + 1) (part base i b))) ≡ firstBar l (part base i b)
+      = rw (part-next base i j b blankWaiting h (o .long), e) at (o .rest) in
+      record { long = o .long; within = omega arith; rest = omega arith }
+
+module _ {l : ℕ} {b : List Waiting} (waiting : List ℕ) (t : ℕ) {i j : ℕ}
+    (o : BarSoFar l b (t * mostInstructions) i j) (few : i ≤ getD waiting t 0) where
+  bar-front : firstBar l (part (t * mostInstructions) i b) ≡ firstBar l (take i (bufferIn b waiting t))
+  unfolding bufferIn
+  bar-front = rw (take-part i (t * mostInstructions) (getD waiting t 0) b few)
+
+  pub bar-here : j < i → bars l (getD b (t * mostInstructions + j) blankWaiting .entry) ≡ true
+      → j ≡ firstBar l (take i (bufferIn b waiting t))
+  unfolding firstBar pick
+  bar-here h e =
+      let r : j + 0 ≡ firstBar l (part (t * mostInstructions) i b)
+      = rw (part-next (t * mostInstructions) i j b blankWaiting h (o .long), e) at (o .rest) in
+      sym (add-zero j) ∙ r ∙ bar-front
+
+  pub bar-end : i ≤ j → j ≡ firstBar l (take i (bufferIn b waiting t))
+  unfolding firstBar
+  bar-end h =
+      let r : j + 0 ≡ firstBar l (part (t * mostInstructions) i b)
+      = rw (part-end (t * mostInstructions) i j b h) at (o .rest) in
+      sym (add-zero j) ∙ r ∙ bar-front

@@ -1,0 +1,167 @@
+-- Laws of the loops that offer steps to the list of next steps, and what a fit gives them. One record for every
+-- loop: what it has offered so far, made where it begins (start), with a law for each turn that goes on (next)
+-- and one for the end. Assumes nothing.
+use Prim.Native.Nat.{ℕ, _+_, _*_, _-_, _≤_, _<_}
+use mathlib.Core.Path.{_≡_, sym, _∙_}
+use mathlib.Core.List.{List, []}
+use native.Mathlib.Omega.{arith}
+use lib.ListN.{getD}
+use Rattle.cases.specs.declared.case.Step.{Step}
+use Rattle.cases.specs.declared.case.Program.{Program}
+use Rattle.cases.specs.Sizes.{mostThreads, mostInstructions, mostLocations}
+use Rattle.machine.specs.declared.cells.State.{State}
+use Rattle.machine.specs.declared.cells.Waiting.{Waiting}
+use Rattle.machine.specs.declared.next.Next.{Next}
+use Rattle.machine.specs.Sizes.{mostCandidates}
+use Rattle.machine.specs.View.{bufferIn}
+use Rattle.machine.specs.Rules.{entryAt}
+use Rattle.machine.specs.Fit.{Named, Fits}
+use Rattle.machine.specs.Next.{issueStep, moveStep, persistStep, issuesFrom, movesAt, movesFrom}
+use Rattle.machine.specs.Next.{persistsFrom, listed}
+use Rattle.machine.specs.Offer.{offered, offeredAll, issueRuleAt, moveRuleAt, Movable}
+use Rattle.machine.proofs.NextLaws.{count-offered, count-offered-all, length-issues, length-positions}
+use Rattle.machine.proofs.NextLaws.{length-moves, issues-next, issues-end, positions-next}
+use Rattle.machine.proofs.NextLaws.{positions-end}
+use Rattle.machine.proofs.NextLaws.{moves-next, moves-end, persists-next, persists-end}
+
+-- Of most turns, each with so many steps, i are done: the steps of those left, offered to the list so far, give
+-- what the steps of all give to the list at the start, and the list has room for them.
+pub record OfferedSoFar (rule : Step → ℕ) (steps : ℕ → ℕ → List Step) (each most i : ℕ) (n start : Next)
+    : Type 0 where
+  pub few : n .count + (most - i) * each ≤ mostCandidates
+  pub rest : offeredAll rule (steps i (most - i)) n ≡ offeredAll rule (steps 0 most) start
+
+pub offers-start : (rule : Step → ℕ) (steps : ℕ → ℕ → List Step) (each most : ℕ) (start : Next)
+    → start .count + most * each ≤ mostCandidates
+    → OfferedSoFar rule steps each most 0 start start
+offers-start rule steps each most start h =
+    let e : most - 0 ≡ most = omega arith in
+    record { few = rw e h; rest = rw e }
+
+-- there is room for one step more
+pub offers-low : {rule : Step → ℕ} {steps : ℕ → ℕ → List Step} {most i : ℕ} {n start : Next}
+    → OfferedSoFar rule steps 1 most i n start → i < most → n .count < mostCandidates
+offers-low o h = let w = o .few in omega arith
+
+-- and, where a turn offers a thread's moves, for those
+pub offers-room : {rule : Step → ℕ} {steps : ℕ → ℕ → List Step} {most i : ℕ} {n start : Next}
+    → OfferedSoFar rule steps mostInstructions most i n start → i < most
+    → n .count + mostInstructions ≤ mostCandidates
+offers-room {most = most} {i} {n} o h = let w = o .few in omega arith
+
+-- a step more uses up the room of its turn
+few-next : (broken : ℕ) (k : Step) (most i : ℕ) (n next : Next) → i < most → next ≡ offered broken k n
+    → n .count + (most - i) * 1 ≤ mostCandidates
+    → next .count + (most - (i + 1)) * 1 ≤ mostCandidates
+few-next broken k most i n next h e w = rw e (let a = count-offered broken k n in omega arith)
+
+-- a turn goes on, the loop ends: issues by thread, moves by position, moves by thread, persists by location
+module _ {rule : Step → ℕ} {most i : ℕ} {n start : Next} where
+  pub issue-next : OfferedSoFar rule issuesFrom 1 most i n start → i < most
+      → (broken : ℕ) → broken ≡ rule (issueStep i) → (next : Next) → next ≡ offered broken (issueStep i) n
+      → OfferedSoFar rule issuesFrom 1 most (i + 1) next start
+  issue-next o h broken e next f =
+      record {
+        few = few-next broken (issueStep i) most i n next h f (o .few);
+        rest = rw (f, e) (issues-next rule i most n h ∙ o .rest);
+      }
+
+  pub issue-end : OfferedSoFar rule issuesFrom 1 most i n start → most ≤ i
+      → n ≡ offeredAll rule (issuesFrom 0 most) start
+  issue-end o h = sym (issues-end rule i most n h) ∙ o .rest
+
+  pub position-next : (t : ℕ) → OfferedSoFar rule (movesAt t) 1 most i n start → i < most
+      → (broken : ℕ) → broken ≡ rule (moveStep t i) → (next : Next) → next ≡ offered broken (moveStep t i) n
+      → OfferedSoFar rule (movesAt t) 1 most (i + 1) next start
+  position-next t o h broken e next f =
+      record {
+        few = few-next broken (moveStep t i) most i n next h f (o .few);
+        rest = rw (f, e) (positions-next rule i most n t h ∙ o .rest);
+      }
+
+  pub thread-next : OfferedSoFar rule movesFrom mostInstructions most i n start → i < most
+      → (next : Next) → next ≡ offeredAll rule (movesAt i 0 mostInstructions) n
+      → OfferedSoFar rule movesFrom mostInstructions most (i + 1) next start
+  thread-next o h next f =
+      let a = count-offered-all rule (movesAt i 0 mostInstructions) n in
+      let b = length-positions i 0 mostInstructions in
+      let w = o .few in
+      record { few = rw f (omega arith); rest = rw f (moves-next rule i most n h ∙ o .rest) }
+
+  pub thread-end : OfferedSoFar rule movesFrom mostInstructions most i n start → most ≤ i
+      → n ≡ offeredAll rule (movesFrom 0 most) start
+  thread-end o h = sym (moves-end rule i most n h) ∙ o .rest
+
+  pub persist-next : OfferedSoFar rule persistsFrom 1 most i n start → i < most
+      → (broken : ℕ) → broken ≡ rule (persistStep i) → (next : Next) → next ≡ offered broken (persistStep i) n
+      → OfferedSoFar rule persistsFrom 1 most (i + 1) next start
+  persist-next o h broken e next f =
+      record {
+        few = few-next broken (persistStep i) most i n next h f (o .few);
+        rest = rw (f, e) (persists-next rule i most n h ∙ o .rest);
+      }
+
+  pub persist-end : OfferedSoFar rule persistsFrom 1 most i n start → most ≤ i
+      → n ≡ offeredAll rule (persistsFrom 0 most) start
+  persist-end o h = sym (persists-end rule i most n h) ∙ o .rest
+
+-- behind a buffer's entries there is nothing to move
+pub position-end : (buffers : List Waiting) (waiting marks lengths : List ℕ) (t : ℕ) {most i : ℕ}
+    {n start : Next} → OfferedSoFar (moveRuleAt buffers waiting marks lengths) (movesAt t) 1 most i n start
+    → getD waiting t 0 ≤ i
+    → n ≡ offeredAll (moveRuleAt buffers waiting marks lengths) (movesAt t 0 most) start
+position-end buffers waiting marks lengths t {most} {i} {n} o h =
+    sym (positions-end buffers waiting marks lengths t (most - i) i n h) ∙ o .rest
+
+-- all issues make the list longer by one a thread at most, all moves by a buffer's depth a thread
+issues-few : (rule : Step → ℕ) (most : ℕ) (n next : Next) → next ≡ offeredAll rule (issuesFrom 0 most) n
+    → next .count ≤ n .count + most
+issues-few rule most n next e =
+    rw e (let a = count-offered-all rule (issuesFrom 0 most) n in let b = length-issues 0 most in omega arith)
+
+moves-few : (rule : Step → ℕ) (most : ℕ) (n next : Next) → next ≡ offeredAll rule (movesFrom 0 most) n
+    → next .count ≤ n .count + most * mostInstructions
+moves-few rule most n next e =
+    rw e (let a = count-offered-all rule (movesFrom 0 most) n in let b = length-moves 0 most in omega arith)
+
+-- Movable: what it says of one thread
+pub movable-at : (buffers : List Waiting) (waiting : List ℕ) → Movable buffers waiting
+    → (t : ℕ) → t < mostThreads
+    → (getD waiting t 0 ≤ mostInstructions) × Named mostLocations (entryAt (bufferIn buffers waiting t) 0)
+unfolding Movable
+movable-at buffers waiting m t h = m t h
+
+-- before each of the three loops there is room for the steps that it offers
+module _ (p : Program) (s : State) (f : Fits p s) where
+  module _ (first : Next) (none : first ≡ listed []) where
+    none-counted : first .count ≡ 0
+    unfolding listed
+    none-counted = rw none
+
+    pub issues-room : first .count + mostThreads ≤ mostCandidates
+    issues-room = let z = none-counted in omega arith
+
+    module _ (issues : Next)
+        (e : issues
+        ≡ offeredAll (issueRuleAt p (s .issued) (s .waiting) (s .marks) (s .lengths))
+        (issuesFrom 0 (p .threads)) first) where
+      issues-counted : issues .count ≤ mostThreads
+      issues-counted =
+          let z = none-counted in
+          let a = issues-few _ _ _ _ e in
+          let w = f .program .few-threads in
+          omega arith
+
+      pub moves-room : issues .count + mostThreads * mostInstructions ≤ mostCandidates
+      moves-room = let a = issues-counted in omega arith
+
+      pub persists-room : (moves : Next)
+          → moves
+          ≡ offeredAll (moveRuleAt (s .buffers) (s .waiting) (s .marks) (s .lengths))
+          (movesFrom 0 (p .threads)) issues
+          → moves .count + mostLocations ≤ mostCandidates
+      persists-room moves g =
+          let a = issues-counted in
+          let b = moves-few _ _ _ _ g in
+          let w = f .program .few-threads in
+          omega arith

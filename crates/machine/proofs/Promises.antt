@@ -1,0 +1,158 @@
+-- What the machine promises to the layers above: all that they may cite. Each law is stated in full. Assumes
+-- nothing.
+use Prim.Native.Nat.{ℕ, _+_, _≤_}
+use mathlib.Core.Path.{_≡_, refl, sym, _∙_}
+use mathlib.Core.Logic.{_⊎_, _≢_, _↔_}
+use mathlib.Core.List.{List}
+use mathlib.Core.Bool.{true, false}
+use lib.ListN.{length, getD, take}
+use lib.Seq.{take-at}
+use borrow.Author.Tests.{eq-eqb, ne-eqb}
+use Rattle.cases.specs.declared.case.Step.{Step}
+use Rattle.cases.specs.declared.case.Program.{Program}
+use Rattle.cases.specs.declared.case.Ask.{Ask}
+use Rattle.cases.specs.declared.case.Case.{Case}
+use Rattle.cases.specs.Sizes.{mostSteps}
+use Rattle.cases.specs.Bytes.{IsBytes}
+use Rattle.cases.specs.Checks.{stepFault}
+use Rattle.cases.specs.Draft.{noStep, withAsk}
+use Rattle.cases.specs.Reading.{numberOf, offsetOf, readOf}
+use Rattle.cases.specs.Writing.{readsBack}
+use Rattle.cases.proofs.Promises.{readable-ranged, read-reads-back}
+use Rattle.cases.proofs.ChoiceLaws.{pick-true, pick-false, pick-cases, true-not, false-not}
+use Rattle.machine.specs.declared.cells.State.{State}
+use Rattle.machine.specs.declared.steps.Stepped.{Stepped}
+use Rattle.machine.specs.declared.runs.Verdict.the-variants.{Legal, Illegal}
+use Rattle.machine.specs.Rules.{ruleOf, nextOf, startOf}
+use Rattle.machine.specs.Fit.{ProgramFits, Fits}
+use Rattle.machine.specs.Work.{work, fullLength, cost}
+use Rattle.machine.specs.Judge.{Leads, StopsAt, rulingNo, told, steppedOf, stepOf, judgeFrom, runOf}
+use Rattle.machine.specs.Judge.{judgeRun, stopped, judgeOf, judgeBytes}
+use Rattle.machine.specs.Next.{legalSteps, listed, nextSteps, Rising, Listed}
+use Rattle.machine.proofs.StartLaws as StartLaws
+use Rattle.machine.proofs.StepLaws as StepLaws
+use Rattle.machine.proofs.RuleLaws as RuleLaws
+use Rattle.machine.proofs.CandidateLaws as CandidateLaws
+use Rattle.machine.proofs.JudgeLaws.{leads-or-stops, says-legal, says-illegal, legal-says, illegal-says}
+use Rattle.machine.proofs.JudgeLaws.{says-leads, says-stops, state-is}
+
+-- A case that passes the test for 32
+module _ (c : Case) (readable : readsBack c ≡ true) where
+  -- its program is one that the machine can run
+  pub program-fits : ProgramFits (c .program)
+  program-fits = StartLaws.ranged-fits c (readable-ranged c readable)
+
+  -- its start fits it
+  pub start-fits : Fits (c .program) (startOf (c .program))
+  start-fits = StartLaws.start-fits (c .program) program-fits
+
+  -- "The sum at the start is the program's full length, at most 96."
+  pub full-length-most : fullLength (c .program) ≤ mostSteps
+  full-length-most = StartLaws.full-most (c .program) program-fits
+
+  judge-is : judgeOf c ≡ judgeFrom (c .program) 0 (startOf (c .program)) (runOf c)
+  unfolding judgeOf judgeRun
+  judge-is = pick-false _ _ _ (true-not _ readable)
+
+  -- "It passes a run exactly when every step is legal": with their number, and the end state
+  pub judge-legal :
+      (judgeOf c .verdict ≡ Legal (length (runOf c)))
+      ↔ ((u : State) × Leads (c .program) (startOf (c .program)) (runOf c) u)
+  judge-legal =
+      rw judge-is (
+        says-leads (c .program) (startOf (c .program)) (runOf c) (length (runOf c)),
+        (λ e. legal-says (c .program) (startOf (c .program)) (runOf c) (e .0) (e .1)),
+      )
+
+  pub judge-legal-state : (u : State) → Leads (c .program) (startOf (c .program)) (runOf c) u
+      → judgeOf c .state ≡ u
+  judge-legal-state u h = rw judge-is (state-is _ _ _ _ u (says-legal _ _ _ u h))
+
+  -- "else it names the first illegal step and its rule": the rule that this step breaks in the state that the
+  -- steps before it lead to, and that state
+  pub judge-illegal : (r i : ℕ) →
+      (judgeOf c .verdict ≡ Illegal r i)
+      ↔ ((u : State) × StopsAt (c .program) (startOf (c .program)) (runOf c) i u
+      × (ruleOf (c .program) u (getD (runOf c) i noStep) ≡ r))
+  judge-illegal r i =
+      rw judge-is (
+        says-stops (c .program) (startOf (c .program)) (runOf c) r i,
+        (λ e. illegal-says (c .program) (startOf (c .program)) (runOf c) i (e .0) r (e .1) (e .2)),
+      )
+
+  pub judge-illegal-state : (i : ℕ) (u : State) → StopsAt (c .program) (startOf (c .program)) (runOf c) i u
+      → judgeOf c .state ≡ u
+  judge-illegal-state i u h = rw judge-is (state-is _ _ _ _ u (says-illegal _ _ _ i u h))
+
+  -- a run is legal to its end, or stops at one step
+  pub legal-or-not :
+      ((u : State) × Leads (c .program) (startOf (c .program)) (runOf c) u)
+      ⊎ ((i : ℕ) × (u : State) × StopsAt (c .program) (startOf (c .program)) (runOf c) i u)
+  legal-or-not = leads-or-stops (c .program) (startOf (c .program)) (runOf c)
+
+-- Where 32 or reading stops the judge: the number, the offset, the empty case's start
+pub judge-unreadable : (c : Case) → readsBack c ≡ false → judgeOf c ≡ stopped 32 0
+unfolding judgeOf
+judge-unreadable c h = pick-true _ _ _ (false-not _ h)
+
+module _ (s : List ℕ) where
+  pub judge-refused : numberOf (readOf s .answer) ≢ 0
+      → judgeBytes s ≡ stopped (numberOf (readOf s .answer)) (offsetOf (readOf s .answer))
+  unfolding judgeBytes
+  judge-refused h = pick-false _ _ _ (ne-eqb _ _ h)
+
+  -- bytes that read are judged as the case they read as
+  pub judge-read : IsBytes s → numberOf (readOf s .answer) ≡ 0 → judgeBytes s ≡ judgeOf (readOf s .case)
+  unfolding judgeBytes judgeOf
+  judge-read b h =
+      pick-true _ _ _ (eq-eqb _ _ h) ∙ sym (pick-false _ _ _ (true-not _ (read-reads-back s b h)))
+
+-- "It doesn't look at kinds 4 and 5."
+pub ask-not-looked-at : (c : Case) (a : Ask) → judgeRun (withAsk c a) ≡ judgeRun c
+unfolding judgeRun withAsk
+ask-not-looked-at c a = refl
+
+-- A state that fits its program
+module _ (p : Program) (s : State) (fit : Fits p s) where
+  module _ (k : Step) (faultless : stepFault p k ≡ 0) (legal : ruleOf p s k ≡ 0) where
+    -- a legal step leads to a state that fits
+    pub step-fits : Fits p (nextOf p s k)
+    step-fits = StepLaws.step-fits p s fit k (StepLaws.fault-none p k faultless) legal
+
+    -- and uses up its cost of the work left, which is 1
+    pub step-work : work p (nextOf p s k) + cost p s k ≡ work p s
+    step-work = StepLaws.step-work p s fit k (StepLaws.fault-none p k faultless) legal
+
+  -- the list of next steps holds the legal ones, exactly, in 01's order, each once
+  pub next-legal : (k : Step) →
+      Listed k (legalSteps p s) ↔ ((stepFault p k ≡ 0) × (ruleOf p s k ≡ 0))
+  next-legal k = (
+    CandidateLaws.listed-legal p s k,
+    (λ h. CandidateLaws.legal-listed p s k (h .0) (h .1)),
+  )
+
+  pub next-rising : Rising 0 (legalSteps p s)
+  next-rising = CandidateLaws.legal-rising p s (fit .program)
+
+  pub next-steps-are : take (nextSteps p s .count) (nextSteps p s .steps) ≡ legalSteps p s
+  unfolding nextSteps listed
+  next-steps-are = take-at _ _ _ refl
+
+-- a step breaks no rule, or one of 21 to 29
+pub rule-in-table : (p : Program) (s : State) (k : Step)
+    → (ruleOf p s k ≡ 0) ⊎ ((21 ≤ ruleOf p s k) × (ruleOf p s k ≤ 29))
+rule-in-table = RuleLaws.rule-table
+
+-- "It gives back the state unchanged when it refuses."
+pub refused-unchanged : (c : Case) (s : State) (k : Step)
+    → rulingNo (stepOf c s k .ruling) ≢ 103
+    → stepOf c s k .state ≡ s
+unfolding stepOf steppedOf told
+refused-unchanged c s k =
+    pick-cases Kept _ _ _ (λ h n. refl) (λ h.
+    pick-cases Kept _ _ _ (λ h n. refl) (λ h.
+    pick-cases Kept _ _ _ (λ h n. refl) (λ h.
+    pick-cases Kept _ _ _ (λ h n. refl) (λ h n. absurd (n refl)))))
+  where
+    Kept : Stepped → Type 0
+    Kept r = rulingNo (r .ruling) ≢ 103 → r .state ≡ s

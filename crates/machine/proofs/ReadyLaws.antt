@@ -1,0 +1,162 @@
+-- What the functions of one kind of step ask for, of a state that fits and a step that 5 and 8 have nothing
+-- against. Assumes nothing.
+use Prim.Native.Nat.{ℕ, _≤_, _<_}
+use mathlib.Core.Path.{_≡_, sym, _∙_}
+use mathlib.Core.Logic.{_≢_}
+use native.Mathlib.Omega.{arith}
+use borrow.Author.Tests.{eq-eqb, ne-eqb}
+use mathlib.Core.List.{List, [], _∷_}
+use lib.ListN.{length}
+use Rattle.cases.specs.declared.case.Step.{Step}
+use Rattle.cases.specs.declared.case.Program.{Program}
+use Rattle.cases.specs.Checks.{stepFault}
+use Rattle.cases.specs.Sizes.{mostThreads, mostInstructions, mostLocations, mostRegisters}
+use Rattle.cases.proofs.ChoiceLaws.{pick-true, pick-false}
+use Rattle.machine.specs.declared.cells.State.{State}
+use Rattle.machine.specs.declared.cells.Waiting.{Waiting}
+use Rattle.machine.specs.declared.cells.Entry.{Entry}
+use Rattle.machine.specs.declared.cells.Entry.the-variants.{Store, Flush, FlushOpt, Sfence}
+use Rattle.machine.specs.Sizes.{room, mostSlots}
+use Rattle.machine.specs.View.{queueLen, buffer, bufferLen, issuedOf}
+use Rattle.machine.specs.Rules.{countAt, instructionAt, issueRule, moveRule, persistRule, ruleOf}
+use Rattle.machine.specs.Rules.{entryAt}
+use Rattle.machine.specs.Fit.{Fits, Named, AllNamed, Shallow, Roomy, unissued, due}
+use Rattle.machine.specs.Offer.{Movable}
+use Rattle.machine.proofs.SumLaws.{sum-part}
+use Rattle.machine.proofs.KeepLaws.{queue-within, buffer-within}
+use Rattle.machine.proofs.StepLaws.{fault-none, issue-left, move-there, move-named, persist-there}
+
+-- what names one of a program's locations names one of eight
+named-low : (n : ℕ) (e : Entry) → n ≤ mostLocations → Named n e → Named mostLocations e
+unfolding Named
+named-low n (Store w) h a = omega arith
+named-low n (Flush l) h a = omega arith
+named-low n (FlushOpt l) h a = omega arith
+named-low n Sfence h a = tt
+
+-- the first entry, or the blank where there is none
+first-entry : (n : ℕ) (b : List Waiting) → n ≤ mostLocations → AllNamed n b → Named mostLocations (entryAt b 0)
+unfolding AllNamed
+first-entry n [] h a = unfold Named in omega arith
+first-entry n (w ∷ b) h a = named-low n (w .entry) h (a .0)
+
+module _ (p : Program) (s : State) (f : Fits p s) where
+  pub shallow : Shallow (s .lengths)
+  unfolding Shallow
+  shallow l h = queue-within p s f l h
+
+  head-named : (t : ℕ) → t < mostThreads → Named mostLocations (entryAt (buffer s t) 0)
+  head-named t h = first-entry (p .locations) (buffer s t) (f .program .few-locations) (f .named t h)
+
+  pub movable : Movable (s .buffers) (s .waiting)
+  unfolding Movable
+  movable t h = (buffer-within p s f t h, head-named t h)
+
+  -- while something is due, no queue is full
+  queue-room : 0 < due p s → (l : ℕ) → l < mostLocations → queueLen s l < room
+  queue-room h l low = let w = f .few-queued l low in omega arith
+
+  roomy : 0 < due p s → Roomy s
+  unfolding Roomy
+  roomy = queue-room
+
+  due-waiting : (t : ℕ) → t < mostThreads → 0 < bufferLen s t → 0 < due p s
+  unfolding due
+  due-waiting t low h = let w = sum-part mostThreads t (bufferLen s) low in omega arith
+
+  due-unissued : (t : ℕ) → t < mostThreads → 0 < unissued p s t → 0 < due p s
+  unfolding due
+  due-unissued t low h = let w = sum-part mostThreads t (unissued p s) low in omega arith
+
+  module _ (k : Step) (faultless : stepFault p k ≡ 0) where
+    thread-low : k .code ≤ 1 → k .thread .0 < mostThreads
+    thread-low h =
+        let a = fault-none p k faultless .low-thread h in
+        let b = f .program .few-threads in
+        omega arith
+
+    -- the three rules
+    pub issue-rule-ready : k .code ≡ 0
+        → (k .thread .0 < mostThreads) × (countAt p (k .thread .0) ≤ mostInstructions) × Shallow (s .lengths)
+        × (length (s .marks) ≡ mostSlots)
+    issue-rule-ready h =
+        (thread-low (omega arith), f .program .few-instructions (k .thread .0), shallow, f .sized .marks-long)
+
+    pub move-rule-ready : k .code ≡ 1
+        → (k .thread .0 < mostThreads) × (bufferLen s (k .thread .0) ≤ mostInstructions)
+        × Named mostLocations (entryAt (buffer s (k .thread .0)) 0) × Shallow (s .lengths)
+        × (length (s .marks) ≡ mostSlots)
+    move-rule-ready h =
+        let low = thread-low (omega arith) in
+        (low, buffer-within p s f (k .thread .0) low, head-named (k .thread .0) low, shallow, f .sized .marks-long)
+
+    pub persist-rule-ready : k .code ≢ 0 → k .code ≢ 1 → k .location .0 < mostLocations
+    persist-rule-ready h g =
+        let r = fault-none p k faultless in
+        let c = r .low-code in
+        let a = r .low-location (omega arith) in
+        let b = f .program .few-locations in
+        omega arith
+
+    -- the three steps, where they are legal
+    module _ (legal : ruleOf p s k ≡ 0) where
+      issue-legal : k .code ≡ 0 → issueRule p (s .issued) (s .waiting) (s .marks) (s .lengths) (k .thread .0) ≡ 0
+      unfolding ruleOf
+      issue-legal h = sym (pick-true _ _ _ (eq-eqb _ _ h)) ∙ legal
+
+      move-legal : k .code ≡ 1
+          → moveRule (s .buffers) (s .waiting) (s .marks) (s .lengths) (k .thread .0) (k .position) ≡ 0
+      unfolding ruleOf
+      move-legal h =
+          let n : k .code ≢ 0 = λ z. omega arith in
+          sym (pick-false _ _ _ (ne-eqb _ _ n) ∙ pick-true _ _ _ (eq-eqb _ _ h)) ∙ legal
+
+      persist-legal : k .code ≢ 0 → k .code ≢ 1 → persistRule (s .lengths) (k .location .0) ≡ 0
+      unfolding ruleOf
+      persist-legal h g =
+          sym (pick-false _ _ _ (ne-eqb _ _ h) ∙ pick-false _ _ _ (ne-eqb _ _ g)) ∙ legal
+
+      pub issue-ready : k .code ≡ 0
+          → (k .thread .0 < mostThreads) × (issuedOf s (k .thread .0) < mostInstructions)
+          × (bufferLen s (k .thread .0) < mostInstructions)
+          × (instructionAt p (k .thread .0) (issuedOf s (k .thread .0)) .location .0 < mostLocations)
+          × (instructionAt p (k .thread .0) (issuedOf s (k .thread .0)) .register .0 < mostRegisters)
+          × (queueLen s (instructionAt p (k .thread .0) (issuedOf s (k .thread .0)) .location .0) < room)
+      issue-ready h =
+          let low = thread-low (omega arith) in
+          let left : issuedOf s (k .thread .0) < countAt p (k .thread .0) = issue-left p s f (k .thread .0) (issue-legal h) in
+          let few = f .program .few-instructions (k .thread .0) in
+          let fits = f .program .instructions (k .thread .0) (issuedOf s (k .thread .0)) left .1 in
+          let some : 0 < unissued p s (k .thread .0) = unfold unissued in omega arith in
+          let wait = f .few-waiting (k .thread .0) low in
+          let place = f .program .few-locations in
+          let named = fits .low-location in
+          let reg = fits .low-register in
+          let l : instructionAt p (k .thread .0) (issuedOf s (k .thread .0)) .location .0 < mostLocations = omega arith in
+          (low, omega arith, omega arith, l, reg, queue-room (due-unissued (k .thread .0) low some) _ l)
+
+      pub move-ready : k .code ≡ 1
+          → (k .thread .0 < mostThreads) × (k .position < bufferLen s (k .thread .0))
+          × (bufferLen s (k .thread .0) ≤ mostInstructions)
+          × Named mostLocations (entryAt (buffer s (k .thread .0)) (k .position)) × Roomy s
+      move-ready h =
+          let low = thread-low (omega arith) in
+          let range = fault-none p k faultless .low-thread (omega arith) in
+          let there = move-there p s f (k .thread .0) (k .position) range (move-legal h) in
+          let named = move-named p s f (k .thread .0) (k .position) range (move-legal h) in (
+            low,
+            there,
+            buffer-within p s f (k .thread .0) low,
+            named-low (p .locations) _ (f .program .few-locations) named,
+            roomy (due-waiting (k .thread .0) low (omega arith)),
+          )
+
+      pub persist-ready : k .code ≢ 0 → k .code ≢ 1
+          → (k .location .0 < mostLocations) × (0 < queueLen s (k .location .0))
+          × (queueLen s (k .location .0) ≤ room)
+      persist-ready h g =
+          let low = persist-rule-ready h g in
+          let r = fault-none p k faultless in
+          let c = r .low-code in
+          let range = r .low-location (omega arith) in
+          (low, persist-there p s f (k .location .0) range (persist-legal h g), queue-within p s f (k .location .0) low)

@@ -1,0 +1,190 @@
+-- A fit with room for one entry more in thread t's buffer and in each queue. Taking an entry out of a buffer, or
+-- counting an instruction as issued, leaves it; putting one in uses it up. Assumes nothing.
+use Prim.Native.Nat.{ℕ, zero, suc, _+_, _-_, _≤_, _<_}
+use mathlib.Core.Path.{_≡_, refl, sym, _∙_}
+use mathlib.Core.Logic.{_≢_}
+use mathlib.Core.List.{List, [], _∷_, _++_}
+use native.Mathlib.Omega.{arith}
+use native.Mathlib.Numerals.{add-one}
+use native.Mathlib.Decide.{ℕ-discrete}
+use lib.ListN.{length, getD, length-append}
+use Rattle.cases.specs.declared.case.Program.{Program}
+use Rattle.cases.specs.Sizes.{mostThreads, mostInstructions, mostLocations}
+use Rattle.machine.specs.declared.cells.State.{State}
+use Rattle.machine.specs.declared.cells.Waiting.{Waiting}
+use Rattle.machine.specs.declared.cells.Entry.{Entry}
+use Rattle.machine.specs.Sizes.{room}
+use Rattle.machine.specs.View.{Slot, marksOf, marksIn, queue, queueIn, queueLen, without}
+use Rattle.machine.specs.View.{buffer, bufferLen, withBuffer, withRegister, issuedOf, withIssued}
+use Rattle.machine.specs.Rules.{countAt, enqueue, await}
+use Rattle.machine.specs.Fit.{sumTo, unissued, due, Fits, Named, AllNamed, AllBorne}
+use Rattle.machine.proofs.SumLaws.{sum-change}
+use Rattle.machine.proofs.PartLaws.{length-without, length-part}
+use Rattle.machine.proofs.SlotLaws.{marks-append, marks-slots}
+use Rattle.machine.proofs.ViewLaws.{queue-length, buffer-length, bufferLen-same, sized-issued}
+use Rattle.machine.proofs.ViewLaws.{issued-same, issued-other}
+use Rattle.machine.proofs.KeepLaws.{queue-within, buffer-within, fits-queue, due-buffer, fits-buffer}
+use Rattle.machine.proofs.KeepLaws.{fits-register}
+
+-- a list's entries, one by one
+pub named-get : (n : ℕ) (b : List Waiting) (i : ℕ) (d : Waiting) → AllNamed n b → i < length b
+    → Named n (getD b i d .entry)
+unfolding AllNamed
+named-get n [] i d a h = absurd (omega arith)
+named-get n (w ∷ b) zero d a h = a .0
+named-get n (w ∷ b) (suc i) d a h = named-get n b i d (a .1) (omega arith)
+
+named-append : (n : ℕ) (b c : List Waiting) → AllNamed n b → AllNamed n c → AllNamed n (b ++ c)
+unfolding AllNamed
+named-append n [] c a e = e
+named-append n (w ∷ b) c a e = (a .0, named-append n b c (a .1) e)
+
+borne-append : (n : ℕ) (b c : List ℕ) → AllBorne n b → AllBorne n c → AllBorne n (b ++ c)
+unfolding AllBorne
+borne-append n [] c a e = e
+borne-append n (m ∷ b) c a e = (a .0, borne-append n b c (a .1) e)
+
+named-without : (n : ℕ) (b : List Waiting) (i : ℕ) → AllNamed n b → AllNamed n (without i b)
+unfolding AllNamed without
+named-without n [] zero a = tt
+named-without n [] (suc i) a = rw add-one tt
+named-without n (w ∷ b) zero a = a .1
+named-without n (w ∷ b) (suc i) a = rw add-one (a .0, rw add-one at (named-without n b i (a .1)))
+
+-- room for one more
+pub record Spare (p : Program) (s : State) (t : ℕ) : Type 0 where
+  pub fit : Fits p s
+  pub place : bufferLen s t + unissued p s t < mostInstructions
+  pub queues : (l : ℕ) → l < mostLocations → queueLen s l + due p s < room
+
+-- the marks of a queue are its slots' marks
+pub marks-queue : (p : Program) (s : State) (f : Fits p s) (l : ℕ) → l < mostLocations
+    → marksOf (queue s l) ≡ marksIn (s .marks) (s .lengths) l
+unfolding queueIn marksIn
+marks-queue p s f l low =
+    let h = f .sized .held-long in
+    let m = f .sized .marks-long in
+    let n = queue-within p s f l low in
+    marks-slots _ _ (length-part _ _ _ (omega arith) ∙ sym (length-part _ _ _ (omega arith)))
+
+-- an entry taken out of a buffer
+module _ (p : Program) (s : State) (f : Fits p s) (t i : ℕ) (low : t < p .threads) (there : i < bufferLen s t) where
+  in-threads : t < mostThreads
+  in-threads = let w = f .program .few-threads in omega arith
+
+  shorter : suc (length (without i (buffer s t))) ≡ bufferLen s t
+  shorter =
+      let e = buffer-length s (f .sized) t in-threads (buffer-within p s f t in-threads) in
+      length-without i (buffer s t) (omega arith) ∙ e
+
+  pub taken-spare : Spare p (withBuffer s t (without i (buffer s t))) t
+  taken-spare =
+      record {
+        fit = fits-buffer p s f t low b few (λ l h. let w = f .few-queued l h in let e = lower in omega arith)
+            (named-without (p .locations) (buffer s t) i (f .named t in-threads));
+        place = room-left;
+        queues = λ l h. unfold withBuffer in (let w = f .few-queued l h in let e = lower in omega arith);
+      }
+    where
+      b : List Waiting
+      b = without i (buffer s t)
+
+      few : length b + unissued p s t ≤ mostInstructions
+      few = let e = shorter in let w = f .few-waiting t in-threads in omega arith
+
+      lower : suc (due p (withBuffer s t b)) ≡ due p s
+      lower = let e = shorter in let d = due-buffer p s f t low b few in omega arith
+
+      room-left : bufferLen (withBuffer s t b) t + unissued p (withBuffer s t b) t < mostInstructions
+      room-left =
+          let n = buffer-within p s f t in-threads in
+          let k : length b ≤ mostInstructions = omega (arith, few) in
+          let e = shorter in
+          let w = f .few-waiting t in-threads in
+          let u : unissued p (withBuffer s t b) t ≡ unissued p s t = unfold withBuffer unissued in refl in
+          rw (bufferLen-same s (f .sized) t in-threads n b k, u) (omega arith)
+
+-- an instruction counted as issued
+module _ (p : Program) (s : State) (f : Fits p s) (t : ℕ) (low : t < p .threads) (left : issuedOf s t < countAt p t) where
+  abbrev counted : State
+  counted = withIssued s t (issuedOf s t + 1)
+
+  in-range : t < mostThreads
+  in-range = let w = f .program .few-threads in omega arith
+
+  pub unissued-same : suc (unissued p counted t) ≡ unissued p s t
+  unfolding unissued
+  unissued-same = let e = issued-same s (f .sized) t (issuedOf s t + 1) in-range in rw e (omega arith)
+
+  pub unissued-other : (k : ℕ) → k ≢ t → unissued p counted k ≡ unissued p s k
+  unfolding unissued
+  unissued-other k h = rw (issued-other s (f .sized) t (issuedOf s t + 1) k h)
+
+  due-counted : suc (due p counted) ≡ due p s
+  unfolding due
+  due-counted =
+      let c = sum-change mostThreads t (unissued p counted) (unissued p s) in-range (λ k a e. unissued-other k e) in
+      let e = unissued-same in
+      let b : sumTo mostThreads (bufferLen counted) ≡ sumTo mostThreads (bufferLen s) = unfold withIssued in refl in
+      omega arith
+
+  pub counted-spare : Spare p counted t
+  counted-spare =
+      record {
+        fit = record {
+          program = f .program;
+          sized = sized-issued s (f .sized) t (issuedOf s t + 1);
+          few-issued = λ k h. count k h (ℕ-discrete k t);
+          few-waiting = λ k h. wait k h (ℕ-discrete k t);
+          few-queued = λ l h. unfold withIssued in (let w = f .few-queued l h in let e = due-counted in omega arith);
+          no-buffer = unfold withIssued in f .no-buffer;
+          no-queue = unfold withIssued in f .no-queue;
+          named = unfold withIssued in f .named;
+          borne = unfold withIssued in f .borne;
+        };
+        place = unfold withIssued in (let w = f .few-waiting t in-range in let e = unissued-same in omega arith);
+        queues = λ l h. unfold withIssued in (let w = f .few-queued l h in let e = due-counted in omega arith);
+      }
+    where
+      count : (k : ℕ) → k < mostThreads → Dec (k ≡ t) → issuedOf counted k ≤ countAt p k
+      count k h (yes e) = rw (e, issued-same s (f .sized) t (issuedOf s t + 1) in-range) (omega arith)
+      count k h (no e) = rw (issued-other s (f .sized) t (issuedOf s t + 1) k e) (f .few-issued k h)
+
+      wait : (k : ℕ) → k < mostThreads → Dec (k ≡ t) → bufferLen counted k + unissued p counted k ≤ mostInstructions
+      wait k h (yes e) =
+          unfold withIssued in rw e (let w = f .few-waiting t in-range in let e = unissued-same in omega arith)
+      wait k h (no e) = unfold withIssued in rw (unissued-other k e) (f .few-waiting k h)
+
+-- what uses the room up: an entry more in the buffer, or in a queue
+module _ (p : Program) (s : State) (t : ℕ) (o : Spare p s t) where
+  pub await-fits : t < p .threads → (e : Entry) → Named (p .locations) e → Fits p (await s t e)
+  unfolding await
+  await-fits low e named =
+      let z = o .fit .program .few-threads in
+      let n = buffer-length s (o .fit .sized) t (omega arith) (buffer-within p s (o .fit) t (omega arith)) in
+      let k : length (buffer s t ++ (record { entry = e } ∷ [])) ≡ suc (bufferLen s t)
+      = simp (length-append, n) (omega arith) in
+      let w = o .place in
+      let d = due-buffer p s (o .fit) t low (buffer s t ++ (record { entry = e } ∷ [])) (omega arith) in
+      fits-buffer p s (o .fit) t low (buffer s t ++ (record { entry = e } ∷ [])) (omega arith)
+      (λ l h. let q = o .queues l h in omega arith)
+      (named-append (p .locations) (buffer s t) _ (o .fit .named t (omega arith)) (unfold AllNamed in (named, tt)))
+
+  pub enqueue-fits : (l : ℕ) → l < p .locations → (h : Slot) → h .mark ≤ p .threads → Fits p (enqueue s l h)
+  unfolding enqueue
+  enqueue-fits l low h few =
+      let z = o .fit .program .few-locations in
+      let n = queue-length s (o .fit .sized) l (omega arith) (queue-within p s (o .fit) l (omega arith)) in
+      let k : length (queue s l ++ (h ∷ [])) ≡ suc (queueLen s l) = simp (length-append, n) (omega arith) in
+      let w = o .queues l (omega arith) in
+      fits-queue p s (o .fit) l low (queue s l ++ (h ∷ [])) (omega arith)
+      (rw (marks-append (queue s l) (h ∷ []), marks-queue p s (o .fit) l (omega arith))
+      (borne-append (p .threads) _ _ (o .fit .borne l (omega arith)) (unfold AllBorne marksOf in (few, tt))))
+
+  pub register-spare : (r w : ℕ) → Spare p (withRegister s t r w) t
+  register-spare r w =
+      record {
+        fit = fits-register p s (o .fit) t r w;
+        place = unfold withRegister unissued in o .place;
+        queues = unfold withRegister due unissued in o .queues;
+      }

@@ -1,0 +1,143 @@
+-- Where a run starts: the start fits every program of a case that can be read, and its work, the full length, is
+-- at most the number of steps of a case. Assumes nothing.
+use Prim.Native.Nat.{ℕ, zero, suc, _+_, _*_, _-_, _≤_, _<_}
+use mathlib.Core.Path.{_≡_, refl}
+use mathlib.Core.List.{List, [], _∷_}
+use native.Mathlib.Omega.{arith}
+use lib.ListN.{length, getD, replicate, length-replicate}
+use Rattle.cases.specs.declared.case.Instruction.{Instruction}
+use Rattle.cases.specs.declared.case.Program.{Program}
+use Rattle.cases.specs.declared.case.Case.{Case}
+use Rattle.cases.specs.Sizes.{mostThreads, mostInstructions, mostLocations, mostSteps, mostCode}
+use Rattle.cases.specs.Ranges.{Ranged}
+use Rattle.cases.proofs.ChoiceLaws.{pick-cases}
+use Rattle.machine.specs.Sizes.{room, mostSlots, mostPlaces}
+use Rattle.machine.specs.View.{part, marksIn, queueLen, buffer, bufferIn, bufferLen, blankWaiting}
+use Rattle.machine.specs.View.{issuedOf}
+use Rattle.machine.specs.Rules.{countAt, startOf}
+use Rattle.machine.specs.Fit.{unissued, due, Sized, ProgramFits, Fits, AllNamed, AllBorne}
+use Rattle.machine.specs.Work.{unissuedWeight, weighCode, weighBuffer, codeLeft, threadWork, work}
+use Rattle.machine.specs.Work.{fullLength}
+use Rattle.machine.proofs.PartLaws.{length-part, part-end}
+use Rattle.machine.proofs.SumLaws.{sum-none, sum-most}
+
+pub ranged-fits : (c : Case) → Ranged c → ProgramFits (c .program)
+ranged-fits c r =
+    record {
+      first-long = r .first-long;
+      counts-long = r .counts-long;
+      code-long = r .code-long;
+      few-threads = r .few-threads;
+      few-locations = r .few-locations;
+      few-instructions = r .few-instructions;
+      instructions = r .instructions;
+    }
+
+-- nothing of nothing
+zeros : (n i : ℕ) → getD {A = ℕ} (replicate n 0) i 0 ≡ 0
+zeros zero i = refl
+zeros (suc n) zero = refl
+zeros (suc n) (suc i) = zeros n i
+
+part-none {ℓ} : {A : Type ℓ} (base n : ℕ) (xs : List A) → n ≡ 0 → part base n xs ≡ []
+part-none base n xs e = part-end base n 0 xs (omega arith)
+
+module _ (p : Program) (g : ProgramFits p) where
+  no-queue : (l : ℕ) → queueLen (startOf p) l ≡ 0
+  unfolding startOf
+  no-queue l = zeros mostLocations l
+
+  no-buffer : (t : ℕ) → bufferLen (startOf p) t ≡ 0
+  unfolding startOf
+  no-buffer t = zeros mostThreads t
+
+  none-issued : (t : ℕ) → issuedOf (startOf p) t ≡ 0
+  unfolding startOf
+  none-issued t = zeros mostThreads t
+
+  unissued-all : (t : ℕ) → unissued p (startOf p) t ≡ countAt p t
+  unfolding unissued
+  unissued-all t = let e = none-issued t in omega arith
+
+  no-entries : (t : ℕ) → buffer (startOf p) t ≡ []
+  unfolding bufferIn
+  no-entries t = part-none _ _ _ (no-buffer t)
+
+  no-marks : (l : ℕ) → marksIn (startOf p .marks) (startOf p .lengths) l ≡ []
+  unfolding marksIn
+  no-marks l = part-none _ _ _ (no-queue l)
+
+  start-sized : Sized (startOf p)
+  unfolding startOf
+  start-sized =
+      record {
+        words-long = g .first-long;
+        held-long = length-replicate {A = ℕ} mostSlots 0;
+        marks-long = length-replicate {A = ℕ} mostSlots 0;
+        lengths-long = length-replicate {A = ℕ} mostLocations 0;
+        buffers-long = length-replicate mostCode blankWaiting;
+        waiting-long = length-replicate {A = ℕ} mostThreads 0;
+        registers-long = length-replicate {A = ℕ} mostPlaces 0;
+        issued-long = length-replicate {A = ℕ} mostThreads 0;
+      }
+
+  start-due : due p (startOf p) ≤ room
+  unfolding due
+  start-due =
+      let a = sum-none mostThreads (bufferLen (startOf p)) (λ t h. no-buffer t) in
+      let b = sum-most mostThreads mostInstructions (unissued p (startOf p))
+      (λ t h. rw (unissued-all t) (g .few-instructions t)) in
+      omega arith
+
+  pub start-fits : Fits p (startOf p)
+  start-fits =
+      record {
+        program = g;
+        sized = start-sized;
+        few-issued = λ t h. rw (none-issued t) (omega arith);
+        few-waiting = λ t h. rw (no-buffer t, unissued-all t) (let n = g .few-instructions t in omega arith);
+        few-queued = λ l h. rw (no-queue l) (let n = start-due in omega arith);
+        no-buffer = λ t h a. no-buffer t;
+        no-queue = λ l h a. no-queue l;
+        named = λ t h. rw (no-entries t) (unfold AllNamed in tt);
+        borne = λ l h. rw (no-marks l) (unfold AllBorne in tt);
+      }
+
+-- no instruction weighs more than 3
+weight-most : (op : ℕ) → unissuedWeight op ≤ 3
+unfolding unissuedWeight
+weight-most op =
+    pick-cases (λ n. n ≤ 3) _ _ _ (λ h. omega arith) (λ h.
+    pick-cases (λ n. n ≤ 3) _ _ _ (λ h. omega arith) (λ h.
+    pick-cases (λ n. n ≤ 3) _ _ _ (λ h. omega arith) (λ h.
+    pick-cases (λ n. n ≤ 3) _ _ _ (λ h. omega arith) (λ h.
+    pick-cases (λ n. n ≤ 3) _ _ _ (λ h. omega arith) (λ h.
+    pick-cases (λ n. n ≤ 3) _ _ _ (λ h. omega arith) (λ h.
+    pick-cases (λ n. n ≤ 3) _ _ _ (λ h. omega arith) (λ h. omega arith)))))))
+
+pub code-most : (xs : List Instruction) → weighCode xs ≤ 3 * length xs
+unfolding weighCode
+code-most [] = omega arith
+code-most (x ∷ xs) = let a = weight-most (x .operation) in let b = code-most xs in omega arith
+
+-- "The sum at the start is the program's full length, at most 96."
+module _ (p : Program) (g : ProgramFits p) where
+  start-thread : (t : ℕ) → t < mostThreads → threadWork p (startOf p) t ≤ 3 * mostInstructions
+  unfolding threadWork codeLeft
+  start-thread t h =
+      let c = g .code-long in
+      let n = g .few-instructions t in
+      let e = none-issued p g t in
+      let u = unissued-all p g t in
+      let l = length-part (t * mostInstructions + issuedOf (startOf p) t) (unissued p (startOf p) t) (p .code)
+      (omega arith) in
+      let a = code-most (part (t * mostInstructions + issuedOf (startOf p) t) (unissued p (startOf p) t) (p .code)) in
+      let b : weighBuffer (buffer (startOf p) t) ≡ 0 = rw (no-entries p g t) (unfold weighBuffer in refl) in
+      omega arith
+
+  pub full-most : fullLength p ≤ mostSteps
+  unfolding fullLength work
+  full-most =
+      let a = sum-most mostThreads (3 * mostInstructions) (threadWork p (startOf p)) start-thread in
+      let b = sum-none mostLocations (queueLen (startOf p)) (λ l h. no-queue p g l) in
+      omega arith

@@ -1,0 +1,319 @@
+-- A legal step keeps the fit and lowers the work left by its cost. Assumes nothing.
+use Prim.Native.Nat.{ℕ, zero, suc, _+_, _≤_, _<_}
+use mathlib.Core.Path.{_≡_, refl, sym, ap, _∙_}
+use mathlib.Core.Logic.{_≢_}
+use mathlib.Core.Bool.{Bool, true, false}
+use mathlib.Core.List.{List, [], _∷_}
+use native.Mathlib.Omega.{arith}
+use borrow.Author.Tests.{leb-false, ltb-false, eqb-true, eqb-false, le-leb, lt-leb, eq-eqb, ne-eqb, not-false}
+use lib.Dec.{eqb}
+use lib.ListN.{length}
+use Rattle.cases.specs.declared.case.Location.{Location}
+use Rattle.cases.specs.declared.case.Register.{Register}
+use Rattle.cases.specs.declared.case.Instruction.{Instruction}
+use Rattle.cases.specs.declared.case.Step.{Step}
+use Rattle.cases.specs.declared.case.Program.{Program}
+use Rattle.cases.specs.Choice.{pick, both}
+use Rattle.cases.specs.Checks.{stepFault, stepOut, stepLeft, beyond, leftOver}
+use Rattle.cases.specs.Sizes.{mostInstructions, mostLocations}
+use Rattle.cases.specs.Ranges.{InstructionFits}
+use Rattle.cases.proofs.ChoiceLaws.{refuse-none, either-false}
+use Rattle.machine.specs.declared.cells.State.{State}
+use Rattle.machine.specs.declared.cells.Entry.{Entry}
+use Rattle.machine.specs.declared.cells.Entry.the-variants.{Store, Flush, FlushOpt, Sfence}
+use Rattle.machine.specs.Sizes.{room}
+use Rattle.machine.specs.View.{Slot, writeSlot, markerSlot, marksOf, queue, queueLen, withQueue}
+use Rattle.machine.specs.View.{buffer, bufferLen, withBuffer, blankWaiting, wordOf, withWord}
+use Rattle.machine.specs.View.{withRegister, issuedOf, withIssued}
+use Rattle.machine.specs.Look.{wordOr, queuedWord, loadOf}
+use Rattle.machine.specs.Rules.{countAt, instructionAt, issueRule, entryOf, loaded, exchanged, performed}
+use Rattle.machine.specs.Rules.{issueOf, effectOf, entryAt, moveRule, moveOf, persistRule, persistFirst}
+use Rattle.machine.specs.Rules.{persistOf, ruleOf, nextOf, enqueue, await}
+use Rattle.machine.specs.Fit.{Fits, Named, AllBorne, due, unissued}
+use Rattle.machine.specs.Work.{unissuedWeight, waitingWeight, work, cost}
+use Rattle.machine.proofs.ViewLaws.{queue-length, buffer-length}
+use Rattle.machine.proofs.KeepLaws.{queue-within, buffer-within, fits-queue, fits-word, fits-register}
+use Rattle.machine.proofs.SpareLaws.{Spare, named-get, marks-queue, taken-spare, counted-spare}
+use Rattle.machine.proofs.SpareLaws.{await-fits, enqueue-fits, register-spare}
+use Rattle.machine.proofs.WorkLaws.{work-queue, work-enqueue, work-await, work-without, work-counted}
+use Rattle.machine.proofs.WorkLaws.{work-word, work-register}
+
+-- what a step that 5 and 8 have nothing against uses is there, and what it doesn't use is 0
+pub record InRange (p : Program) (k : Step) : Type 0 where
+  pub low-code : k .code ≤ 2
+  pub low-thread : k .code ≤ 1 → k .thread .0 < p .threads
+  pub low-position : k .code ≡ 1 → k .position < mostInstructions
+  pub low-location : k .code ≡ 2 → k .location .0 < p .locations
+  pub no-thread : 2 ≤ k .code → k .thread .0 ≡ 0
+  pub no-position : k .code ≢ 1 → k .position ≡ 0
+  pub no-location : k .code ≢ 2 → k .location .0 ≡ 0
+
+used-low : (x limit : ℕ) (used : Bool) → beyond used x limit ≡ false → used ≡ true → x < limit
+unfolding beyond both
+used-low x limit used h e = leb-false _ _ (rw e at h)
+
+unused-none : (x : ℕ) (used : Bool) → leftOver used x ≡ false → used ≡ false → x ≡ 0
+unfolding leftOver both
+unused-none x used h e = eqb-true _ _ (not-false _ (rw e at h))
+
+pub fault-none : (p : Program) (k : Step) → stepFault p k ≡ 0 → InRange p k
+unfolding stepFault stepOut stepLeft
+fault-none p k h =
+    let chain = refuse-none _ 4 _ h in
+    let code = either-false _ _ (chain .0) in
+    let thread = either-false _ _ (code .1) in
+    let position = either-false _ _ (thread .1) in
+    let left = either-false _ _ (refuse-none _ 7 _ (chain .1) .0) in
+    let last = either-false _ _ (left .1) in
+    record {
+      low-code = ltb-false _ _ (code .0);
+      low-thread = λ e. used-low _ _ _ (thread .0) (le-leb _ _ e);
+      low-position = λ e. used-low _ _ _ (position .0) (eq-eqb _ _ e);
+      low-location = λ e. used-low _ _ _ (position .1) (eq-eqb _ _ e);
+      no-thread = λ e. unused-none _ _ (left .0) (lt-leb _ _ e);
+      no-position = λ e. unused-none _ _ (last .0) (ne-eqb _ _ e);
+      no-location = λ e. unused-none _ _ (last .1) (ne-eqb _ _ e);
+    }
+
+-- an operation is one of eight
+each-operation {ℓ} : (P : ℕ → Type ℓ) → P 1 → P 2 → P 3 → P 4 → P 5 → P 6 → P 7 → P 8
+    → (op : ℕ) → 1 ≤ op → op ≤ 8 → P op
+each-operation P a b c d e f g i zero h k = absurd (omega arith)
+each-operation P a b c d e f g i (suc zero) h k = a
+each-operation P a b c d e f g i (suc (suc zero)) h k = b
+each-operation P a b c d e f g i (suc (suc (suc zero))) h k = c
+each-operation P a b c d e f g i (suc (suc (suc (suc zero)))) h k = d
+each-operation P a b c d e f g i (suc (suc (suc (suc (suc zero))))) h k = e
+each-operation P a b c d e f g i (suc (suc (suc (suc (suc (suc zero)))))) h k = f
+each-operation P a b c d e f g i (suc (suc (suc (suc (suc (suc (suc zero))))))) h k = g
+each-operation P a b c d e f g i (suc (suc (suc (suc (suc (suc (suc (suc zero)))))))) h k = i
+each-operation P a b c d e f g i (suc (suc (suc (suc (suc (suc (suc (suc (suc n))))))))) h k = absurd (omega arith)
+
+-- an instruction of the operation op
+abbrev of : ℕ → Location → Register → ℕ → Instruction
+of op l r w = record { operation = op; location = l; register = r; word = w }
+
+-- What an instruction does, where it is counted already
+module _ (p : Program) (s : State) (t : ℕ) (o : Spare p s t) (low : t < p .threads)
+    (l : Location) (r : Register) (w : ℕ) (there : l .0 < p .locations) where
+  performed-fits : (op : ℕ) → 1 ≤ op → op ≤ 8 → Fits p (performed s t (of op l r w))
+  unfolding performed pick entryOf Named loaded exchanged
+  performed-fits =
+      each-operation (λ op. Fits p (performed s t (of op l r w)))
+      (await-fits p s t o low _ there)
+      (await-fits p s t o low _ there)
+      (fits-register p s (o .fit) t _ _)
+      (enqueue-fits p _ t (register-spare p s t o _ _) (l .0) there (writeSlot w) (omega arith))
+      (await-fits p s t o low (Flush l) there)
+      (await-fits p s t o low (FlushOpt l) there)
+      (await-fits p s t o low Sfence tt)
+      (o .fit)
+
+  performed-work : (op : ℕ) → 1 ≤ op → op ≤ 8
+      → work p (performed s t (of op l r w)) + 1 ≡ work p s + unissuedWeight op
+  unfolding performed pick entryOf loaded exchanged unissuedWeight waitingWeight
+  performed-work =
+      let z = o .fit .program .few-threads in
+      let y = o .fit .program .few-locations in
+      let b = o .place in
+      let q = o .queues (l .0) (omega arith) in
+      let v = queuedWord s (l .0) in
+      let x = work-register p s (o .fit) t (r .0) v in
+      let f = register-spare p s t o (r .0) v in
+      let n : queueLen (withRegister s t (r .0) v) (l .0) < room = unfold withRegister in omega arith in
+      let e = work-enqueue p (withRegister s t (r .0) v) (f .fit) (l .0) (omega arith) n (writeSlot w) in
+      each-operation (λ op. work p (performed s t (of op l r w)) + 1 ≡ work p s + unissuedWeight op)
+      (rw (work-await p s (o .fit) t (omega arith) (omega arith)) (omega arith))
+      (rw (work-await p s (o .fit) t (omega arith) (omega arith)) (omega arith))
+      (rw (work-register p s (o .fit) t (r .0)) (omega arith))
+      (omega arith)
+      (rw (work-await p s (o .fit) t (omega arith) (omega arith)) (omega arith))
+      (rw (work-await p s (o .fit) t (omega arith) (omega arith)) (omega arith))
+      (rw (work-await p s (o .fit) t (omega arith) (omega arith)) (omega arith))
+      refl
+
+-- counting an instruction as issued before or after what it does is the same
+counted-first : (s : State) (t n : ℕ) (l : Location) (r : Register) (w : ℕ) (op : ℕ) → 1 ≤ op → op ≤ 8
+    → withIssued (performed s t (of op l r w)) t n ≡ performed (withIssued s t n) t (of op l r w)
+unfolding performed pick entryOf loaded exchanged loadOf queuedWord await enqueue withIssued withRegister withBuffer
+    withQueue
+counted-first s t n l r w =
+    each-operation (λ op. withIssued (performed s t (of op l r w)) t n ≡ performed (withIssued s t n) t (of op l r w))
+    refl refl refl refl refl refl refl refl
+
+-- Issue
+module _ (p : Program) (s : State) (f : Fits p s) (t : ℕ)
+    (legal : issueRule p (s .issued) (s .waiting) (s .marks) (s .lengths) t ≡ 0) where
+  pub issue-left : issuedOf s t < countAt p t
+  unfolding issueRule
+  issue-left = leb-false _ _ (refuse-none _ 20 _ legal .0)
+
+  abbrev next : Instruction
+  next = instructionAt p t (issuedOf s t)
+
+  there : (t < p .threads) × InstructionFits p next
+  there = f .program .instructions t (issuedOf s t) issue-left
+
+  issue-is : issueOf p s t ≡ performed (withIssued s t (issuedOf s t + 1)) t next
+  unfolding issueOf
+  issue-is =
+      counted-first s t (issuedOf s t + 1) (next .location) (next .register) (next .word) (next .operation)
+      (there .1 .some-operation) (there .1 .low-operation)
+
+  pub issue-fits : Fits p (issueOf p s t)
+  issue-fits =
+      rw issue-is
+      (performed-fits p (withIssued s t (issuedOf s t + 1)) t (counted-spare p s f t (there .0) issue-left)
+      (there .0) (next .location) (next .register) (next .word) (there .1 .low-location) (next .operation)
+      (there .1 .some-operation) (there .1 .low-operation))
+
+  pub issue-work : work p (issueOf p s t) + 1 ≡ work p s
+  issue-work =
+      let a = performed-work p (withIssued s t (issuedOf s t + 1)) t (counted-spare p s f t (there .0) issue-left)
+      (there .0) (next .location) (next .register) (next .word) (there .1 .low-location) (next .operation)
+      (there .1 .some-operation) (there .1 .low-operation) in
+      rw issue-is (a ∙ work-counted p s f t (there .0) issue-left)
+
+-- Move
+module _ (p : Program) (s : State) (t : ℕ) (o : Spare p s t) (low : t < p .threads) where
+  effect-fits : (e : Entry) → Named (p .locations) e → Fits p (effectOf s t e)
+  unfolding effectOf Named
+  effect-fits (Store w) h = enqueue-fits p s t o (w .location .0) h (writeSlot (w .word)) (omega arith)
+  effect-fits (Flush l) h = o .fit
+  effect-fits (FlushOpt l) h = enqueue-fits p s t o (l .0) h (markerSlot t) (omega arith)
+  effect-fits Sfence h = o .fit
+
+  effect-work : (e : Entry) → Named (p .locations) e → work p (effectOf s t e) + 1 ≡ work p s + waitingWeight e
+  unfolding effectOf Named waitingWeight
+  effect-work (Store w) h =
+      let y = o .fit .program .few-locations in
+      let q = o .queues (w .location .0) (omega arith) in
+      rw (work-enqueue p s (o .fit) (w .location .0) (omega arith) (omega arith)) (omega arith)
+  effect-work (Flush l) h = refl
+  effect-work (FlushOpt l) h =
+      let y = o .fit .program .few-locations in
+      let q = o .queues (l .0) (omega arith) in
+      rw (work-enqueue p s (o .fit) (l .0) (omega arith) (omega arith)) (omega arith)
+  effect-work Sfence h = refl
+
+module _ (p : Program) (s : State) (f : Fits p s) (t i : ℕ) (low : t < p .threads)
+    (legal : moveRule (s .buffers) (s .waiting) (s .marks) (s .lengths) t i ≡ 0) where
+  pub move-there : i < bufferLen s t
+  unfolding moveRule
+  move-there = leb-false _ _ (refuse-none _ 23 _ legal .0)
+
+  pub move-named : Named (p .locations) (entryAt (buffer s t) i)
+  move-named =
+      let z = f .program .few-threads in
+      let n = buffer-length s (f .sized) t (omega arith) (buffer-within p s f t (omega arith)) in
+      let h = move-there in
+      named-get (p .locations) (buffer s t) i blankWaiting (f .named t (omega arith)) (omega arith)
+
+  pub move-fits : Fits p (moveOf s t i)
+  unfolding moveOf
+  move-fits = effect-fits p _ t (taken-spare p s f t i low move-there) low _ move-named
+
+  pub move-work : work p (moveOf s t i) + 1 ≡ work p s
+  unfolding moveOf
+  move-work =
+      let z = f .program .few-threads in
+      effect-work p _ t (taken-spare p s f t i low move-there) low _ move-named
+      ∙ work-without p s f t i blankWaiting (omega arith) move-there
+
+-- Persist
+borne-rest : (n : ℕ) (h : Slot) (q : List Slot) → AllBorne n (marksOf (h ∷ q)) → AllBorne n (marksOf q)
+unfolding marksOf AllBorne
+borne-rest n h q b = b .1
+
+module _ (p : Program) (s : State) (f : Fits p s) (l : ℕ) (low : l < p .locations)
+    (legal : persistRule (s .lengths) l ≡ 0) where
+  in-range : l < mostLocations
+  in-range = let w = f .program .few-locations in omega arith
+
+  pub persist-there : 0 < queueLen s l
+  unfolding persistRule
+  persist-there = let e : queueLen s l ≢ 0 = eqb-false _ _ (refuse-none _ 28 _ legal .0) in omega arith
+
+  long : length (queue s l) ≡ queueLen s l
+  long = queue-length s (f .sized) l in-range (queue-within p s f l in-range)
+
+  -- the oldest entry, the rest, and what becomes of them
+  first-fits : (q : List Slot) → queue s l ≡ q → Fits p (persistFirst s l q)
+  unfolding persistFirst
+  first-fits [] e = f
+  first-fits (h ∷ q) e =
+      let k : length (queue s l) ≡ suc (length q) = ap length e in
+      let n = long in
+      let d : due p (withWord s l (wordOr h (wordOf s l))) ≡ due p s = unfold withWord due unissued in refl in
+      let w = f .few-queued l in-range in
+      let b : AllBorne (p .threads) (marksOf (h ∷ q))
+      = rw (sym (marks-queue p s f l in-range) ∙ ap marksOf e) at (f .borne l in-range) in
+      fits-queue p _ (fits-word p s f l (wordOr h (wordOf s l))) l low q (omega arith)
+      (borne-rest (p .threads) h q b)
+
+  first-work : (q : List Slot) → queue s l ≡ q → work p (persistFirst s l q) + 1 ≡ work p s
+  unfolding persistFirst
+  first-work [] e =
+      let k : length (queue s l) ≡ 0 = ap length e in
+      let n = long in
+      let h = persist-there in
+      absurd (omega arith)
+  first-work (h ∷ q) e =
+      let k : length (queue s l) ≡ suc (length q) = ap length e in
+      let n = long in
+      let m = queue-within p s f l in-range in
+      let x = wordOr h (wordOf s l) in
+      let v = work-word p s f l x in
+      let u : queueLen (withWord s l x) l ≡ queueLen s l = unfold withWord in refl in
+      let w = work-queue p (withWord s l x) (fits-word p s f l x) l in-range q (omega arith) in
+      omega arith
+
+  pub persist-fits : Fits p (persistOf s l)
+  unfolding persistOf
+  persist-fits = first-fits (queue s l) refl
+
+  pub persist-work : work p (persistOf s l) + 1 ≡ work p s
+  unfolding persistOf
+  persist-work = first-work (queue s l) refl
+
+-- A legal step is one of three: what holds of each of them holds of it
+pub step-cases {ℓ} : (p : Program) (s : State) (k : Step) (Q : State → Type ℓ)
+    → (issueRule p (s .issued) (s .waiting) (s .marks) (s .lengths) (k .thread .0) ≡ 0
+    → Q (issueOf p s (k .thread .0)))
+    → (k .thread .0 < p .threads
+    → moveRule (s .buffers) (s .waiting) (s .marks) (s .lengths) (k .thread .0) (k .position) ≡ 0
+    → Q (moveOf s (k .thread .0) (k .position)))
+    → (k .location .0 < p .locations → persistRule (s .lengths) (k .location .0) ≡ 0
+    → Q (persistOf s (k .location .0)))
+    → InRange p k → ruleOf p s k ≡ 0 → Q (nextOf p s k)
+unfolding ruleOf nextOf pick
+step-cases p s k Q issue move persist r legal = go (eqb (k .code) 0) refl (eqb (k .code) 1) refl legal
+  where
+    go : (a : Bool) → eqb (k .code) 0 ≡ a → (b : Bool) → eqb (k .code) 1 ≡ b
+        → pick a (issueRule p (s .issued) (s .waiting) (s .marks) (s .lengths) (k .thread .0))
+        (pick b (moveRule (s .buffers) (s .waiting) (s .marks) (s .lengths) (k .thread .0) (k .position))
+        (persistRule (s .lengths) (k .location .0))) ≡ 0
+        → Q (pick a (issueOf p s (k .thread .0))
+        (pick b (moveOf s (k .thread .0) (k .position)) (persistOf s (k .location .0))))
+    go true e b g h = issue h
+    go false e true g h = let c : k .code ≡ 1 = eqb-true _ _ g in move (r .low-thread (omega arith)) h
+    go false e false g h =
+        let c : k .code ≢ 0 = eqb-false _ _ e in
+        let d : k .code ≢ 1 = eqb-false _ _ g in
+        let m = r .low-code in
+        persist (r .low-location (omega arith)) h
+
+module _ (p : Program) (s : State) (f : Fits p s) (k : Step) where
+  pub step-fits : InRange p k → ruleOf p s k ≡ 0 → Fits p (nextOf p s k)
+  step-fits =
+      step-cases p s k (Fits p)
+      (issue-fits p s f (k .thread .0))
+      (move-fits p s f (k .thread .0) (k .position))
+      (persist-fits p s f (k .location .0))
+
+  pub step-work : InRange p k → ruleOf p s k ≡ 0 → work p (nextOf p s k) + cost p s k ≡ work p s
+  step-work =
+      step-cases p s k (λ u. work p u + 1 ≡ work p s)
+      (issue-work p s f (k .thread .0))
+      (move-work p s f (k .thread .0) (k .position))
+      (persist-work p s f (k .location .0))

@@ -1,0 +1,53 @@
+-- Laws of sums. Assumes nothing.
+use Prim.Native.Nat.{ℕ, zero, suc, _+_, _*_, _≤_, _<_}
+use mathlib.Core.Path.{_≡_, refl}
+use mathlib.Core.Logic.{_⊎_, inl, inr, _≢_, ⊎-elim}
+use native.Mathlib.Omega.{arith}
+use native.Mathlib.Nat.{eq-or-lt-of-le, le-of-suc-le-suc}
+use Rattle.machine.specs.Fit.{sumTo}
+
+pub sum-same : (n : ℕ) (f g : ℕ → ℕ) → ((k : ℕ) → k < n → f k ≡ g k) → sumTo n f ≡ sumTo n g
+unfolding sumTo
+sum-same zero f g h = refl
+sum-same (suc n) f g h = rw (h n (omega arith), sum-same n f g (λ k l. h k (omega arith)))
+
+-- a sum changes by what one of its terms changes
+pub sum-change : (n i : ℕ) (f g : ℕ → ℕ) → i < n → ((k : ℕ) → k < n → k ≢ i → f k ≡ g k)
+    → sumTo n f + g i ≡ sumTo n g + f i
+unfolding sumTo
+sum-change zero i f g l h = omega arith
+sum-change (suc n) i f g l h = go (eq-or-lt-of-le (le-of-suc-le-suc l)) (sum-change n i f g)
+  where
+    go : (i ≡ n) ⊎ (i < n)
+        → (i < n → ((k : ℕ) → k < n → k ≢ i → f k ≡ g k) → sumTo n f + g i ≡ sumTo n g + f i)
+        → sumTo (suc n) f + g i ≡ sumTo (suc n) g + f i
+    go (inl e) ih =
+        let r : sumTo n f ≡ sumTo n g = sum-same n f g (λ k w. h k (omega arith) (λ z. omega arith)) in
+        rw (e, r) (omega arith)
+    go (inr w) ih =
+        let r : sumTo n f + g i ≡ sumTo n g + f i = ih w (λ k x y. h k (omega arith) y) in
+        let t : f n ≡ g n = h n (omega arith) (λ z. omega arith) in
+        omega arith
+
+-- no term is above the sum
+pub sum-part : (n k : ℕ) (f : ℕ → ℕ) → k < n → f k ≤ sumTo n f
+unfolding sumTo
+sum-part zero k f h = omega arith
+sum-part (suc n) k f h =
+    ⊎-elim (λ e. rw e (omega arith)) (λ l. let i = sum-part n k f l in omega arith)
+    (eq-or-lt-of-le (le-of-suc-le-suc h))
+
+-- nothing summed is nothing
+pub sum-none : (n : ℕ) (f : ℕ → ℕ) → ((k : ℕ) → k < n → f k ≡ 0) → sumTo n f ≡ 0
+unfolding sumTo
+sum-none zero f h = refl
+sum-none (suc n) f h = rw (h n (omega arith), sum-none n f (λ k l. h k (omega arith)))
+
+-- terms that are each at most m
+pub sum-most : (n m : ℕ) (f : ℕ → ℕ) → ((k : ℕ) → k < n → f k ≤ m) → sumTo n f ≤ n * m
+unfolding sumTo
+sum-most zero m f h = omega arith
+sum-most (suc n) m f h =
+    let a = h n (omega arith) in
+    let b = sum-most n m f (λ k l. h k (omega arith)) in
+    omega arith

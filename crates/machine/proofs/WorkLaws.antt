@@ -1,0 +1,175 @@
+-- What a change of one part of a state does to the work left. Assumes nothing.
+use Prim.Native.Nat.{ℕ, zero, suc, _+_, _*_, _-_, _≤_, _<_}
+use mathlib.Core.Path.{_≡_, refl, ap, _∙_}
+use mathlib.Core.Logic.{_≢_}
+use mathlib.Core.List.{List, [], _∷_, _++_}
+use native.Mathlib.Omega.{arith}
+use native.Mathlib.Nat.{add-zero}
+use native.Mathlib.Numerals.{add-one}
+use lib.ListN.{length, getD, length-append}
+use Rattle.cases.specs.declared.case.Program.{Program}
+use Rattle.cases.specs.declared.case.Instruction.{Instruction}
+use Rattle.cases.specs.Sizes.{mostThreads, mostInstructions, mostLocations}
+use Rattle.cases.specs.Draft.{noInstruction}
+use Rattle.machine.specs.declared.cells.State.{State}
+use Rattle.machine.specs.declared.cells.Waiting.{Waiting}
+use Rattle.machine.specs.declared.cells.Entry.{Entry}
+use Rattle.machine.specs.Sizes.{room}
+use Rattle.machine.specs.View.{Slot, queue, queueLen, withQueue, without}
+use Rattle.machine.specs.View.{buffer, bufferLen, withBuffer, withWord, withRegister, issuedOf}
+use Rattle.machine.specs.View.{withIssued}
+use Rattle.machine.specs.Rules.{countAt, instructionAt, enqueue, await}
+use Rattle.machine.specs.Fit.{sumTo, unissued, Fits}
+use Rattle.machine.specs.Work.{unissuedWeight, waitingWeight, weighCode, weighBuffer, codeLeft}
+use Rattle.machine.specs.Work.{threadWork, work}
+use Rattle.machine.proofs.SumLaws.{sum-change}
+use Rattle.machine.proofs.PartLaws.{part-next, drop-part, length-without}
+use Rattle.machine.proofs.ViewLaws.{queue-length, queueLen-same, queueLen-other, buffer-length}
+use Rattle.machine.proofs.ViewLaws.{buffer-same, buffer-other, issued-same, issued-other}
+use Rattle.machine.proofs.KeepLaws.{queue-within, buffer-within}
+use Rattle.machine.proofs.SpareLaws.{unissued-same, unissued-other}
+
+-- a buffer's weight: one more at its end; one taken out
+weigh-append : (b c : List Waiting) → weighBuffer (b ++ c) ≡ weighBuffer b + weighBuffer c
+unfolding weighBuffer
+weigh-append [] c = omega arith
+weigh-append (w ∷ b) c = rw (weigh-append b c) (omega arith)
+
+weigh-without : (b : List Waiting) (i : ℕ) (d : Waiting) → i < length b
+    → waitingWeight (getD b i d .entry) + weighBuffer (without i b) ≡ weighBuffer b
+unfolding weighBuffer without
+weigh-without [] i d h = absurd (omega arith)
+weigh-without (w ∷ b) zero d h = refl
+weigh-without (w ∷ b) (suc i) d h =
+    rw add-one
+    (let r = rw add-one at (weigh-without b i d (omega arith)) in omega arith)
+
+weigh-cons : (x : Instruction) (xs : List Instruction) → weighCode (x ∷ xs) ≡ unissuedWeight (x .operation) + weighCode xs
+unfolding weighCode
+weigh-cons x xs = refl
+
+module _ (p : Program) (s : State) (f : Fits p s) where
+  -- a queue put
+  module _ (l : ℕ) (low : l < mostLocations) (q : List Slot) (m : length q ≤ room) where
+    pub work-queue : work p (withQueue s l q) + queueLen s l ≡ work p s + length q
+    unfolding work
+    work-queue =
+        let n = queue-within p s f l low in
+        let c = sum-change mostLocations l (queueLen (withQueue s l q)) (queueLen s) low
+        (λ k a e. queueLen-other s (f .sized) l low n q m k e) in
+        let e = queueLen-same s (f .sized) l low n q m in
+        let b : sumTo mostThreads (threadWork p (withQueue s l q)) ≡ sumTo mostThreads (threadWork p s)
+        = unfold withQueue threadWork codeLeft unissued in refl in
+        omega arith
+
+  -- one more at a queue's end
+  pub work-enqueue : (l : ℕ) → l < mostLocations → queueLen s l < room → (h : Slot)
+      → work p (enqueue s l h) ≡ suc (work p s)
+  unfolding enqueue
+  work-enqueue l low less h =
+      let n = queue-length s (f .sized) l low (omega arith) in
+      let k : length (queue s l ++ (h ∷ [])) ≡ suc (queueLen s l) = simp (length-append, n) (omega arith) in
+      let w = work-queue l low (queue s l ++ (h ∷ [])) (omega arith) in
+      omega arith
+
+  -- a buffer put
+  module _ (t : ℕ) (low : t < mostThreads) (b : List Waiting) (m : length b ≤ mostInstructions) where
+    pub work-buffer : work p (withBuffer s t b) + weighBuffer (buffer s t) ≡ work p s + weighBuffer b
+    unfolding work
+    work-buffer =
+        let n = buffer-within p s f t low in
+        let c = sum-change mostThreads t (threadWork p (withBuffer s t b)) (threadWork p s) low other in
+        let e : threadWork p (withBuffer s t b) t + weighBuffer (buffer s t) ≡ threadWork p s t + weighBuffer b = here in
+        let q : sumTo mostLocations (queueLen (withBuffer s t b)) ≡ sumTo mostLocations (queueLen s)
+        = unfold withBuffer in refl in
+        omega arith
+      where
+        code : (k : ℕ) → codeLeft p (withBuffer s t b) k ≡ codeLeft p s k
+        code k = unfold withBuffer codeLeft unissued in refl
+
+        other : (k : ℕ) → k < mostThreads → k ≢ t → threadWork p (withBuffer s t b) k ≡ threadWork p s k
+        other k a e = unfold threadWork in
+            rw (code k, buffer-other s (f .sized) t low (buffer-within p s f t low) b m k e (buffer-within p s f k a))
+
+        here : threadWork p (withBuffer s t b) t + weighBuffer (buffer s t) ≡ threadWork p s t + weighBuffer b
+        here = unfold threadWork in
+            rw (code t, buffer-same s (f .sized) t low (buffer-within p s f t low) b m) (omega arith)
+
+  -- one more at a buffer's end; one taken out
+  pub work-await : (t : ℕ) → t < mostThreads → bufferLen s t < mostInstructions → (e : Entry)
+      → work p (await s t e) ≡ work p s + waitingWeight e
+  unfolding await
+  work-await t low less e =
+      let n = buffer-length s (f .sized) t low (omega arith) in
+      let k : length (buffer s t ++ (record { entry = e } ∷ [])) ≡ suc (bufferLen s t)
+      = simp (length-append, n) (omega arith) in
+      let w = work-buffer t low (buffer s t ++ (record { entry = e } ∷ [])) (omega arith) in
+      let a = weigh-append (buffer s t) (record { entry = e } ∷ []) in
+      let z : weighBuffer (record { entry = e } ∷ []) ≡ waitingWeight e = unfold weighBuffer in add-zero _ in
+      omega arith
+
+  pub work-without : (t i : ℕ) (d : Waiting) → t < mostThreads → i < bufferLen s t
+      → work p (withBuffer s t (without i (buffer s t))) + waitingWeight (getD (buffer s t) i d .entry) ≡ work p s
+  work-without t i d low there =
+      let n = buffer-length s (f .sized) t low (buffer-within p s f t low) in
+      let k = length-without i (buffer s t) (omega arith) in
+      let m = buffer-within p s f t low in
+      let w = work-buffer t low (without i (buffer s t)) (omega arith) in
+      let a = weigh-without (buffer s t) i d (omega arith) in
+      omega arith
+
+  -- an instruction counted as issued
+  module _ (t : ℕ) (low : t < p .threads) (left : issuedOf s t < countAt p t) where
+    in-range : t < mostThreads
+    in-range = let w = f .program .few-threads in omega arith
+
+    code-next : codeLeft p s t
+        ≡ instructionAt p t (issuedOf s t) ∷ codeLeft p (withIssued s t (issuedOf s t + 1)) t
+    unfolding codeLeft
+    code-next =
+        let c = f .program .code-long in
+        let m = f .program .few-instructions t in
+        let u : unissued p s t ≡ countAt p t - issuedOf s t = unfold unissued in refl in
+        let v = unissued-same p s f t low left in
+        let e = issued-same s (f .sized) t (issuedOf s t + 1) in-range in
+        let at : t * mostInstructions + issuedOf s t + 1 ≡ t * mostInstructions + (issuedOf s t + 1) = omega arith in
+        let one : unissued p s t - 1 ≡ unissued p (withIssued s t (issuedOf s t + 1)) t = omega arith in
+        part-next (t * mostInstructions + issuedOf s t) (unissued p s t) 0 (p .code) noInstruction
+        (omega arith) (omega arith)
+        ∙ rw (add-zero, drop-part 1 (t * mostInstructions + issuedOf s t) (unissued p s t) (p .code), e, at, one)
+
+    other-work : (k : ℕ) → k < mostThreads → k ≢ t
+        → threadWork p (withIssued s t (issuedOf s t + 1)) k ≡ threadWork p s k
+    unfolding threadWork codeLeft withIssued
+    other-work k a e =
+        rw (unissued-other p s f t low left k e, issued-other s (f .sized) t (issuedOf s t + 1) k e)
+
+    here-work : threadWork p (withIssued s t (issuedOf s t + 1)) t
+        + unissuedWeight (instructionAt p t (issuedOf s t) .operation) ≡ threadWork p s t
+    unfolding threadWork
+    here-work =
+        let w : weighCode (codeLeft p s t)
+        ≡ unissuedWeight (instructionAt p t (issuedOf s t) .operation)
+        + weighCode (codeLeft p (withIssued s t (issuedOf s t + 1)) t)
+        = ap weighCode code-next ∙ weigh-cons _ _ in
+        let b : weighBuffer (buffer (withIssued s t (issuedOf s t + 1)) t) ≡ weighBuffer (buffer s t)
+        = unfold withIssued in refl in
+        omega arith
+
+    pub work-counted : work p (withIssued s t (issuedOf s t + 1))
+        + unissuedWeight (instructionAt p t (issuedOf s t) .operation) ≡ work p s
+    unfolding work
+    work-counted =
+        let c = sum-change mostThreads t (threadWork p (withIssued s t (issuedOf s t + 1))) (threadWork p s) in-range
+        other-work in
+        let e = here-work in
+        let q : sumTo mostLocations (queueLen (withIssued s t (issuedOf s t + 1))) ≡ sumTo mostLocations (queueLen s)
+        = unfold withIssued in refl in
+        omega arith
+
+  -- a word, a register
+  pub work-word : (l w : ℕ) → work p (withWord s l w) ≡ work p s
+  work-word l w = unfold withWord work threadWork codeLeft unissued in refl
+
+  pub work-register : (t r w : ℕ) → work p (withRegister s t r w) ≡ work p s
+  work-register t r w = unfold withRegister work threadWork codeLeft unissued in refl

@@ -1,0 +1,62 @@
+-- `exchange` meets its contract. Assumes nothing.
+use mathlib.Core.Path.{refl, _∙_}
+use Rattle.machine.specs.View.{withRegister}
+use Rattle.machine.specs.Look.{queuedWord}
+use Rattle.machine.specs.Rules.{exchanged}
+use borrow.Author.Needs.{needs}
+use Rattle.machine.proofs.issue.exchange.Statement.{statement}
+use Rattle.machine.proofs.issue.exchange.Tie as tie
+
+cast-word : tie.Need-cast-word
+cast-word c = search needs
+
+mul-word : tie.Need-mul-word
+mul-word c = search needs
+
+element-copy-out-word : tie.Need-element-copy-out-word
+element-copy-out-word c = search needs
+
+newest-write-requires : tie.Need-newest-write-requires
+newest-write-requires c κs = search needs
+
+cast-u : tie.Need-cast-u
+cast-u c = search needs
+
+mul-u : tie.Need-mul-u
+mul-u c = search needs
+
+cast-u-2 : tie.Need-cast-u-2
+cast-u-2 c = search needs
+
+add-u : tie.Need-add-u
+add-u c = search needs
+
+mul-u-2 : tie.Need-mul-u-2
+mul-u-2 c = search needs
+
+element-write-u : tie.Need-element-write-u
+element-write-u c = search needs
+
+enqueue-requires : tie.Need-enqueue-requires
+enqueue-requires c κs = search needs
+
+returns : tie.Need-returns
+unfolding exchanged withRegister queuedWord
+returns c = c .enqueue .ensures ∙ rw (c .before .before .before .newest-write .ensures) refl
+
+pub exchange-spec : {M : Type 1} → statement M
+exchange-spec =
+    tie.close
+    (tie.spec
+    cast-word
+    mul-word
+    element-copy-out-word
+    newest-write-requires
+    cast-u
+    mul-u
+    cast-u-2
+    add-u
+    mul-u-2
+    element-write-u
+    enqueue-requires
+    returns)

@@ -1,0 +1,50 @@
+-- `perform` meets its contract. Assumes nothing.
+use mathlib.Core.Path.{ap, _∙_}
+use Rattle.machine.specs.Rules.{await, performed}
+use Rattle.cases.proofs.ChoiceLaws.{choices}
+use borrow.Author.Needs.{needs}
+use Rattle.machine.proofs.issue.perform.Statement.{statement}
+use Rattle.machine.proofs.issue.perform.Tie as tie
+
+load-requires : tie.Need-load-requires
+load-requires c κs = search needs
+
+returns : tie.Need-returns
+unfolding performed
+returns c = search choices
+
+exchange-requires : tie.Need-exchange-requires
+exchange-requires c κs = search needs
+
+returns-2 : tie.Need-returns-2
+unfolding performed
+returns-2 c = search choices
+
+returns-3 : tie.Need-returns-3
+unfolding performed
+returns-3 c = search choices
+
+entry-of-requires : tie.Need-entry-of-requires
+entry-of-requires c κs = search needs
+
+await-entry-requires : tie.Need-await-entry-requires
+await-entry-requires c κs = search needs
+
+returns-4 : tie.Need-returns-4
+unfolding performed
+returns-4 c =
+    let waits = c .await-entry .ensures ∙ ap (await _ _) (c .before .entry-of .ensures) in
+    search choices
+
+pub perform-spec : {M : Type 1} → statement M
+perform-spec =
+    tie.close
+    (tie.spec
+    load-requires
+    returns
+    exchange-requires
+    returns-2
+    returns-3
+    entry-of-requires
+    await-entry-requires
+    returns-4)

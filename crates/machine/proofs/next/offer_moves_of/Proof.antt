@@ -1,0 +1,73 @@
+-- `offer_moves_of` meets its contract. Assumes nothing.
+use Prim.Native.Nat.{_-_, _≤_}
+use native.Mathlib.Omega.{arith}
+use Rattle.cases.specs.Sizes.{mostInstructions}
+use Rattle.machine.specs.Next.{movesAt}
+use Rattle.machine.specs.Offer.{moveRuleAt}
+use Rattle.machine.proofs.OfferLaws.{OfferedSoFar, offers-start, offers-low, movable-at}
+use Rattle.machine.proofs.OfferLaws.{position-next, position-end}
+use borrow.Author.Needs.{needs}
+use Rattle.machine.proofs.next.offer_moves_of.Statement.{statement}
+use Rattle.machine.proofs.next.offer_moves_of.Tie as tie
+
+-- the buffer is within its depth; the thread's moves from position i on, offered to the list so far, give what
+-- all of them give to the list at the start
+abbrev Inv-loop : tie.InvT-loop
+Inv-loop t buffers waiting marks lengths count n₀ i₀ n i =
+    (count ≤ mostInstructions)
+    × OfferedSoFar (moveRuleAt buffers waiting marks lengths) (movesAt (t .0)) 1 mostInstructions i n n₀
+
+abbrev μ-loop : tie.MeasureT-loop
+μ-loop t buffers waiting marks lengths count n₀ i₀ n i = count - i
+
+cast-count : tie.Need-cast-count Inv-loop μ-loop
+cast-count c = search needs
+
+element-copy-out-count : tie.Need-element-copy-out-count Inv-loop μ-loop
+element-copy-out-count c = search needs
+
+loop-holds : tie.Need-loop-holds Inv-loop μ-loop
+loop-holds c =
+    let m = movable-at _ _ (c .before .before .pre .1) _ (c .before .before .pre .0) in
+    (m .0, offers-start _ _ _ _ _ (omega arith))
+
+move-rule-requires : tie.Need-move-rule-requires Inv-loop μ-loop
+move-rule-requires c κs =
+    let g = c .before .before .before .before .pre in
+    let m = movable-at _ _ (g .1) _ (g .0) in
+    (g .0, m .0, m .1, g .2, g .3)
+
+offer-requires : tie.Need-offer-requires Inv-loop μ-loop
+offer-requires c κs = offers-low (c .before .before .loop .inv .1) (omega arith)
+
+add-i : tie.Need-add-i Inv-loop μ-loop
+add-i c = search needs
+
+loop-less : tie.Need-loop-less Inv-loop μ-loop
+loop-less c = search needs
+
+loop-again : tie.Need-loop-again Inv-loop μ-loop
+unfolding moveRuleAt
+loop-again c =
+    let l = c .before .before .before .loop in
+    let e = c .before .move-rule .ensures in
+    (l .inv .0, position-next _ (l .inv .1) (omega arith) _ e _ (c .offer .ensures))
+
+returns : tie.Need-returns Inv-loop μ-loop
+returns c = position-end _ _ _ _ _ (c .before .loop .inv .1) (omega arith)
+
+pub offer-moves-of-spec : {M : Type 1} → statement M
+offer-moves-of-spec =
+    tie.close
+    (tie.spec
+    Inv-loop
+    μ-loop
+    cast-count
+    element-copy-out-count
+    loop-holds
+    move-rule-requires
+    offer-requires
+    add-i
+    loop-less
+    loop-again
+    returns)

@@ -1,0 +1,55 @@
+-- `offer_persists` meets its contract. Assumes nothing.
+use Prim.Native.Nat.{_-_}
+use native.Mathlib.Omega.{arith}
+use Rattle.machine.specs.Next.{persistsFrom}
+use Rattle.machine.specs.Offer.{persistRuleAt}
+use Rattle.machine.proofs.OfferLaws.{OfferedSoFar, offers-start, offers-low, persist-next, persist-end}
+use borrow.Author.Needs.{needs}
+use Rattle.machine.proofs.next.offer_persists.Statement.{statement}
+use Rattle.machine.proofs.next.offer_persists.Tie as tie
+
+-- the persists from location l on, offered to the list so far, give what all of them give to the list at the
+-- start
+abbrev Inv-loop : tie.InvT-loop
+Inv-loop locations lengths n₀ l₀ n l = OfferedSoFar (persistRuleAt lengths) persistsFrom 1 locations l n n₀
+
+abbrev μ-loop : tie.MeasureT-loop
+μ-loop locations lengths n₀ l₀ n l = locations - l
+
+loop-holds : tie.Need-loop-holds Inv-loop μ-loop
+loop-holds c = offers-start _ _ _ _ _ (omega arith)
+
+persist-rule-requires : tie.Need-persist-rule-requires Inv-loop μ-loop
+persist-rule-requires c κs = search needs
+
+offer-requires : tie.Need-offer-requires Inv-loop μ-loop
+offer-requires c κs = offers-low (c .before .before .loop .inv) (omega arith)
+
+add-l : tie.Need-add-l Inv-loop μ-loop
+add-l c = search needs
+
+loop-less : tie.Need-loop-less Inv-loop μ-loop
+loop-less c = search needs
+
+loop-again : tie.Need-loop-again Inv-loop μ-loop
+unfolding persistRuleAt
+loop-again c =
+    let l = c .before .before .before .loop in
+    persist-next (l .inv) (omega arith) _ (c .before .persist-rule .ensures) _ (c .offer .ensures)
+
+returns : tie.Need-returns Inv-loop μ-loop
+returns c = persist-end (c .before .loop .inv) (omega arith)
+
+pub offer-persists-spec : {M : Type 1} → statement M
+offer-persists-spec =
+    tie.close
+    (tie.spec
+    Inv-loop
+    μ-loop
+    loop-holds
+    persist-rule-requires
+    offer-requires
+    add-l
+    loop-less
+    loop-again
+    returns)

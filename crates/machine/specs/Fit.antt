@@ -1,0 +1,133 @@
+-- Document 01, refusal 33: "a machine state in memory that doesn't fit its case". The test is the one truth; the
+-- record of facts is what proofs use of it (fits-is and is-fits in proofs/FitLaws.antt tie the two).
+--   misfits p s      the test: 33 where it is true
+--   Fits p s         the facts: the program's numbers are in range, and the state fits it
+-- Assumes nothing.
+use Prim.Native.Nat.{ℕ, zero, suc, _+_, _-_, _<_, _≤_}
+use mathlib.Core.Path.{_≡_}
+use mathlib.Core.Bool.{Bool, false}
+use mathlib.Core.List.{List, [], _∷_}
+use lib.ListN.{length, getD}
+use lib.Dec.{leb, ltb}
+use Rattle.cases.specs.declared.case.Program.{Program}
+use Rattle.cases.specs.Choice.{both, either}
+use Rattle.cases.specs.Sizes.{mostThreads, mostInstructions, mostLocations, mostCode}
+use Rattle.cases.specs.Ranges.{InstructionFits}
+use Rattle.machine.specs.declared.cells.State.{State}
+use Rattle.machine.specs.declared.cells.Waiting.{Waiting}
+use Rattle.machine.specs.declared.cells.Entry.{Entry}
+use Rattle.machine.specs.declared.cells.Entry.the-variants.{Store, Flush, FlushOpt, Sfence}
+use Rattle.machine.specs.Sizes.{room, mostSlots, mostPlaces}
+use Rattle.machine.specs.View.{queueLen, marksIn, buffer, bufferLen, issuedOf}
+use Rattle.machine.specs.Rules.{countAt, instructionAt}
+
+-- the sum of f below n
+unfoldable pub sumTo : ℕ → (ℕ → ℕ) → ℕ
+sumTo zero f = 0
+sumTo (suc n) f = f n + sumTo n f
+
+-- f is true of one of the n numbers from i on
+unfoldable pub anyFrom : ℕ → ℕ → (ℕ → Bool) → Bool
+anyFrom i zero f = false
+anyFrom i (suc n) f = either (f i) (anyFrom (suc i) n f)
+
+-- an entry "names .. a location the program lacks"; sfence names none
+unfoldable pub strays : ℕ → Entry → Bool
+strays locations (Store w) = leb locations (w .location .0)
+strays locations (Flush l) = leb locations (l .0)
+strays locations (FlushOpt l) = leb locations (l .0)
+strays locations Sfence = false
+
+unfoldable pub anyStrays : ℕ → List Waiting → Bool
+anyStrays locations [] = false
+anyStrays locations (w ∷ b) = either (strays locations (w .entry)) (anyStrays locations b)
+
+-- a marker names "a thread .. the program lacks": mark t + 1 names thread t
+unfoldable pub anyForeign : ℕ → List ℕ → Bool
+anyForeign threads [] = false
+anyForeign threads (m ∷ ms) = either (ltb threads m) (anyForeign threads ms)
+
+-- a thread's instructions that are not issued yet
+unfoldable pub unissued : Program → State → ℕ → ℕ
+unissued p s t = countAt p t - issuedOf s t
+
+-- "all entries in store buffers plus all unissued instructions"
+unfoldable pub due : Program → State → ℕ
+due p s = sumTo mostThreads (bufferLen s) + sumTo mostThreads (unissued p s)
+
+-- "more issued than the thread has"; an entry "that stands in the buffer .. of .. a thread .. the program
+-- lacks"; "a store buffer's entries plus that thread's unissued instructions above 8"
+unfoldable pub threadMisfits : Program → State → ℕ → Bool
+threadMisfits p s t =
+    either (ltb (countAt p t) (issuedOf s t))
+    (either (both (leb (p .threads) t) (ltb 0 (bufferLen s t)))
+    (either (ltb mostInstructions (bufferLen s t + unissued p s t))
+    (anyStrays (p .locations) (buffer s t))))
+
+-- an entry "that stands in the .. queue of .. a .. location the program lacks"; "a queue's entries plus all
+-- entries in store buffers plus all unissued instructions above 32"
+unfoldable pub queueMisfits : Program → State → ℕ → Bool
+queueMisfits p s l =
+    either (both (leb (p .locations) l) (ltb 0 (queueLen s l)))
+    (either (ltb room (queueLen s l + due p s))
+    (anyForeign (p .threads) (marksIn (s .marks) (s .lengths) l)))
+
+unfoldable pub misfits : Program → State → Bool
+misfits p s =
+    either (anyFrom 0 mostThreads (threadMisfits p s))
+    (anyFrom 0 mostLocations (queueMisfits p s))
+
+-- The same as facts. The arrays are as long as their types say, which a list alone doesn't.
+pub record Sized (s : State) : Type 0 where
+  pub words-long : length (s .words) ≡ mostLocations
+  pub held-long : length (s .held) ≡ mostSlots
+  pub marks-long : length (s .marks) ≡ mostSlots
+  pub lengths-long : length (s .lengths) ≡ mostLocations
+  pub buffers-long : length (s .buffers) ≡ mostCode
+  pub waiting-long : length (s .waiting) ≡ mostThreads
+  pub registers-long : length (s .registers) ≡ mostPlaces
+  pub issued-long : length (s .issued) ≡ mostThreads
+
+-- what the machine takes for granted of a program; every case that can be read has such a one
+pub record ProgramFits (p : Program) : Type 0 where
+  pub first-long : length (p .first) ≡ mostLocations
+  pub counts-long : length (p .counts) ≡ mostThreads
+  pub code-long : length (p .code) ≡ mostCode
+  pub few-threads : p .threads ≤ mostThreads
+  pub few-locations : p .locations ≤ mostLocations
+  pub few-instructions : (t : ℕ) → countAt p t ≤ mostInstructions
+  pub instructions : (t i : ℕ) → i < countAt p t → (t < p .threads) × InstructionFits p (instructionAt p t i)
+
+unfoldable pub Named : ℕ → Entry → Type 0
+Named locations (Store w) = w .location .0 < locations
+Named locations (Flush l) = l .0 < locations
+Named locations (FlushOpt l) = l .0 < locations
+Named locations Sfence = Unit {0}
+
+unfoldable pub AllNamed : ℕ → List Waiting → Type 0
+AllNamed locations [] = Unit {0}
+AllNamed locations (w ∷ b) = Named locations (w .entry) × AllNamed locations b
+
+unfoldable pub AllBorne : ℕ → List ℕ → Type 0
+AllBorne threads [] = Unit {0}
+AllBorne threads (m ∷ ms) = (m ≤ threads) × AllBorne threads ms
+
+pub record Fits (p : Program) (s : State) : Type 0 where
+  pub program : ProgramFits p
+  pub sized : Sized s
+  pub few-issued : (t : ℕ) → t < mostThreads → issuedOf s t ≤ countAt p t
+  pub few-waiting : (t : ℕ) → t < mostThreads → bufferLen s t + unissued p s t ≤ mostInstructions
+  pub few-queued : (l : ℕ) → l < mostLocations → queueLen s l + due p s ≤ room
+  pub no-buffer : (t : ℕ) → t < mostThreads → p .threads ≤ t → bufferLen s t ≡ 0
+  pub no-queue : (l : ℕ) → l < mostLocations → p .locations ≤ l → queueLen s l ≡ 0
+  pub named : (t : ℕ) → t < mostThreads → AllNamed (p .locations) (buffer s t)
+  pub borne : (l : ℕ) → l < mostLocations → AllBorne (p .threads) (marksIn (s .marks) (s .lengths) l)
+
+-- What the machine's parts ask for where the whole state is not at hand.
+-- no queue is longer than its room
+unfoldable pub Shallow : List ℕ → Type 0
+Shallow lengths = (l : ℕ) → l < mostLocations → getD lengths l 0 ≤ room
+
+-- no queue is full
+unfoldable pub Roomy : State → Type 0
+Roomy s = (l : ℕ) → l < mostLocations → queueLen s l < room

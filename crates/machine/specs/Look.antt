@@ -1,0 +1,83 @@
+-- Document 01, "The machine's steps": what a look through the state finds. A look that may find something says
+-- where.
+--   newestIn q w             the newest write of the queue q, else w
+--   newestStore l b w        the newest store to location l in the buffer b, else w
+--   loadOf s t l             what a load takes
+--   markerOf marks lengths t the first marker of thread t, by queue and then by place
+--   bars l e                 the entry e keeps a flush-opt of location l behind it
+--   firstBar l b             the place of the first entry of b that does; the number of entries where none does
+-- Assumes nothing.
+use Prim.Native.Nat.{ℕ, zero, suc, _+_}
+use mathlib.Core.Bool.{Bool, true, false}
+use mathlib.Core.List.{List, [], _∷_}
+use lib.Dec.{eqb}
+use Rattle.cases.specs.Choice.{pick}
+use Rattle.cases.specs.Sizes.{mostLocations}
+use Rattle.machine.specs.declared.cells.State.{State}
+use Rattle.machine.specs.declared.cells.Waiting.{Waiting}
+use Rattle.machine.specs.declared.cells.Entry.{Entry}
+use Rattle.machine.specs.declared.cells.Entry.the-variants.{Store, Flush, FlushOpt, Sfence}
+use Rattle.machine.specs.declared.look.Found.{Found}
+use Rattle.machine.specs.declared.look.Found.the-variants.{At, Nothing}
+use Rattle.machine.specs.View.{Slot, queue, buffer, wordOf, marksIn}
+
+-- a write's word; of a marker the word before
+unfoldable pub wordOr : Slot → ℕ → ℕ
+wordOr h before = pick (eqb (h .mark) 0) (h .word) before
+
+unfoldable pub newestIn : List Slot → ℕ → ℕ
+newestIn [] w = w
+newestIn (h ∷ q) w = newestIn q (wordOr h w)
+
+-- a store's word where it is to location l; else the word before
+unfoldable pub storedOr : ℕ → Entry → ℕ → ℕ
+storedOr l (Store x) before = pick (eqb (x .location .0) l) (x .word) before
+storedOr l (Flush m) before = before
+storedOr l (FlushOpt m) before = before
+storedOr l Sfence before = before
+
+unfoldable pub newestStore : ℕ → List Waiting → ℕ → ℕ
+newestStore l [] w = w
+newestStore l (e ∷ b) w = newestStore l b (storedOr l (e .entry) w)
+
+-- "A load takes the newest store to that location in its own buffer, else the newest write in the location's
+-- queue, else the persistent word."
+unfoldable pub queuedWord : State → ℕ → ℕ
+queuedWord s l = newestIn (queue s l) (wordOf s l)
+
+unfoldable pub loadOf : State → ℕ → ℕ → ℕ
+loadOf s t l = newestStore l (buffer s t) (queuedWord s l)
+
+-- "Looking for a thread's marker goes through every queue and stops at the first one found." The marks of
+-- queue l from place i on, and what comes after that queue.
+unfoldable pub markerIn : ℕ → ℕ → ℕ → List ℕ → Found → Found
+markerIn t l i [] after = after
+markerIn t l i (m ∷ ms) after = pick (eqb m (t + 1)) (At (record { 0 = l }) i) (markerIn t l (suc i) ms after)
+
+-- the k queues from location l on
+unfoldable pub markerFrom : List ℕ → List ℕ → ℕ → ℕ → ℕ → Found
+markerFrom marks lengths t zero l = Nothing
+markerFrom marks lengths t (suc k) l =
+    markerIn t l 0 (marksIn marks lengths l) (markerFrom marks lengths t k (suc l))
+
+unfoldable pub markerOf : List ℕ → List ℕ → ℕ → Found
+markerOf marks lengths t = markerFrom marks lengths t mostLocations 0
+
+abbrev pub isAt : Found → Bool
+isAt (At l i) = true
+isAt Nothing = false
+
+-- some queue holds a marker of thread t
+unfoldable pub marked : List ℕ → List ℕ → ℕ → Bool
+marked marks lengths t = isAt (markerOf marks lengths t)
+
+-- "a store or flush of its location or an sfence"
+unfoldable pub bars : ℕ → Entry → Bool
+bars l (Store x) = eqb (x .location .0) l
+bars l (Flush m) = eqb (m .0) l
+bars l (FlushOpt m) = false
+bars l Sfence = true
+
+unfoldable pub firstBar : ℕ → List Waiting → ℕ
+firstBar l [] = 0
+firstBar l (w ∷ b) = pick (bars l (w .entry)) 0 (suc (firstBar l b))

@@ -1,0 +1,79 @@
+-- Document 01, "Work left and the walk": "next steps in the order issue by thread, move by thread then position,
+-- persist by location".
+--   candidates p     every step that such a program can have, in that order
+--   legalSteps p s   those that are legal in s
+--   nextSteps p s    the same as an array with its count
+--   Rising, Listed   how the theorems say "in that order, once" and "on the list"
+-- Assumes nothing.
+use Prim.Native.Nat.{ℕ, zero, suc, _+_, _*_, _-_, _≤_}
+use mathlib.Core.Path.{_≡_}
+use mathlib.Core.Logic.{_⊎_}
+use mathlib.Core.List.{List, [], _∷_, _++_}
+use lib.ListN.{length, replicate}
+use lib.Dec.{eqb}
+use Rattle.cases.specs.declared.case.Step.{Step}
+use Rattle.cases.specs.declared.case.Program.{Program}
+use Rattle.cases.specs.Choice.{pick}
+use Rattle.cases.specs.Sizes.{mostInstructions, mostLocations, mostCode}
+use Rattle.cases.specs.Draft.{noStep}
+use Rattle.machine.specs.declared.cells.State.{State}
+use Rattle.machine.specs.declared.next.Next.{Next}
+use Rattle.machine.specs.Sizes.{mostCandidates}
+use Rattle.machine.specs.Rules.{ruleOf}
+
+abbrev pub issueStep : ℕ → Step
+issueStep t = record { thread = record { 0 = t }; code = 0; position = 0; location = record { 0 = 0 } }
+
+abbrev pub moveStep : ℕ → ℕ → Step
+moveStep t i = record { thread = record { 0 = t }; code = 1; position = i; location = record { 0 = 0 } }
+
+abbrev pub persistStep : ℕ → Step
+persistStep l = record { thread = record { 0 = 0 }; code = 2; position = 0; location = record { 0 = l } }
+
+-- the issue steps of n threads from t on; the moves of thread t at n positions from i on; those of n threads
+-- from t on; the persists of n locations from l on
+unfoldable pub issuesFrom : ℕ → ℕ → List Step
+issuesFrom t zero = []
+issuesFrom t (suc n) = issueStep t ∷ issuesFrom (suc t) n
+
+unfoldable pub movesAt : ℕ → ℕ → ℕ → List Step
+movesAt t i zero = []
+movesAt t i (suc n) = moveStep t i ∷ movesAt t (suc i) n
+
+unfoldable pub movesFrom : ℕ → ℕ → List Step
+movesFrom t zero = []
+movesFrom t (suc n) = movesAt t 0 mostInstructions ++ movesFrom (suc t) n
+
+unfoldable pub persistsFrom : ℕ → ℕ → List Step
+persistsFrom l zero = []
+persistsFrom l (suc n) = persistStep l ∷ persistsFrom (suc l) n
+
+unfoldable pub candidates : Program → List Step
+candidates p = issuesFrom 0 (p .threads) ++ movesFrom 0 (p .threads) ++ persistsFrom 0 (p .locations)
+
+-- those of some steps that a rule has nothing against
+unfoldable pub allowed : (Step → ℕ) → List Step → List Step
+allowed rule [] = []
+allowed rule (k ∷ ks) = pick (eqb (rule k) 0) (k ∷ allowed rule ks) (allowed rule ks)
+
+unfoldable pub legalSteps : Program → State → List Step
+legalSteps p s = allowed (ruleOf p s) (candidates p)
+
+unfoldable pub listed : List Step → Next
+listed ks = record { count = length ks; steps = ks ++ replicate (mostCandidates - length ks) noStep }
+
+unfoldable pub nextSteps : Program → State → Next
+nextSteps p s = listed (legalSteps p s)
+
+-- a step's rank in that order
+unfoldable pub rankOf : Step → ℕ
+rankOf k = k .code * (mostCode + mostLocations) + k .thread .0 * mostInstructions + k .position + k .location .0
+
+-- each step's rank is above the one before, the first one's at least n
+unfoldable pub Rising : ℕ → List Step → Type 0
+Rising n [] = Unit {0}
+Rising n (k ∷ ks) = (n ≤ rankOf k) × Rising (suc (rankOf k)) ks
+
+unfoldable pub Listed : Step → List Step → Type 0
+Listed k [] = ⊥
+Listed k (j ∷ js) = (k ≡ j) ⊎ Listed k js

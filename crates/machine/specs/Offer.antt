@@ -1,0 +1,42 @@
+-- How the list of next steps is made, a step more at a time; Next says what it holds, and doesn't use this page.
+--   offered rule k n       the list n, with the step k behind it where no rule stands against it
+--   offeredAll rule ks n   the same for each of the steps ks
+--   ..RuleAt               the rule of a step, over the parts of the state that it looks at
+-- Assumes nothing.
+use Prim.Native.Nat.{ℕ, _+_, _<_, _≤_}
+use mathlib.Core.List.{List, [], _∷_}
+use lib.ListN.{set, getD}
+use lib.Dec.{eqb}
+use Rattle.cases.specs.declared.case.Step.{Step}
+use Rattle.cases.specs.declared.case.Program.{Program}
+use Rattle.cases.specs.Choice.{pick}
+use Rattle.cases.specs.Sizes.{mostThreads, mostInstructions, mostLocations}
+use Rattle.machine.specs.declared.cells.Waiting.{Waiting}
+use Rattle.machine.specs.declared.next.Next.{Next}
+use Rattle.machine.specs.View.{bufferIn}
+use Rattle.machine.specs.Rules.{issueRule, moveRule, persistRule, entryAt}
+use Rattle.machine.specs.Fit.{Named}
+
+unfoldable pub offered : ℕ → Step → Next → Next
+offered broken k n =
+    pick (eqb broken 0) (record { count = n .count + 1; steps = set (n .steps) (n .count) k }) n
+
+unfoldable pub offeredAll : (Step → ℕ) → List Step → Next → Next
+offeredAll rule [] n = n
+offeredAll rule (k ∷ ks) n = offeredAll rule ks (offered (rule k) k n)
+
+unfoldable pub issueRuleAt : Program → List ℕ → List ℕ → List ℕ → List ℕ → Step → ℕ
+issueRuleAt p issued waiting marks lengths k = issueRule p issued waiting marks lengths (k .thread .0)
+
+unfoldable pub moveRuleAt : List Waiting → List ℕ → List ℕ → List ℕ → Step → ℕ
+moveRuleAt buffers waiting marks lengths k =
+    moveRule buffers waiting marks lengths (k .thread .0) (k .position)
+
+unfoldable pub persistRuleAt : List ℕ → Step → ℕ
+persistRuleAt lengths k = persistRule lengths (k .location .0)
+
+-- every thread's buffer is within its depth, and its first entry names a location that there is
+unfoldable pub Movable : List Waiting → List ℕ → Type 0
+Movable buffers waiting =
+    (t : ℕ) → t < mostThreads
+    → (getD waiting t 0 ≤ mostInstructions) × Named mostLocations (entryAt (bufferIn buffers waiting t) 0)

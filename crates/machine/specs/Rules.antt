@@ -1,0 +1,176 @@
+-- Document 01, "The machine's steps": for each step the rule it breaks, 0 where it is legal, and what it does.
+-- A rule looks at no part of the state but those it is given; what a legal step does is said apart.
+--   issueRule, issueOf       issue: 21, 22, 23
+--   moveRule, moveOf         move: 24, 25, 26, then 27 or 28
+--   effectRule, effectOf     what an entry does as it takes effect: 27, 28. It is already out of its buffer, so
+--                            that a machine without buffers can use these two.
+--   persistRule, persistOf   persist: 29
+--   ruleOf p s k, nextOf p s k   a step by its code
+--   startOf p                where a run starts
+-- Assumes nothing.
+use Prim.Native.Nat.{ℕ, _+_, _*_}
+use mathlib.Core.Bool.{Bool}
+use mathlib.Core.List.{List, [], _∷_, _++_}
+use lib.ListN.{getD, take, replicate}
+use lib.Dec.{eqb, leb, ltb}
+use Rattle.cases.specs.declared.case.Instruction.{Instruction}
+use Rattle.cases.specs.declared.case.Step.{Step}
+use Rattle.cases.specs.declared.case.Program.{Program}
+use Rattle.cases.specs.Choice.{pick, either, refuse}
+use Rattle.cases.specs.Sizes.{mostThreads, mostInstructions, mostLocations, mostCode}
+use Rattle.cases.specs.Draft.{noInstruction}
+use Rattle.machine.specs.declared.cells.State.{State}
+use Rattle.machine.specs.declared.cells.Waiting.{Waiting}
+use Rattle.machine.specs.declared.cells.Entry.{Entry}
+use Rattle.machine.specs.declared.cells.Entry.the-variants.{Store, Flush, FlushOpt, Sfence}
+use Rattle.machine.specs.Sizes.{mostSlots, mostPlaces}
+use Rattle.machine.specs.View.{Slot, writeSlot, markerSlot, without, queue, withQueue, blankWaiting}
+use Rattle.machine.specs.View.{bufferIn, buffer, withBuffer, wordOf, withWord}
+use Rattle.machine.specs.View.{registerOf, withRegister, issuedOf, withIssued}
+use Rattle.machine.specs.Look.{wordOr, queuedWord, loadOf, marked, firstBar}
+
+-- which queue a location's entries go through: its own
+abbrev pub queueOf : ℕ → ℕ
+queueOf l = l
+
+-- one more at a queue's end, at a buffer's end
+unfoldable pub enqueue : State → ℕ → Slot → State
+enqueue s l h = withQueue s (queueOf l) (queue s (queueOf l) ++ (h ∷ []))
+
+unfoldable pub await : State → ℕ → Entry → State
+await s t e = withBuffer s t (buffer s t ++ (record { entry = e } ∷ []))
+
+-- "Issue takes the thread's next instruction"
+abbrev pub countAt : Program → ℕ → ℕ
+countAt p t = getD (p .counts) t 0
+
+abbrev pub instructionAt : Program → ℕ → ℕ → Instruction
+instructionAt p t i = getD (p .code) (t * mostInstructions + i) noInstruction
+
+-- "Exchange and mfence need the own buffer empty (else 22), then no marker of that thread in any queue (else
+-- 23)."
+unfoldable pub barrierRule : List ℕ → List ℕ → List ℕ → ℕ → ℕ
+barrierRule waiting marks lengths t =
+    refuse (ltb 0 (getD waiting t 0)) 22
+    (refuse (marked marks lengths t) 23 0)
+
+unfoldable pub isBarrier : ℕ → Bool
+isBarrier op = either (eqb op 4) (eqb op 8)
+
+unfoldable pub operationRule : ℕ → List ℕ → List ℕ → List ℕ → ℕ → ℕ
+operationRule op waiting marks lengths t = pick (isBarrier op) (barrierRule waiting marks lengths t) 0
+
+-- "none left: 21"
+unfoldable pub issueRule : Program → List ℕ → List ℕ → List ℕ → List ℕ → ℕ → ℕ
+issueRule p issued waiting marks lengths t =
+    refuse (leb (countAt p t) (getD issued t 0)) 21
+    (operationRule (instructionAt p t (getD issued t 0) .operation) waiting marks lengths t)
+
+-- "Stores fix their word now; stores, flushes, flush-opts and sfences join the end of the thread's buffer."
+unfoldable pub entryOf : State → ℕ → Instruction → Entry
+entryOf s t x =
+    pick (eqb (x .operation) 1) (Store (record { location = x .location; word = x .word }))
+    (pick (eqb (x .operation) 2)
+    (Store (record { location = x .location; word = registerOf s t (x .register .0) }))
+    (pick (eqb (x .operation) 5) (Flush (x .location))
+    (pick (eqb (x .operation) 6) (FlushOpt (x .location))
+    Sfence)))
+
+-- a load's register takes the word that the load finds
+unfoldable pub loaded : State → ℕ → Instruction → State
+loaded s t x = withRegister s t (x .register .0) (loadOf s t (x .location .0))
+
+-- "Exchange reads queue or memory and puts its write at the queue's end." "the register takes the old one"
+unfoldable pub exchanged : State → ℕ → Instruction → State
+exchanged s t x =
+    enqueue (withRegister s t (x .register .0) (queuedWord s (x .location .0))) (x .location .0)
+    (writeSlot (x .word))
+
+-- what an instruction does as it is issued: 3 load, 4 exchange, 8 mfence; the others wait
+unfoldable pub performed : State → ℕ → Instruction → State
+performed s t x =
+    pick (eqb (x .operation) 3) (loaded s t x)
+    (pick (eqb (x .operation) 4) (exchanged s t x)
+    (pick (eqb (x .operation) 8) s
+    (await s t (entryOf s t x))))
+
+unfoldable pub issueOf : Program → State → ℕ → State
+issueOf p s t =
+    withIssued (performed s t (instructionAt p t (issuedOf s t))) t (issuedOf s t + 1)
+
+-- "A flush leaves only if its location's queue is empty, markers counted (else 27)." "An sfence leaves only if
+-- no queue holds a marker of that thread (else 28)."
+unfoldable pub effectRule : List ℕ → List ℕ → ℕ → Entry → ℕ
+effectRule marks lengths t (Store w) = 0
+effectRule marks lengths t (Flush l) = refuse (ltb 0 (getD lengths (queueOf (l .0)) 0)) 27 0
+effectRule marks lengths t (FlushOpt l) = 0
+effectRule marks lengths t Sfence = refuse (marked marks lengths t) 28 0
+
+-- "A store becomes a write at its queue's end." "A flush-opt becomes a marker at its queue's end."
+unfoldable pub effectOf : State → ℕ → Entry → State
+effectOf s t (Store w) = enqueue s (w .location .0) (writeSlot (w .word))
+effectOf s t (Flush l) = s
+effectOf s t (FlushOpt l) = enqueue s (l .0) (markerSlot t)
+effectOf s t Sfence = s
+
+-- "Behind position 0 only a flush-opt may go (else 25), and only if no entry before it is a store or flush of
+-- its location or an sfence (else 26)." What a flush-opt does as it takes effect is always legal.
+unfoldable pub passRule : List Waiting → ℕ → Entry → ℕ
+passRule b i (Store w) = 25
+passRule b i (Flush l) = 25
+passRule b i (FlushOpt l) = refuse (ltb (firstBar (l .0) (take i b)) i) 26 0
+passRule b i Sfence = 25
+
+abbrev pub entryAt : List Waiting → ℕ → Entry
+entryAt b i = getD b i blankWaiting .entry
+
+-- "Move takes the entry at a position of the buffer (none: 24)."
+unfoldable pub moveRule : List Waiting → List ℕ → List ℕ → List ℕ → ℕ → ℕ → ℕ
+moveRule buffers waiting marks lengths t i =
+    refuse (leb (getD waiting t 0) i) 24
+    (pick (eqb i 0)
+    (effectRule marks lengths t (entryAt (bufferIn buffers waiting t) i))
+    (passRule (bufferIn buffers waiting t) i (entryAt (bufferIn buffers waiting t) i)))
+
+unfoldable pub moveOf : State → ℕ → ℕ → State
+moveOf s t i = effectOf (withBuffer s t (without i (buffer s t))) t (entryAt (buffer s t) i)
+
+-- "Persist takes the oldest entry of a location's queue (empty: 29). A write goes to the persistent word; a
+-- marker vanishes."
+unfoldable pub persistRule : List ℕ → ℕ → ℕ
+persistRule lengths l = refuse (eqb (getD lengths l 0) 0) 29 0
+
+unfoldable pub persistFirst : State → ℕ → List Slot → State
+persistFirst s l [] = s
+persistFirst s l (h ∷ q) = withQueue (withWord s l (wordOr h (wordOf s l))) l q
+
+unfoldable pub persistOf : State → ℕ → State
+persistOf s l = persistFirst s l (queue s l)
+
+-- "Step codes: 0 issue (thread); 1 move (thread, position 0 to 7); 2 persist (location)."
+unfoldable pub ruleOf : Program → State → Step → ℕ
+ruleOf p s k =
+    pick (eqb (k .code) 0) (issueRule p (s .issued) (s .waiting) (s .marks) (s .lengths) (k .thread .0))
+    (pick (eqb (k .code) 1)
+    (moveRule (s .buffers) (s .waiting) (s .marks) (s .lengths) (k .thread .0) (k .position))
+    (persistRule (s .lengths) (k .location .0)))
+
+unfoldable pub nextOf : Program → State → Step → State
+nextOf p s k =
+    pick (eqb (k .code) 0) (issueOf p s (k .thread .0))
+    (pick (eqb (k .code) 1) (moveOf s (k .thread .0) (k .position))
+    (persistOf s (k .location .0)))
+
+-- "a run starts from the first contents, nothing queued, waiting or issued"
+unfoldable pub startOf : Program → State
+startOf p =
+    record {
+      words = p .first;
+      held = replicate mostSlots 0;
+      marks = replicate mostSlots 0;
+      lengths = replicate mostLocations 0;
+      buffers = replicate mostCode blankWaiting;
+      waiting = replicate mostThreads 0;
+      registers = replicate mostPlaces 0;
+      issued = replicate mostThreads 0;
+    }

@@ -1,0 +1,21 @@
+-- The sizes that follow from document 01's "Sizes" and from refusal 33. src/sizes.rt has the same numbers for
+-- the code.
+--   room            the most entries of a queue: every instruction of every thread
+--   mostSlots       all queues' slots, one queue's behind the other's
+--   mostPlaces      all threads' registers, one thread's behind the other's
+--   mostCandidates  the steps that a state can have next
+-- Assumes nothing.
+use Prim.Native.Nat.{ℕ, _+_, _*_}
+use Rattle.cases.specs.Sizes.{mostThreads, mostLocations, mostRegisters, mostCode}
+
+abbrev pub room : ℕ
+room = mostCode
+
+abbrev pub mostSlots : ℕ
+mostSlots = mostLocations * room
+
+abbrev pub mostPlaces : ℕ
+mostPlaces = mostThreads * mostRegisters
+
+abbrev pub mostCandidates : ℕ
+mostCandidates = mostThreads + mostCode + mostLocations

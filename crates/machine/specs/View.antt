@@ -1,0 +1,163 @@
+-- The lens through which the rules speak: a state's parts as lists. Queue l is the first so many of the slots
+-- from l * room on, buffer t the first so many of the entries from t * mostInstructions on; what stands behind
+-- them is not looked at and not changed, whatever it is.
+--   part base n xs          the first n of xs from base on
+--   put blank base n q xs   xs with q from base on; of the n that stood there, those given up are blank
+--   shift, closeGap         one taken out of a row: those behind it each one place down
+--   queue, withQueue        the entries of a queue, oldest first; the state with others there
+--   buffer, withBuffer      the entries of a store buffer, oldest first; the state with others there
+-- Assumes nothing.
+use Prim.Native.Nat.{ℕ, _+_, _*_, _-_}
+use mathlib.Core.List.{List, [], _∷_, _++_}
+use lib.ListN.{length, getD, set, take, drop, replicate}
+use lib.Seq.{sets}
+use Rattle.cases.specs.Sizes.{mostInstructions, mostRegisters}
+use Rattle.machine.specs.declared.cells.State.{State}
+use Rattle.machine.specs.declared.cells.Waiting.{Waiting}
+use Rattle.machine.specs.declared.cells.Entry.the-variants.{Store}
+use Rattle.machine.specs.Sizes.{room}
+
+unfoldable pub part {ℓ} : {A : Type ℓ} → ℕ → ℕ → List A → List A
+part base n xs = take n (drop base xs)
+
+unfoldable pub put {ℓ} : {A : Type ℓ} → A → ℕ → ℕ → List A → List A → List A
+put blank base n q xs = sets xs base (q ++ replicate (n - length q) blank)
+
+-- what stands behind `from`, up to end, each one place down, and the last of them still there
+unfoldable pub shift {ℓ} : {A : Type ℓ} → ℕ → ℕ → List A → List A
+shift from end xs = sets xs from (part (from + 1) (end - (from + 1)) xs)
+
+-- the same with a blank in the last place
+unfoldable pub closeGap {ℓ} : {A : Type ℓ} → A → ℕ → ℕ → List A → List A
+closeGap blank from end xs = set (shift from end xs) (end - 1) blank
+
+-- q without what stands at place i
+unfoldable pub without {ℓ} : {A : Type ℓ} → ℕ → List A → List A
+without i q = take i q ++ drop (i + 1) q
+
+-- "A queue holds writes and flush-opt markers that bear a thread": mark 0 is a write of the word, mark t + 1 a
+-- marker of thread t.
+pub record Slot : Type 0 where
+  pub word : ℕ
+  pub mark : ℕ
+
+abbrev pub writeSlot : ℕ → Slot
+writeSlot w = record { word = w; mark = 0 }
+
+abbrev pub markerSlot : ℕ → Slot
+markerSlot t = record { word = 0; mark = t + 1 }
+
+-- words and marks side by side
+unfoldable pub slots : List ℕ → List ℕ → List Slot
+slots [] ms = []
+slots (w ∷ ws) [] = []
+slots (w ∷ ws) (m ∷ ms) = record { word = w; mark = m } ∷ slots ws ms
+
+unfoldable pub wordsOf : List Slot → List ℕ
+wordsOf [] = []
+wordsOf (h ∷ q) = h .word ∷ wordsOf q
+
+unfoldable pub marksOf : List Slot → List ℕ
+marksOf [] = []
+marksOf (h ∷ q) = h .mark ∷ marksOf q
+
+-- Queues
+abbrev pub queueLen : State → ℕ → ℕ
+queueLen s l = getD (s .lengths) l 0
+
+unfoldable pub marksIn : List ℕ → List ℕ → ℕ → List ℕ
+marksIn marks lengths l = part (l * room) (getD lengths l 0) marks
+
+unfoldable pub queueIn : List ℕ → List ℕ → List ℕ → ℕ → List Slot
+queueIn held marks lengths l = slots (part (l * room) (getD lengths l 0) held) (marksIn marks lengths l)
+
+abbrev pub queue : State → ℕ → List Slot
+queue s l = queueIn (s .held) (s .marks) (s .lengths) l
+
+unfoldable pub withQueue : State → ℕ → List Slot → State
+withQueue s l q =
+    record {
+      words = s .words;
+      held = put 0 (l * room) (queueLen s l) (wordsOf q) (s .held);
+      marks = put 0 (l * room) (queueLen s l) (marksOf q) (s .marks);
+      lengths = set (s .lengths) l (length q);
+      buffers = s .buffers;
+      waiting = s .waiting;
+      registers = s .registers;
+      issued = s .issued;
+    }
+
+-- Store buffers
+abbrev pub blankWaiting : Waiting
+blankWaiting = record { entry = Store (record { location = record { 0 = 0 }; word = 0 }) }
+
+abbrev pub bufferLen : State → ℕ → ℕ
+bufferLen s t = getD (s .waiting) t 0
+
+unfoldable pub bufferIn : List Waiting → List ℕ → ℕ → List Waiting
+bufferIn buffers waiting t = part (t * mostInstructions) (getD waiting t 0) buffers
+
+abbrev pub buffer : State → ℕ → List Waiting
+buffer s t = bufferIn (s .buffers) (s .waiting) t
+
+unfoldable pub withBuffer : State → ℕ → List Waiting → State
+withBuffer s t b =
+    record {
+      words = s .words;
+      held = s .held;
+      marks = s .marks;
+      lengths = s .lengths;
+      buffers = put blankWaiting (t * mostInstructions) (bufferLen s t) b (s .buffers);
+      waiting = set (s .waiting) t (length b);
+      registers = s .registers;
+      issued = s .issued;
+    }
+
+-- Persistent words, registers, issued counts
+abbrev pub wordOf : State → ℕ → ℕ
+wordOf s l = getD (s .words) l 0
+
+unfoldable pub withWord : State → ℕ → ℕ → State
+withWord s l w =
+    record {
+      words = set (s .words) l w;
+      held = s .held;
+      marks = s .marks;
+      lengths = s .lengths;
+      buffers = s .buffers;
+      waiting = s .waiting;
+      registers = s .registers;
+      issued = s .issued;
+    }
+
+abbrev pub registerOf : State → ℕ → ℕ → ℕ
+registerOf s t r = getD (s .registers) (t * mostRegisters + r) 0
+
+unfoldable pub withRegister : State → ℕ → ℕ → ℕ → State
+withRegister s t r w =
+    record {
+      words = s .words;
+      held = s .held;
+      marks = s .marks;
+      lengths = s .lengths;
+      buffers = s .buffers;
+      waiting = s .waiting;
+      registers = set (s .registers) (t * mostRegisters + r) w;
+      issued = s .issued;
+    }
+
+abbrev pub issuedOf : State → ℕ → ℕ
+issuedOf s t = getD (s .issued) t 0
+
+unfoldable pub withIssued : State → ℕ → ℕ → State
+withIssued s t n =
+    record {
+      words = s .words;
+      held = s .held;
+      marks = s .marks;
+      lengths = s .lengths;
+      buffers = s .buffers;
+      waiting = s .waiting;
+      registers = s .registers;
+      issued = set (s .issued) t n;
+    }

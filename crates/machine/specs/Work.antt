@@ -1,0 +1,89 @@
+-- Document 01, "Work left and the walk".
+--   work p s        the work left
+--   fullLength p    "The sum at the start is the program's full length"
+--   cost            what a legal step uses up of it
+--   workOf, fullOf  what is told of a case and a state in memory
+-- Assumes nothing.
+use Prim.Native.Nat.{ℕ, _+_, _*_}
+use mathlib.Core.Bool.{not}
+use mathlib.Core.List.{List, [], _∷_}
+use lib.Dec.{eqb}
+use Rattle.cases.specs.declared.case.Instruction.{Instruction}
+use Rattle.cases.specs.declared.case.Step.{Step}
+use Rattle.cases.specs.declared.case.Program.{Program}
+use Rattle.cases.specs.declared.case.Case.{Case}
+use Rattle.cases.specs.Choice.{pick}
+use Rattle.cases.specs.Sizes.{mostThreads, mostInstructions, mostLocations}
+use Rattle.cases.specs.Writing.{readsBack}
+use Rattle.machine.specs.declared.cells.State.{State}
+use Rattle.machine.specs.declared.cells.Waiting.{Waiting}
+use Rattle.machine.specs.declared.cells.Entry.{Entry}
+use Rattle.machine.specs.declared.cells.Entry.the-variants.{Store, Flush, FlushOpt, Sfence}
+use Rattle.machine.specs.declared.work.Weighed.{Weighed}
+use Rattle.machine.specs.declared.work.Weighed.the-variants.{Left, Unweighed}
+use Rattle.machine.specs.View.{part, queueLen, buffer, issuedOf}
+use Rattle.machine.specs.Rules.{startOf}
+use Rattle.machine.specs.Fit.{sumTo, unissued, misfits}
+
+-- "Unissued: store or flush-opt 3; flush, sfence or exchange 2; load or mfence 1." By operation, 1 to 8.
+unfoldable pub unissuedWeight : ℕ → ℕ
+unissuedWeight op =
+    pick (eqb op 1) 3
+    (pick (eqb op 2) 3
+    (pick (eqb op 3) 1
+    (pick (eqb op 4) 2
+    (pick (eqb op 5) 2
+    (pick (eqb op 6) 3
+    (pick (eqb op 7) 2
+    1))))))
+
+-- "Waiting in a buffer: store or flush-opt 2; flush or sfence 1."
+unfoldable pub waitingWeight : Entry → ℕ
+waitingWeight (Store w) = 2
+waitingWeight (Flush l) = 1
+waitingWeight (FlushOpt l) = 2
+waitingWeight Sfence = 1
+
+unfoldable pub weighCode : List Instruction → ℕ
+weighCode [] = 0
+weighCode (x ∷ xs) = unissuedWeight (x .operation) + weighCode xs
+
+unfoldable pub weighBuffer : List Waiting → ℕ
+weighBuffer [] = 0
+weighBuffer (w ∷ b) = waitingWeight (w .entry) + weighBuffer b
+
+-- the instructions of thread t that are not issued yet, in their order
+unfoldable pub codeLeft : Program → State → ℕ → List Instruction
+codeLeft p s t = part (t * mostInstructions + issuedOf s t) (unissued p s t) (p .code)
+
+unfoldable pub threadWork : Program → State → ℕ → ℕ
+threadWork p s t = weighCode (codeLeft p s t) + weighBuffer (buffer s t)
+
+-- "Each queue entry 1."
+unfoldable pub work : Program → State → ℕ
+work p s = sumTo mostThreads (threadWork p s) + sumTo mostLocations (queueLen s)
+
+unfoldable pub fullLength : Program → ℕ
+fullLength p = work p (startOf p)
+
+-- the same for every legal step today
+abbrev pub cost : Program → State → Step → ℕ
+cost p s k = 1
+
+-- 0 and the work, or the refusal's number
+abbrev pub weighedNo : Weighed → ℕ
+weighedNo (Left n) = 0
+weighedNo (Unweighed m) = m
+
+abbrev pub weighedWork : Weighed → ℕ
+weighedWork (Left n) = n
+weighedWork (Unweighed m) = 0
+
+unfoldable pub workOf : Case → State → Weighed
+workOf c s =
+    pick (not (readsBack c)) (Unweighed 32)
+    (pick (misfits (c .program) s) (Unweighed 33)
+    (Left (work (c .program) s)))
+
+unfoldable pub fullOf : Case → Weighed
+fullOf c = pick (not (readsBack c)) (Unweighed 32) (Left (fullLength (c .program)))

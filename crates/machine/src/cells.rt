@@ -1,0 +1,35 @@
+// The machine's state: what it is made of.
+use crate::sizes::PLACES;
+use crate::sizes::SLOTS;
+use cases::case::Location;
+use cases::case::Write;
+use cases::sizes::CODE;
+use cases::sizes::LOCATIONS;
+use cases::sizes::THREADS;
+
+// An entry that waits in a store buffer.
+pub enum Entry {
+    Store(Write),
+    Flush(Location),
+    FlushOpt(Location),
+    Sfence,
+}
+
+pub struct Waiting {
+    pub entry: Entry,
+}
+
+// Queue l holds the first lengths[l] slots from l * ROOM on, a slot a word and a mark side by side: mark 0 is a
+// write of the word, mark t + 1 a marker of thread t. Buffer t holds the first waiting[t] entries from
+// t * INSTRUCTIONS on, and register r of thread t stands at t * REGISTERS + r. Number arrays, because those can
+// be lent: a look then copies nothing.
+pub struct State {
+    pub words: [u32; LOCATIONS],
+    pub held: [u32; SLOTS],
+    pub marks: [u8; SLOTS],
+    pub lengths: [u8; LOCATIONS],
+    pub buffers: [Waiting; CODE],
+    pub waiting: [u8; THREADS],
+    pub registers: [u32; PLACES],
+    pub issued: [u8; THREADS],
+}

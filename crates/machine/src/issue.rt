@@ -1,0 +1,201 @@
+// Issue: which rule stands against a thread's next instruction, and what it does.
+use crate::cells::Entry;
+use crate::cells::State;
+use crate::change;
+use crate::look;
+use crate::sizes::SLOTS;
+use cases::case::Instruction;
+use cases::case::Program;
+use cases::case::Thread;
+use cases::case::Write;
+use cases::sizes::INSTRUCTIONS;
+use cases::sizes::LOCATIONS;
+use cases::sizes::REGISTERS;
+use cases::sizes::THREADS;
+ghost use mathlib.Core.Path.{_≡_};
+ghost use Prim.Native.Nat.{ℕ, _+_, _<_, _≤_};
+ghost use lib.ListN.{length, getD};
+ghost use Rattle.cases.specs.Sizes.{mostThreads, mostInstructions, mostLocations, mostRegisters};
+ghost use Rattle.machine.specs.Sizes.{room, mostSlots};
+ghost use Rattle.machine.specs.View.{queueLen, bufferLen, issuedOf, withIssued};
+ghost use Rattle.machine.specs.Rules.{
+  countAt,
+  instructionAt,
+  isBarrier,
+  barrierRule,
+  operationRule,
+  issueRule,
+  entryOf,
+  loaded,
+  exchanged,
+  performed,
+  issueOf,
+};
+ghost use Rattle.machine.specs.Fit.{Shallow};
+
+// Does an operation need what went before it to be done? Exchange and mfence do.
+fn is_barrier(op: u8) -> bool
+    ensures { λ r. ⌜ r ≡ isBarrier op ⌝ }
+{
+    if op == 4 {
+        return true;
+    }
+    op == 8
+}
+
+fn barrier_rule<'a>(
+    waiting: &'a [u8; THREADS],
+    marks: &'a [u8; SLOTS],
+    lengths: &'a [u8; LOCATIONS],
+    t: Thread,
+) -> u8
+    requires { ⌜ (t .0 < mostThreads) × Shallow (now lengths) × (length (now marks) ≡ mostSlots) ⌝ }
+    ensures { λ r. ⌜ r ≡ barrierRule (now (waiting .entry)) (now (marks .entry)) (now (lengths .entry)) (t .0) ⌝ }
+{
+    if 0 < waiting[t.0 as usize] {
+        return 22;
+    }
+    if look::is_marked(marks, lengths, t) {
+        return 23;
+    }
+    0
+}
+
+fn operation_rule<'a>(
+    op: u8,
+    waiting: &'a [u8; THREADS],
+    marks: &'a [u8; SLOTS],
+    lengths: &'a [u8; LOCATIONS],
+    t: Thread,
+) -> u8
+    requires { ⌜ (t .0 < mostThreads) × Shallow (now lengths) × (length (now marks) ≡ mostSlots) ⌝ }
+    ensures { λ r. ⌜ r ≡ operationRule op (now (waiting .entry)) (now (marks .entry)) (now (lengths .entry)) (t .0) ⌝ }
+{
+    if is_barrier(op) {
+        return barrier_rule(waiting, marks, lengths, t);
+    }
+    0
+}
+
+// The rule against issuing a thread's next instruction; 0 where none stands against it.
+pub(crate) fn issue_rule<'a>(
+    p: Program,
+    issued: &'a [u8; THREADS],
+    waiting: &'a [u8; THREADS],
+    marks: &'a [u8; SLOTS],
+    lengths: &'a [u8; LOCATIONS],
+    t: Thread,
+) -> u8
+    requires { ⌜ (t .0 < mostThreads) × (countAt p (t .0) ≤ mostInstructions) × Shallow (now lengths)
+        × (length (now marks) ≡ mostSlots) ⌝ }
+    ensures { λ r. ⌜ r ≡ issueRule p (now (issued .entry)) (now (waiting .entry)) (now (marks .entry)) (now (lengths .entry)) (t .0) ⌝ }
+{
+    let q = p;
+    let at = t.0 as usize;
+    let n = issued[at];
+    if q.counts[at] <= n {
+        return 21;
+    }
+    let x = q.code[at * INSTRUCTIONS + (n as usize)];
+    operation_rule(x.operation, waiting, marks, lengths, t)
+}
+
+// The entry that a store, flush, flush-opt or sfence leaves in the buffer; a store's word is fixed now.
+fn entry_of(s: State, t: Thread, x: Instruction) -> Entry
+    requires { ⌜ (t .0 < mostThreads) × (x .register .0 < mostRegisters) ⌝ }
+    ensures { λ r. ⌜ r ≡ entryOf s (t .0) x ⌝ }
+{
+    let u = s;
+    let l = x.location;
+    let op = x.operation;
+    if op == 1 {
+        return Entry::Store(Write {
+            location: l,
+            word: x.word,
+        });
+    }
+    if op == 2 {
+        let word = u.registers[(t.0 as usize) * REGISTERS + (x.register.0 as usize)];
+        return Entry::Store(Write {
+            location: l,
+            word: word,
+        });
+    }
+    if op == 5 {
+        return Entry::Flush(l);
+    }
+    if op == 6 {
+        return Entry::FlushOpt(l);
+    }
+    Entry::Sfence
+}
+
+// The register takes the newest store of the own buffer, else the newest write of the queue, else the
+// persistent word.
+fn load(s: State, t: Thread, x: Instruction) -> State
+    requires { ⌜ (t .0 < mostThreads) × (x .location .0 < mostLocations) × (x .register .0 < mostRegisters)
+        × (bufferLen s (t .0) ≤ mostInstructions) × (queueLen s (x .location .0) ≤ room) ⌝ }
+    ensures { λ r. ⌜ r ≡ loaded s (t .0) x ⌝ }
+{
+    let mut u = s;
+    let l = x.location;
+    let word = u.words[l.0 as usize];
+    let queued = look::newest_write(&u.held, &u.marks, &u.lengths, l, word);
+    let b = u.buffers;
+    let found = look::newest_store(b, &u.waiting, t, l, queued);
+    u.registers[(t.0 as usize) * REGISTERS + (x.register.0 as usize)] = found;
+    u
+}
+
+// The register takes the newest write of the queue, else the persistent word; the instruction's word goes to
+// the queue's end.
+fn exchange(s: State, t: Thread, x: Instruction) -> State
+    requires { ⌜ (t .0 < mostThreads) × (x .location .0 < mostLocations) × (x .register .0 < mostRegisters)
+        × (queueLen s (x .location .0) < room) ⌝ }
+    ensures { λ r. ⌜ r ≡ exchanged s (t .0) x ⌝ }
+{
+    let mut u = s;
+    let l = x.location;
+    let word = u.words[l.0 as usize];
+    let old = look::newest_write(&u.held, &u.marks, &u.lengths, l, word);
+    u.registers[(t.0 as usize) * REGISTERS + (x.register.0 as usize)] = old;
+    change::enqueue(u, l, x.word, 0)
+}
+
+// What an instruction does as it is issued; the one place that tells operations apart.
+fn perform(s: State, t: Thread, x: Instruction) -> State
+    requires { ⌜ (t .0 < mostThreads) × (x .location .0 < mostLocations) × (x .register .0 < mostRegisters)
+        × (bufferLen s (t .0) < mostInstructions) × (queueLen s (x .location .0) < room) ⌝ }
+    ensures { λ r. ⌜ r ≡ performed s (t .0) x ⌝ }
+{
+    let op = x.operation;
+    if op == 3 {
+        return load(s, t, x);
+    }
+    if op == 4 {
+        return exchange(s, t, x);
+    }
+    if op == 8 {
+        return s;
+    }
+    let e = entry_of(s, t, x);
+    change::await_entry(s, t, e)
+}
+
+// A thread's next instruction issued, where no rule stands against it.
+pub(crate) fn issue(p: Program, s: State, t: Thread) -> State
+    requires { ⌜ (t .0 < mostThreads) × (issuedOf s (t .0) < mostInstructions) × (bufferLen s (t .0) < mostInstructions)
+        × (instructionAt p (t .0) (issuedOf s (t .0)) .location .0 < mostLocations)
+        × (instructionAt p (t .0) (issuedOf s (t .0)) .register .0 < mostRegisters)
+        × (queueLen s (instructionAt p (t .0) (issuedOf s (t .0)) .location .0) < room) ⌝ }
+    ensures { λ r. ⌜ r ≡ issueOf p s (t .0) ⌝ }
+{
+    let q = p;
+    let v = s;
+    let at = t.0 as usize;
+    let n = v.issued[at];
+    let x = q.code[at * INSTRUCTIONS + (n as usize)];
+    let mut u = perform(s, t, x);
+    u.issued[at] = n + 1;
+    u
+}

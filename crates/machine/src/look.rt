@@ -1,0 +1,174 @@
+// What a look through the state finds. No function here changes a state; the number arrays are lent, the
+// buffers go by value because an array of structs can't be lent.
+use crate::cells::Entry;
+use crate::cells::Waiting;
+use crate::sizes::ROOM;
+use crate::sizes::SLOTS;
+use cases::case::Location;
+use cases::case::Thread;
+use cases::sizes::CODE;
+use cases::sizes::INSTRUCTIONS;
+use cases::sizes::LOCATIONS;
+use cases::sizes::THREADS;
+ghost use mathlib.Core.Path.{_≡_};
+ghost use Prim.Native.Nat.{ℕ, _<_, _≤_};
+ghost use lib.ListN.{length, getD, take};
+ghost use Rattle.cases.specs.Sizes.{mostThreads, mostInstructions, mostLocations};
+ghost use Rattle.machine.specs.Sizes.{room, mostSlots};
+ghost use Rattle.machine.specs.View.{queueIn, bufferIn};
+ghost use Rattle.machine.specs.Fit.{Shallow};
+ghost use Rattle.machine.specs.Look.{
+  wordOr,
+  newestIn,
+  storedOr,
+  newestStore,
+  markerOf,
+  marked,
+  bars,
+  firstBar,
+};
+
+// Where a marker stands: its queue and its place there.
+pub enum Found {
+    At(Location, u8),
+    Nothing,
+}
+
+// A write's word; of a marker the word before.
+pub(crate) fn word_or(word: u32, mark: u8, before: u32) -> u32
+    ensures { λ r. ⌜ r ≡ wordOr (record { word = word; mark = mark }) before ⌝ }
+{
+    if mark == 0 { word } else { before }
+}
+
+// The newest write of a location's queue, else the word given.
+pub(crate) fn newest_write<'a>(
+    held: &'a [u32; SLOTS],
+    marks: &'a [u8; SLOTS],
+    lengths: &'a [u8; LOCATIONS],
+    l: Location,
+    other: u32,
+) -> u32
+    requires { ⌜ (l .0 < mostLocations) × (getD (now lengths) (l .0) 0 ≤ room)
+        × (length (now held) ≡ mostSlots) × (length (now marks) ≡ mostSlots) ⌝ }
+    ensures { λ r. ⌜ r ≡ newestIn (queueIn (now (held .entry)) (now (marks .entry)) (now (lengths .entry)) (l .0)) other ⌝ }
+{
+    let base = (l.0 as usize) * ROOM;
+    let n = lengths[l.0 as usize] as usize;
+    let mut word = other;
+    let mut i = 0;
+    while i < n {
+        word = word_or(held[base + i], marks[base + i], word);
+        i += 1;
+    }
+    word
+}
+
+// A store's word where it is to the location; else the word before.
+fn stored_or(w: Waiting, l: Location, before: u32) -> u32
+    ensures { λ r. ⌜ r ≡ storedOr (l .0) (w .entry) before ⌝ }
+{
+    let e = w.entry;
+    match e {
+        Entry::Store(x) => { if x.location.0 == l.0 { x.word } else { before } }
+        Entry::Flush(_) => before,
+        Entry::FlushOpt(_) => before,
+        Entry::Sfence => before,
+    }
+}
+
+// The newest store to a location in a thread's buffer, else the word given.
+pub(crate) fn newest_store<'a>(
+    buffers: [Waiting; CODE],
+    waiting: &'a [u8; THREADS],
+    t: Thread,
+    l: Location,
+    other: u32,
+) -> u32
+    requires { ⌜ (t .0 < mostThreads) × (getD (now waiting) (t .0) 0 ≤ mostInstructions) ⌝ }
+    ensures { λ r. ⌜ r ≡ newestStore (l .0) (bufferIn buffers (now (waiting .entry)) (t .0)) other ⌝ }
+{
+    let b = buffers;
+    let base = (t.0 as usize) * INSTRUCTIONS;
+    let n = waiting[t.0 as usize] as usize;
+    let mut word = other;
+    let mut i = 0;
+    while i < n {
+        let w = b[base + i];
+        word = stored_or(w, l, word);
+        i += 1;
+    }
+    word
+}
+
+// The first marker of a thread, by queue and then by place.
+pub(crate) fn marker<'a>(marks: &'a [u8; SLOTS], lengths: &'a [u8; LOCATIONS], t: Thread) -> Found
+    requires { ⌜ (t .0 < mostThreads) × Shallow (now lengths) × (length (now marks) ≡ mostSlots) ⌝ }
+    ensures { λ r. ⌜ r ≡ markerOf (now (marks .entry)) (now (lengths .entry)) (t .0) ⌝ }
+{
+    let mark = t.0 + 1;
+    let mut found = Found::Nothing;
+    let mut l: u8 = 0;
+    'queues: while (l as usize) < LOCATIONS {
+        let n = lengths[l as usize];
+        let mut i: u8 = 0;
+        'entries: while i < n {
+            if marks[(l as usize) * ROOM + (i as usize)] == mark {
+                found = Found::At(Location(l), i);
+                break 'queues;
+            }
+            i += 1;
+        }
+        l += 1;
+    }
+    found
+}
+
+// Does some queue hold a marker of the thread?
+pub(crate) fn is_marked<'a>(marks: &'a [u8; SLOTS], lengths: &'a [u8; LOCATIONS], t: Thread) -> bool
+    requires { ⌜ (t .0 < mostThreads) × Shallow (now lengths) × (length (now marks) ≡ mostSlots) ⌝ }
+    ensures { λ r. ⌜ r ≡ marked (now (marks .entry)) (now (lengths .entry)) (t .0) ⌝ }
+{
+    match marker(marks, lengths, t) {
+        Found::At(_, _) => true,
+        Found::Nothing => false,
+    }
+}
+
+// Does an entry keep a flush-opt of the location behind it?
+fn is_bar(w: Waiting, l: Location) -> bool
+    ensures { λ r. ⌜ r ≡ bars (l .0) (w .entry) ⌝ }
+{
+    let e = w.entry;
+    match e {
+        Entry::Store(x) => x.location.0 == l.0,
+        Entry::Flush(m) => m.0 == l.0,
+        Entry::FlushOpt(_) => false,
+        Entry::Sfence => true,
+    }
+}
+
+// The place of the first of a buffer's first i entries that keeps a flush-opt of the location behind it; i where
+// none does.
+pub(crate) fn first_bar<'a>(
+    buffers: [Waiting; CODE],
+    waiting: &'a [u8; THREADS],
+    t: Thread,
+    i: u8,
+    l: Location,
+) -> u8
+    requires { ⌜ (t .0 < mostThreads) × (i ≤ getD (now waiting) (t .0) 0) × (getD (now waiting) (t .0) 0 ≤ mostInstructions) ⌝ }
+    ensures { λ r. ⌜ r ≡ firstBar (l .0) (take i (bufferIn buffers (now (waiting .entry)) (t .0))) ⌝ }
+{
+    let b = buffers;
+    let base = (t.0 as usize) * INSTRUCTIONS;
+    let mut j: u8 = 0;
+    while j < i {
+        let w = b[base + (j as usize)];
+        if is_bar(w, l) {
+            return j;
+        }
+        j += 1;
+    }
+    j
+}

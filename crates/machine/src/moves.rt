@@ -1,0 +1,153 @@
+// Move and persist: which rule stands against them, and what they do.
+use crate::cells::Entry;
+use crate::cells::State;
+use crate::cells::Waiting;
+use crate::change;
+use crate::look;
+use crate::sizes::ROOM;
+use crate::sizes::SLOTS;
+use cases::case::Location;
+use cases::case::Thread;
+use cases::sizes::CODE;
+use cases::sizes::INSTRUCTIONS;
+use cases::sizes::LOCATIONS;
+use cases::sizes::THREADS;
+ghost use mathlib.Core.Path.{_≡_};
+ghost use Prim.Native.Nat.{ℕ, _<_, _≤_};
+ghost use lib.ListN.{length, getD};
+ghost use Rattle.cases.specs.Sizes.{mostThreads, mostInstructions, mostLocations};
+ghost use Rattle.machine.specs.Sizes.{room, mostSlots};
+ghost use Rattle.machine.specs.View.{queueLen, bufferIn, buffer, bufferLen};
+ghost use Rattle.machine.specs.Rules.{
+  effectRule,
+  effectOf,
+  passRule,
+  entryAt,
+  moveRule,
+  moveOf,
+  persistRule,
+  persistOf,
+};
+ghost use Rattle.machine.specs.Fit.{Named, Shallow, Roomy};
+
+// The rule against an entry's effect; 0 where none stands against it.
+fn effect_rule<'a>(marks: &'a [u8; SLOTS], lengths: &'a [u8; LOCATIONS], t: Thread, e: Entry) -> u8
+    requires { ⌜ (t .0 < mostThreads) × Named mostLocations e × Shallow (now lengths)
+        × (length (now marks) ≡ mostSlots) ⌝ }
+    ensures { λ r. ⌜ r ≡ effectRule (now (marks .entry)) (now (lengths .entry)) (t .0) e ⌝ }
+{
+    match e {
+        Entry::Store(_) => 0,
+        Entry::Flush(l) => { if 0 < lengths[l.0 as usize] { 27 } else { 0 } }
+        Entry::FlushOpt(_) => 0,
+        Entry::Sfence => {
+            if look::is_marked(marks, lengths, t) {
+                28
+            } else {
+                0
+            }
+        }
+    }
+}
+
+// The rule against an entry that goes before others; 0 where none stands against it.
+fn pass_rule<'a>(
+    buffers: [Waiting; CODE],
+    waiting: &'a [u8; THREADS],
+    t: Thread,
+    i: u8,
+    e: Entry,
+) -> u8
+    requires { ⌜ (t .0 < mostThreads) × (i ≤ getD (now waiting) (t .0) 0) × (getD (now waiting) (t .0) 0 ≤ mostInstructions) ⌝ }
+    ensures { λ r. ⌜ r ≡ passRule (bufferIn buffers (now (waiting .entry)) (t .0)) i e ⌝ }
+{
+    match e {
+        Entry::Store(_) => 25,
+        Entry::Flush(_) => 25,
+        Entry::FlushOpt(l) => {
+            if look::first_bar(buffers, waiting, t, i, l) < i {
+                26
+            } else {
+                0
+            }
+        }
+        Entry::Sfence => 25,
+    }
+}
+
+// The rule against moving the entry at a position; 0 where none stands against it.
+pub(crate) fn move_rule<'a>(
+    buffers: [Waiting; CODE],
+    waiting: &'a [u8; THREADS],
+    marks: &'a [u8; SLOTS],
+    lengths: &'a [u8; LOCATIONS],
+    t: Thread,
+    i: u8,
+) -> u8
+    requires { ⌜ (t .0 < mostThreads) × (getD (now waiting) (t .0) 0 ≤ mostInstructions)
+        × Named mostLocations (entryAt (bufferIn buffers (now waiting) (t .0)) 0) × Shallow (now lengths)
+        × (length (now marks) ≡ mostSlots) ⌝ }
+    ensures { λ r. ⌜ r ≡ moveRule buffers (now (waiting .entry)) (now (marks .entry)) (now (lengths .entry)) (t .0) i ⌝ }
+{
+    let b = buffers;
+    let at = t.0 as usize;
+    if waiting[at] <= i {
+        return 24;
+    }
+    let w = b[at * INSTRUCTIONS + (i as usize)];
+    let e = w.entry;
+    if i == 0 {
+        return effect_rule(marks, lengths, t, e);
+    }
+    pass_rule(buffers, waiting, t, i, e)
+}
+
+// What an entry that has left its buffer does.
+fn take_effect(s: State, t: Thread, e: Entry) -> State
+    requires { ⌜ (t .0 < mostThreads) × Named mostLocations e × Roomy s ⌝ }
+    ensures { λ r. ⌜ r ≡ effectOf s (t .0) e ⌝ }
+{
+    match e {
+        Entry::Store(w) => change::enqueue(s, w.location, w.word, 0),
+        Entry::Flush(_) => s,
+        Entry::FlushOpt(l) => change::enqueue(s, l, 0, t.0 + 1),
+        Entry::Sfence => s,
+    }
+}
+
+// The entry at a position moved, where no rule stands against it.
+pub(crate) fn move_entry(s: State, t: Thread, i: u8) -> State
+    requires { ⌜ (t .0 < mostThreads) × (i < bufferLen s (t .0)) × (bufferLen s (t .0) ≤ mostInstructions)
+        × Named mostLocations (entryAt (buffer s (t .0)) i) × Roomy s ⌝ }
+    ensures { λ r. ⌜ r ≡ moveOf s (t .0) i ⌝ }
+{
+    let u = s;
+    let at = t.0 as usize;
+    let w = u.buffers[at * INSTRUCTIONS + (i as usize)];
+    let e = w.entry;
+    take_effect(change::take_out(s, t, i), t, e)
+}
+
+// The rule against persisting a location's oldest entry; 0 where none stands against it.
+pub(crate) fn persist_rule<'a>(lengths: &'a [u8; LOCATIONS], l: Location) -> u8
+    requires { ⌜ l .0 < mostLocations ⌝ }
+    ensures { λ r. ⌜ r ≡ persistRule (now (lengths .entry)) (l .0) ⌝ }
+{
+    if lengths[l.0 as usize] == 0 {
+        return 29;
+    }
+    0
+}
+
+// A location's oldest entry persisted, where there is one.
+pub(crate) fn persist(s: State, l: Location) -> State
+    requires { ⌜ (l .0 < mostLocations) × (0 < queueLen s (l .0)) × (queueLen s (l .0) ≤ room) ⌝ }
+    ensures { λ r. ⌜ r ≡ persistOf s (l .0) ⌝ }
+{
+    let v = s;
+    let at = l.0 as usize;
+    let word = look::word_or(v.held[at * ROOM], v.marks[at * ROOM], v.words[at]);
+    let mut u = change::dequeue(s, l);
+    u.words[at] = word;
+    u
+}
