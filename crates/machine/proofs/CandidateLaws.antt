@@ -1,10 +1,10 @@
--- The candidates are exactly the steps that 5 and 8 have nothing against, in 01's order, once each; and so the
--- legal ones among them. Assumes nothing.
-use Prim.Native.Nat.{ℕ, zero, suc, _+_, _*_, _≤_, _<_}
+-- The candidates are exactly the steps that 5 and 8 have nothing against; and so the list of next steps holds
+-- exactly the legal ones. Assumes nothing.
+use Prim.Native.Nat.{ℕ, zero, suc, _+_, _≤_, _<_}
 use mathlib.Core.Path.{_≡_, refl, sym, ap, _∙_, subst}
 use mathlib.Core.Logic.{_⊎_, inl, inr, _≢_}
 use mathlib.Core.Bool.{Bool, true, false}
-use mathlib.Core.List.{List, [], _∷_, _++_, append-assoc}
+use mathlib.Core.List.{List, [], _∷_, _++_}
 use native.Mathlib.Omega.{arith}
 use native.Mathlib.Nat.{eq-or-lt-of-le}
 use borrow.Author.Tests.{eqb-true, eqb-false, lt-leb}
@@ -13,94 +13,12 @@ use Rattle.cases.specs.declared.case.Step.{Step}
 use Rattle.cases.specs.declared.case.Program.{Program}
 use Rattle.cases.specs.Choice.{pick, both, either, refuse}
 use Rattle.cases.specs.Checks.{stepFault, stepOut, stepLeft, beyond, leftOver}
-use Rattle.cases.specs.Sizes.{mostInstructions, mostLocations, mostCode}
+use Rattle.cases.specs.Sizes.{mostInstructions}
 use Rattle.machine.specs.declared.cells.State.{State}
 use Rattle.machine.specs.Rules.{ruleOf}
-use Rattle.machine.specs.Fit.{ProgramFits}
-use Rattle.machine.proofs.StepLaws.{InRange, fault-none}
+use Rattle.machine.proofs.RangeLaws.{InRange, fault-none}
 use Rattle.machine.specs.Next.{issueStep, moveStep, persistStep, issuesFrom, movesAt, movesFrom}
-use Rattle.machine.specs.Next.{persistsFrom, candidates, allowed, legalSteps, rankOf, Rising, Listed}
-
--- Rising
-rising-low : (n m : ℕ) (ks : List Step) → n ≤ m → Rising m ks → Rising n ks
-unfolding Rising
-rising-low n m [] h r = tt
-rising-low n m (k ∷ ks) h r = (let a = r .0 in omega arith, r .1)
-
--- the ranks of the three kinds of steps
-issue-rank : (t : ℕ) → rankOf (issueStep t) ≡ t * mostInstructions
-unfolding rankOf
-issue-rank t = omega arith
-
-move-rank : (t i : ℕ) → rankOf (moveStep t i) ≡ mostCode + mostLocations + t * mostInstructions + i
-unfolding rankOf
-move-rank t i = omega arith
-
-persist-rank : (l : ℕ) → rankOf (persistStep l) ≡ 2 * (mostCode + mostLocations) + l
-unfolding rankOf
-persist-rank l = omega arith
-
--- one kind rises, and what comes behind it begins above it
-rising-issues : (t m n : ℕ) (rest : List Step) → n ≤ t * mostInstructions
-    → Rising ((t + m) * mostInstructions) rest
-    → Rising n (issuesFrom t m ++ rest)
-unfolding issuesFrom Rising
-rising-issues t zero n rest h r = rising-low n _ rest (omega arith) r
-rising-issues t (suc m) n rest h r =
-    let e = issue-rank t in (
-      omega arith,
-      rising-issues (suc t) m _ rest (omega arith) (rising-low _ _ rest (omega arith) r),
-    )
-
-rising-positions : (t i m n : ℕ) (rest : List Step) → n ≤ mostCode + mostLocations + t * mostInstructions + i
-    → Rising (mostCode + mostLocations + t * mostInstructions + i + m) rest
-    → Rising n (movesAt t i m ++ rest)
-unfolding movesAt Rising
-rising-positions t i zero n rest h r = rising-low n _ rest (omega arith) r
-rising-positions t i (suc m) n rest h r =
-    let e = move-rank t i in (
-      omega arith,
-      rising-positions t (suc i) m _ rest (omega arith) (rising-low _ _ rest (omega arith) r),
-    )
-
-rising-moves : (t m n : ℕ) (rest : List Step) → n ≤ mostCode + mostLocations + t * mostInstructions
-    → Rising (mostCode + mostLocations + (t + m) * mostInstructions) rest
-    → Rising n (movesFrom t m ++ rest)
-unfolding movesFrom
-rising-moves t zero n rest h r = rising-low n _ rest (omega arith) r
-rising-moves t (suc m) n rest h r =
-    rw (append-assoc (movesAt t 0 mostInstructions))
-    (rising-positions t 0 mostInstructions n _ (omega arith)
-    (rising-moves (suc t) m _ rest (omega arith) (rising-low _ _ rest (omega arith) r)))
-
-rising-persists : (l m n : ℕ) → n ≤ 2 * (mostCode + mostLocations) + l → Rising n (persistsFrom l m)
-unfolding persistsFrom Rising
-rising-persists l zero n h = tt
-rising-persists l (suc m) n h =
-    let e = persist-rank l in (omega arith, rising-persists (suc l) m _ (omega arith))
-
-rising-allowed : (rule : Step → ℕ) (n : ℕ) (ks : List Step) → Rising n ks → Rising n (allowed rule ks)
-unfolding allowed Rising pick
-rising-allowed rule n [] r = tt
-rising-allowed rule n (k ∷ ks) r = go (eqb (rule k) 0) (rising-allowed rule (suc (rankOf k)) ks (r .1))
-  where
-    go : (b : Bool) → Rising (suc (rankOf k)) (allowed rule ks)
-        → Rising n (pick b (k ∷ allowed rule ks) (allowed rule ks))
-    go true ih = (r .0, ih)
-    go false ih = rising-low n (suc (rankOf k)) (allowed rule ks) (let a = r .0 in omega arith) ih
-
-pub candidates-rising : (p : Program) → ProgramFits p → Rising 0 (candidates p)
-unfolding candidates
-candidates-rising p g =
-    let f = g .few-threads in
-    rw (append-assoc (issuesFrom 0 (p .threads)))
-    (rising-issues 0 (p .threads) 0 _ (omega arith)
-    (rising-moves 0 (p .threads) _ _ (omega arith)
-    (rising-persists 0 (p .locations) _ (omega arith))))
-
-pub legal-rising : (p : Program) (s : State) → ProgramFits p → Rising 0 (legalSteps p s)
-unfolding legalSteps
-legal-rising p s g = rising-allowed (ruleOf p s) 0 (candidates p) (candidates-rising p g)
+use Rattle.machine.specs.Next.{persistsFrom, candidates, allowed, legalSteps, Listed}
 
 -- Listed: in the first of two lists, in the second, in one of them
 listed-left : (k : Step) (ks js : List Step) → Listed k ks → Listed k (ks ++ js)
@@ -182,7 +100,8 @@ listed-move t (suc m) i j h k l = go (eq-or-lt-of-le h) (listed-move (suc t) m i
         → (suc t ≤ i → i < suc t + m → j < mostInstructions → Listed (moveStep i j) (movesFrom (suc t) m))
         → Listed (moveStep i j) (movesAt t 0 mostInstructions ++ movesFrom (suc t) m)
     go (inl e) ih =
-        rw (← e) (listed-left _ _ (movesFrom (suc t) m) (listed-position t 0 mostInstructions j (omega arith) (omega arith)))
+        rw (← e) (listed-left _ _ (movesFrom (suc t) m)
+        (listed-position t 0 mostInstructions j (omega arith) (omega arith)))
     go (inr a) ih = listed-right _ (movesAt t 0 mostInstructions) _ (ih a (omega arith) l)
 
 listed-persist : (l m i : ℕ) → l ≤ i → i < l + m → Listed (persistStep i) (persistsFrom l m)
@@ -271,7 +190,8 @@ module _ (p : Program) where
   issues-fault k t (suc m) h (inl e) = ap (stepFault p) e ∙ issue-fault t (omega arith)
   issues-fault k t (suc m) h (inr e) = issues-fault k (suc t) m (omega arith) e
 
-  positions-fault : (k : Step) (t i m : ℕ) → t < p .threads → i + m ≤ mostInstructions → Listed k (movesAt t i m)
+  positions-fault : (k : Step) (t i m : ℕ) → t < p .threads → i + m ≤ mostInstructions
+      → Listed k (movesAt t i m)
       → stepFault p k ≡ 0
   unfolding movesAt Listed
   positions-fault k t i zero h g e = absurd e
@@ -303,7 +223,8 @@ module _ (p : Program) where
       to (inl a) = issues-fault k 0 (p .threads) (omega arith) a
       to (inr a) = moves-fault k 0 (p .threads) (omega arith) a
 
-      go : Listed k (issuesFrom 0 (p .threads) ++ movesFrom 0 (p .threads)) ⊎ Listed k (persistsFrom 0 (p .locations))
+      go : Listed k (issuesFrom 0 (p .threads) ++ movesFrom 0 (p .threads)) ⊎ Listed k
+          (persistsFrom 0 (p .locations))
           → stepFault p k ≡ 0
       go (inl a) = to (listed-either k (issuesFrom 0 (p .threads)) _ a)
       go (inr a) = persists-fault k 0 (p .locations) (omega arith) a

@@ -63,7 +63,8 @@ module _ (p : Program) where
   leads-or-stops s (k ∷ ks) = go (eqb (ruleOf p s k) 0) refl (leads-or-stops (nextOf p s k) ks)
     where
       go : (b : Bool) → eqb (ruleOf p s k) 0 ≡ b
-          → ((u : State) × Leads p (nextOf p s k) ks u) ⊎ ((n : ℕ) × (u : State) × StopsAt p (nextOf p s k) ks n u)
+          → ((u : State) × Leads p (nextOf p s k) ks u) ⊎
+          ((n : ℕ) × (u : State) × StopsAt p (nextOf p s k) ks n u)
           → ((u : State) × ((ruleOf p s k ≡ 0) × Leads p (nextOf p s k) ks u))
           ⊎ ((n : ℕ) × (u : State) × StopsAt p s (k ∷ ks) n u)
       go true e (inl r) = inl (r .0, (eqb-true _ _ e, r .1))

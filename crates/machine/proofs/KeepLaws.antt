@@ -1,4 +1,5 @@
--- What a change of one part of a state leaves of its fit: a queue, a buffer, a word, a register. Assumes nothing.
+-- What a change of one part of a state leaves of its fit: a queue, a buffer, a word, a register. Assumes
+-- nothing.
 use Prim.Native.Nat.{ℕ, _+_, _-_, _≤_, _<_}
 use mathlib.Core.Path.{_≡_, refl, _∙_}
 use mathlib.Core.List.{List}
@@ -51,11 +52,13 @@ module _ (p : Program) (s : State) (f : Fits p s) where
         same : due p (withQueue s l q) ≡ due p s
         same = unfold withQueue due unissued in refl
 
-        count : (k : ℕ) → k < mostLocations → Dec (k ≡ l) → queueLen (withQueue s l q) k + due p (withQueue s l q) ≤ room
+        count : (k : ℕ) → k < mostLocations → Dec (k ≡ l)
+            → queueLen (withQueue s l q) k + due p (withQueue s l q) ≤ room
         count k h (yes e) =
             rw (e, same, queueLen-same s (f .sized) l in-range (queue-within l in-range) q short) few
         count k h (no e) =
-            rw (same, queueLen-other s (f .sized) l in-range (queue-within l in-range) q short k e) (f .few-queued k h)
+            rw (same, queueLen-other s (f .sized) l in-range (queue-within l in-range) q short k e)
+            (f .few-queued k h)
 
         none : (k : ℕ) → k < mostLocations → p .locations ≤ k → Dec (k ≡ l) → queueLen (withQueue s l q) k ≡ 0
         none k h a (yes e) = absurd (omega arith)
@@ -70,7 +73,8 @@ module _ (p : Program) (s : State) (f : Fits p s) where
             (f .borne k h)
 
   -- a buffer that keeps within the bounds, with entries of locations that there are
-  module _ (t : ℕ) (low : t < p .threads) (b : List Waiting) (few : length b + unissued p s t ≤ mostInstructions) where
+  module _ (t : ℕ) (low : t < p .threads) (b : List Waiting)
+      (few : length b + unissued p s t ≤ mostInstructions) where
     in-threads : t < mostThreads
     in-threads = let w = f .program .few-threads in omega arith
 

@@ -20,11 +20,14 @@ mod SpareLaws
 mod StartLaws
 -- the work left, and a legal step
 mod WorkLaws
+mod RangeLaws
+mod IssueLaws
 mod StepLaws
 -- next steps
 mod NextLaws
 mod OfferLaws
 mod CandidateLaws
+mod OrderLaws
 -- runs
 mod JudgeLaws
 mod RunLaws

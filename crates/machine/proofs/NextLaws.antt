@@ -45,10 +45,14 @@ pub offered-listed : (broken : ℕ) (k : Step) (xs : List Step) → length xs < 
 unfolding offered listed pick
 offered-listed broken k xs h = go (eqb broken 0)
   where
-    go : (b : Bool)
-        → pick b (record { count = length xs + 1; steps = set (xs ++ replicate (mostCandidates - length xs) noStep) (length xs) k })
-        (listed xs)
-        ≡ listed (xs ++ pick b (k ∷ []) [])
+    pushed : Next
+    pushed =
+        record {
+          count = length xs + 1;
+          steps = set (xs ++ replicate (mostCandidates - length xs) noStep) (length xs) k;
+        }
+
+    go : (b : Bool) → pick b pushed (listed xs) ≡ listed (xs ++ pick b (k ∷ []) [])
     go true =
         let e = push-listed mostCandidates xs k h in
         let n : length xs + 1 ≡ length (xs ++ (k ∷ [])) = sym (length-append xs (k ∷ [])) in
@@ -81,7 +85,8 @@ offered-append rule (k ∷ ks) js n = offered-append rule ks js (offered (rule k
 -- each step offered makes the list at most one longer
 pub count-offered : (broken : ℕ) (k : Step) (n : Next) → offered broken k n .count ≤ n .count + 1
 unfolding offered
-count-offered broken k n = pick-cases (λ (m : Next). m .count ≤ n .count + 1) _ _ _ (λ h. omega arith) (λ h. omega arith)
+count-offered broken k n =
+    pick-cases (λ (m : Next). m .count ≤ n .count + 1) _ _ _ (λ h. omega arith) (λ h. omega arith)
 
 pub count-offered-all : (rule : Step → ℕ) (ks : List Step) (n : Next)
     → offeredAll rule ks n .count ≤ n .count + length ks
@@ -106,7 +111,8 @@ module _ (rule : Step → ℕ) (i most : ℕ) (n : Next) where
   issues-end h = let e : most - i ≡ 0 = omega arith in rw e
 
   pub persists-next : i < most
-      → offeredAll rule (persistsFrom (i + 1) (most - (i + 1))) (offered (rule (persistStep i)) (persistStep i) n)
+      → offeredAll rule (persistsFrom (i + 1) (most - (i + 1)))
+      (offered (rule (persistStep i)) (persistStep i) n)
       ≡ offeredAll rule (persistsFrom i (most - i)) n
   unfolding persistsFrom offeredAll
   persists-next h = let e : most - i ≡ suc (most - (i + 1)) = omega arith in rw (e, add-one)
@@ -121,7 +127,8 @@ module _ (rule : Step → ℕ) (i most : ℕ) (n : Next) where
   unfolding movesFrom
   moves-next h =
       let e : most - i ≡ suc (most - (i + 1)) = omega arith in
-      rw (e, add-one) (sym (offered-append rule (movesAt i 0 mostInstructions) (movesFrom (suc i) (most - suc i)) n))
+      rw (e, add-one)
+      (sym (offered-append rule (movesAt i 0 mostInstructions) (movesFrom (suc i) (most - suc i)) n))
 
   pub moves-end : most ≤ i → offeredAll rule (movesFrom i (most - i)) n ≡ n
   unfolding movesFrom offeredAll
@@ -215,7 +222,8 @@ module _ (p : Program) (g : ProgramFits p) where
   few-candidates : length (candidates p) ≤ mostCandidates
   unfolding candidates
   few-candidates =
-      let a = length-append (issuesFrom 0 (p .threads) ++ movesFrom 0 (p .threads)) (persistsFrom 0 (p .locations)) in
+      let a = length-append (issuesFrom 0 (p .threads) ++ movesFrom 0 (p .threads))
+      (persistsFrom 0 (p .locations)) in
       let b = length-append (issuesFrom 0 (p .threads)) (movesFrom 0 (p .threads)) in
       let c = length-issues 0 (p .threads) in
       let d = length-moves 0 (p .threads) in

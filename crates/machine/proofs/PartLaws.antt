@@ -96,7 +96,8 @@ module _ {ℓ} {A : Type ℓ} where
   sets-same xs base n h =
       let k : length (take n (drop base xs)) ≡ n = simp (length-take, length-drop) (omega arith) in
       sets-eq (take n (drop base xs)) xs base (rw k h)
-      ∙ rw (k, append-assoc, ← drop-drop n base xs, take-append-drop n (drop base xs)) (take-append-drop base xs)
+      ∙ rw (k, append-assoc, ← drop-drop n base xs, take-append-drop n (drop base xs))
+      (take-append-drop base xs)
 
   getD-sets-after : (xs : List A) (i : ℕ) (vs : List A) (j : ℕ) (d : A) → i + length vs ≤ j
       → getD (sets xs i vs) j d ≡ getD xs j d
@@ -108,7 +109,8 @@ module _ {ℓ} {A : Type ℓ} where
   take-sets k xs i [] h = refl
   take-sets k xs i (v ∷ vs) h = take-sets k (set xs i v) (suc i) vs (omega arith) ∙ take-set-le k xs i v h
 
-  drop-sets : (k : ℕ) (xs : List A) (i : ℕ) (vs : List A) → i + length vs ≤ k → drop k (sets xs i vs) ≡ drop k xs
+  drop-sets : (k : ℕ) (xs : List A) (i : ℕ) (vs : List A) → i + length vs ≤ k
+      → drop k (sets xs i vs) ≡ drop k xs
   drop-sets k xs i [] h = refl
   drop-sets k xs i (v ∷ vs) h =
       drop-sets k (set xs i v) (suc i) vs (omega arith) ∙ drop-set-lt k xs i v (omega arith)

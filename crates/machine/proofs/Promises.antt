@@ -24,14 +24,17 @@ use Rattle.machine.specs.declared.cells.State.{State}
 use Rattle.machine.specs.declared.steps.Stepped.{Stepped}
 use Rattle.machine.specs.declared.runs.Verdict.the-variants.{Legal, Illegal}
 use Rattle.machine.specs.Rules.{ruleOf, nextOf, startOf}
-use Rattle.machine.specs.Fit.{ProgramFits, Fits}
+use Rattle.machine.specs.Fit.{misfits, Sized, ProgramFits, Fits}
 use Rattle.machine.specs.Work.{work, fullLength, cost}
 use Rattle.machine.specs.Judge.{Leads, StopsAt, rulingNo, told, steppedOf, stepOf, judgeFrom, runOf}
 use Rattle.machine.specs.Judge.{judgeRun, stopped, judgeOf, judgeBytes}
 use Rattle.machine.specs.Next.{legalSteps, listed, nextSteps, Rising, Listed}
 use Rattle.machine.proofs.StartLaws as StartLaws
+use Rattle.machine.proofs.RangeLaws.{fault-none}
 use Rattle.machine.proofs.StepLaws as StepLaws
+use Rattle.machine.proofs.OrderLaws as OrderLaws
 use Rattle.machine.proofs.RuleLaws as RuleLaws
+use Rattle.machine.proofs.FitLaws as FitLaws
 use Rattle.machine.proofs.CandidateLaws as CandidateLaws
 use Rattle.machine.proofs.JudgeLaws.{leads-or-stops, says-legal, says-illegal, legal-says, illegal-says}
 use Rattle.machine.proofs.JudgeLaws.{says-leads, says-stops, state-is}
@@ -117,11 +120,11 @@ module _ (p : Program) (s : State) (fit : Fits p s) where
   module _ (k : Step) (faultless : stepFault p k ≡ 0) (legal : ruleOf p s k ≡ 0) where
     -- a legal step leads to a state that fits
     pub step-fits : Fits p (nextOf p s k)
-    step-fits = StepLaws.step-fits p s fit k (StepLaws.fault-none p k faultless) legal
+    step-fits = StepLaws.step-fits p s fit k (fault-none p k faultless) legal
 
     -- and uses up its cost of the work left, which is 1
     pub step-work : work p (nextOf p s k) + cost p s k ≡ work p s
-    step-work = StepLaws.step-work p s fit k (StepLaws.fault-none p k faultless) legal
+    step-work = StepLaws.step-work p s fit k (fault-none p k faultless) legal
 
   -- the list of next steps holds the legal ones, exactly, in 01's order, each once
   pub next-legal : (k : Step) →
@@ -132,11 +135,15 @@ module _ (p : Program) (s : State) (fit : Fits p s) where
   )
 
   pub next-rising : Rising 0 (legalSteps p s)
-  next-rising = CandidateLaws.legal-rising p s (fit .program)
+  next-rising = OrderLaws.legal-rising p s (fit .program)
 
   pub next-steps-are : take (nextSteps p s .count) (nextSteps p s .steps) ≡ legalSteps p s
   unfolding nextSteps listed
   next-steps-are = take-at _ _ _ refl
+
+-- the test for 33 and the facts that proofs use are one: of a state whose arrays are as long as their types say
+pub fits-exactly : (p : Program) (s : State) → ProgramFits p → Sized s → (misfits p s ≡ false) ↔ Fits p s
+fits-exactly p s g z = (FitLaws.fits-is p s g z, FitLaws.is-fits p s)
 
 -- a step breaks no rule, or one of 21 to 29
 pub rule-in-table : (p : Program) (s : State) (k : Step)

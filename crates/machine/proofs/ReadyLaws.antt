@@ -24,7 +24,9 @@ use Rattle.machine.specs.Fit.{Fits, Named, AllNamed, Shallow, Roomy, uni
 use Rattle.machine.specs.Offer.{Movable}
 use Rattle.machine.proofs.SumLaws.{sum-part}
 use Rattle.machine.proofs.KeepLaws.{queue-within, buffer-within}
-use Rattle.machine.proofs.StepLaws.{fault-none, issue-left, move-there, move-named, persist-there}
+use Rattle.machine.proofs.RangeLaws.{fault-none}
+use Rattle.machine.proofs.IssueLaws.{issue-left}
+use Rattle.machine.proofs.StepLaws.{move-there, move-named, persist-there}
 
 -- what names one of a program's locations names one of eight
 named-low : (n : ℕ) (e : Entry) → n ≤ mostLocations → Named n e → Named mostLocations e
@@ -87,8 +89,14 @@ module _ (p : Program) (s : State) (f : Fits p s) where
         × Named mostLocations (entryAt (buffer s (k .thread .0)) 0) × Shallow (s .lengths)
         × (length (s .marks) ≡ mostSlots)
     move-rule-ready h =
-        let low = thread-low (omega arith) in
-        (low, buffer-within p s f (k .thread .0) low, head-named (k .thread .0) low, shallow, f .sized .marks-long)
+        let low = thread-low (omega arith) in (
+          low,
+          buffer-within p s f (k .thread .0) low,
+          head-named
+              (k .thread .0) low,
+          shallow,
+          f .sized .marks-long,
+        )
 
     pub persist-rule-ready : k .code ≢ 0 → k .code ≢ 1 → k .location .0 < mostLocations
     persist-rule-ready h g =
@@ -100,7 +108,8 @@ module _ (p : Program) (s : State) (f : Fits p s) where
 
     -- the three steps, where they are legal
     module _ (legal : ruleOf p s k ≡ 0) where
-      issue-legal : k .code ≡ 0 → issueRule p (s .issued) (s .waiting) (s .marks) (s .lengths) (k .thread .0) ≡ 0
+      issue-legal : k .code ≡ 0
+          → issueRule p (s .issued) (s .waiting) (s .marks) (s .lengths) (k .thread .0) ≡ 0
       unfolding ruleOf
       issue-legal h = sym (pick-true _ _ _ (eq-eqb _ _ h)) ∙ legal
 
@@ -124,7 +133,8 @@ module _ (p : Program) (s : State) (f : Fits p s) where
           × (queueLen s (instructionAt p (k .thread .0) (issuedOf s (k .thread .0)) .location .0) < room)
       issue-ready h =
           let low = thread-low (omega arith) in
-          let left : issuedOf s (k .thread .0) < countAt p (k .thread .0) = issue-left p s f (k .thread .0) (issue-legal h) in
+          let left : issuedOf s (k .thread .0) < countAt p (k .thread .0)
+          = issue-left p s f (k .thread .0) (issue-legal h) in
           let few = f .program .few-instructions (k .thread .0) in
           let fits = f .program .instructions (k .thread .0) (issuedOf s (k .thread .0)) left .1 in
           let some : 0 < unissued p s (k .thread .0) = unfold unissued in omega arith in
@@ -132,7 +142,8 @@ module _ (p : Program) (s : State) (f : Fits p s) where
           let place = f .program .few-locations in
           let named = fits .low-location in
           let reg = fits .low-register in
-          let l : instructionAt p (k .thread .0) (issuedOf s (k .thread .0)) .location .0 < mostLocations = omega arith in
+          let l : instructionAt p (k .thread .0) (issuedOf s (k .thread .0)) .location .0 < mostLocations
+          = omega arith in
           (low, omega arith, omega arith, l, reg, queue-room (due-unissued (k .thread .0) low some) _ l)
 
       pub move-ready : k .code ≡ 1
@@ -158,5 +169,9 @@ module _ (p : Program) (s : State) (f : Fits p s) where
           let low = persist-rule-ready h g in
           let r = fault-none p k faultless in
           let c = r .low-code in
-          let range = r .low-location (omega arith) in
-          (low, persist-there p s f (k .location .0) range (persist-legal h g), queue-within p s f (k .location .0) low)
+          let range = r .low-location (omega arith) in (
+            low,
+            persist-there p s f (k .location .0) range (persist-legal h g),
+            queue-within p s f
+                (k .location .0) low,
+          )

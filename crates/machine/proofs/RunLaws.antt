@@ -23,7 +23,8 @@ use Rattle.machine.specs.Fit.{Fits}
 use Rattle.machine.specs.Judge.{judged, judgeFrom}
 use Rattle.machine.proofs.PartLaws.{take-next, take-end}
 use Rattle.machine.proofs.StartLaws.{ranged-fits, start-fits}
-use Rattle.machine.proofs.StepLaws.{fault-none, step-fits}
+use Rattle.machine.proofs.RangeLaws.{fault-none}
+use Rattle.machine.proofs.StepLaws.{step-fits}
 use Rattle.machine.proofs.JudgeLaws.{judge-next, judge-here}
 
 -- i of n steps are taken and lead from the start, s₀, to s: what is still to judge says what the whole run says
@@ -49,7 +50,8 @@ judging-start c s r e =
       rest = ap (λ x. judgeFrom (c .program) 0 x (take (c .run .count) (c .run .steps))) e;
     }
 
-module _ {p : Program} {steps : List Step} {n : ℕ} {s₀ s : State} {i : ℕ} (o : JudgedSoFar p steps n s₀ s i) where
+module _ {p : Program} {steps : List Step} {n : ℕ} {s₀ s : State} {i : ℕ}
+    (o : JudgedSoFar p steps n s₀ s i) where
   -- a turn goes on; a step is illegal; the run ends
   module _ (h : i < n) where
     front : drop i (take n steps) ≡ getD steps i noStep ∷ drop (i + 1) (take n steps)

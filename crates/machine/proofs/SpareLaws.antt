@@ -1,5 +1,5 @@
--- A fit with room for one entry more in thread t's buffer and in each queue. Taking an entry out of a buffer, or
--- counting an instruction as issued, leaves it; putting one in uses it up. Assumes nothing.
+-- A fit with room for one entry more in thread t's buffer and in each queue. Taking an entry out of a buffer,
+-- or counting an instruction as issued, leaves it; putting one in uses it up. Assumes nothing.
 use Prim.Native.Nat.{ℕ, zero, suc, _+_, _-_, _≤_, _<_}
 use mathlib.Core.Path.{_≡_, refl, sym, _∙_}
 use mathlib.Core.Logic.{_≢_}
@@ -68,7 +68,8 @@ marks-queue p s f l low =
     marks-slots _ _ (length-part _ _ _ (omega arith) ∙ sym (length-part _ _ _ (omega arith)))
 
 -- an entry taken out of a buffer
-module _ (p : Program) (s : State) (f : Fits p s) (t i : ℕ) (low : t < p .threads) (there : i < bufferLen s t) where
+module _ (p : Program) (s : State) (f : Fits p s) (t i : ℕ) (low : t < p .threads)
+    (there : i < bufferLen s t) where
   in-threads : t < mostThreads
   in-threads = let w = f .program .few-threads in omega arith
 
@@ -105,7 +106,8 @@ module _ (p : Program) (s : State) (f : Fits p s) (t i : ℕ) (low : t < p .thre
           rw (bufferLen-same s (f .sized) t in-threads n b k, u) (omega arith)
 
 -- an instruction counted as issued
-module _ (p : Program) (s : State) (f : Fits p s) (t : ℕ) (low : t < p .threads) (left : issuedOf s t < countAt p t) where
+module _ (p : Program) (s : State) (f : Fits p s) (t : ℕ) (low : t < p .threads)
+    (left : issuedOf s t < countAt p t) where
   abbrev counted : State
   counted = withIssued s t (issuedOf s t + 1)
 
@@ -123,9 +125,11 @@ module _ (p : Program) (s : State) (f : Fits p s) (t : ℕ) (low : t < p .thread
   due-counted : suc (due p counted) ≡ due p s
   unfolding due
   due-counted =
-      let c = sum-change mostThreads t (unissued p counted) (unissued p s) in-range (λ k a e. unissued-other k e) in
+      let c = sum-change mostThreads t (unissued p counted) (unissued p s) in-range
+      (λ k a e. unissued-other k e) in
       let e = unissued-same in
-      let b : sumTo mostThreads (bufferLen counted) ≡ sumTo mostThreads (bufferLen s) = unfold withIssued in refl in
+      let b : sumTo mostThreads (bufferLen counted) ≡ sumTo mostThreads (bufferLen s)
+      = unfold withIssued in refl in
       omega arith
 
   pub counted-spare : Spare p counted t
@@ -136,13 +140,15 @@ module _ (p : Program) (s : State) (f : Fits p s) (t : ℕ) (low : t < p .thread
           sized = sized-issued s (f .sized) t (issuedOf s t + 1);
           few-issued = λ k h. count k h (ℕ-discrete k t);
           few-waiting = λ k h. wait k h (ℕ-discrete k t);
-          few-queued = λ l h. unfold withIssued in (let w = f .few-queued l h in let e = due-counted in omega arith);
+          few-queued =
+              λ l h. unfold withIssued in (let w = f .few-queued l h in let e = due-counted in omega arith);
           no-buffer = unfold withIssued in f .no-buffer;
           no-queue = unfold withIssued in f .no-queue;
           named = unfold withIssued in f .named;
           borne = unfold withIssued in f .borne;
         };
-        place = unfold withIssued in (let w = f .few-waiting t in-range in let e = unissued-same in omega arith);
+        place =
+            unfold withIssued in (let w = f .few-waiting t in-range in let e = unissued-same in omega arith);
         queues = λ l h. unfold withIssued in (let w = f .few-queued l h in let e = due-counted in omega arith);
       }
     where
@@ -150,7 +156,8 @@ module _ (p : Program) (s : State) (f : Fits p s) (t : ℕ) (low : t < p .thread
       count k h (yes e) = rw (e, issued-same s (f .sized) t (issuedOf s t + 1) in-range) (omega arith)
       count k h (no e) = rw (issued-other s (f .sized) t (issuedOf s t + 1) k e) (f .few-issued k h)
 
-      wait : (k : ℕ) → k < mostThreads → Dec (k ≡ t) → bufferLen counted k + unissued p counted k ≤ mostInstructions
+      wait : (k : ℕ) → k < mostThreads → Dec (k ≡ t)
+          → bufferLen counted k + unissued p counted k ≤ mostInstructions
       wait k h (yes e) =
           unfold withIssued in rw e (let w = f .few-waiting t in-range in let e = unissued-same in omega arith)
       wait k h (no e) = unfold withIssued in rw (unissued-other k e) (f .few-waiting k h)
@@ -168,7 +175,8 @@ module _ (p : Program) (s : State) (t : ℕ) (o : Spare p s t) where
       let d = due-buffer p s (o .fit) t low (buffer s t ++ (record { entry = e } ∷ [])) (omega arith) in
       fits-buffer p s (o .fit) t low (buffer s t ++ (record { entry = e } ∷ [])) (omega arith)
       (λ l h. let q = o .queues l h in omega arith)
-      (named-append (p .locations) (buffer s t) _ (o .fit .named t (omega arith)) (unfold AllNamed in (named, tt)))
+      (named-append (p .locations) (buffer s t) _ (o .fit .named t (omega arith))
+      (unfold AllNamed in (named, tt)))
 
   pub enqueue-fits : (l : ℕ) → l < p .locations → (h : Slot) → h .mark ≤ p .threads → Fits p (enqueue s l h)
   unfolding enqueue

@@ -1,5 +1,5 @@
--- Where a run starts: the start fits every program of a case that can be read, and its work, the full length, is
--- at most the number of steps of a case. Assumes nothing.
+-- Where a run starts: the start fits every program of a case that can be read, and its work, the full length,
+-- is at most the number of steps of a case. Assumes nothing.
 use Prim.Native.Nat.{ℕ, zero, suc, _+_, _*_, _-_, _≤_, _<_}
 use mathlib.Core.Path.{_≡_, refl}
 use mathlib.Core.List.{List, [], _∷_}
@@ -131,7 +131,8 @@ module _ (p : Program) (g : ProgramFits p) where
       let u = unissued-all p g t in
       let l = length-part (t * mostInstructions + issuedOf (startOf p) t) (unissued p (startOf p) t) (p .code)
       (omega arith) in
-      let a = code-most (part (t * mostInstructions + issuedOf (startOf p) t) (unissued p (startOf p) t) (p .code)) in
+      let a = code-most
+      (part (t * mostInstructions + issuedOf (startOf p) t) (unissued p (startOf p) t) (p .code)) in
       let b : weighBuffer (buffer (startOf p) t) ≡ 0 = rw (no-entries p g t) (unfold weighBuffer in refl) in
       omega arith
 

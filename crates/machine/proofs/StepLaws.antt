@@ -1,178 +1,37 @@
 -- A legal step keeps the fit and lowers the work left by its cost. Assumes nothing.
-use Prim.Native.Nat.{ℕ, zero, suc, _+_, _≤_, _<_}
+use Prim.Native.Nat.{ℕ, suc, _+_, _<_}
 use mathlib.Core.Path.{_≡_, refl, sym, ap, _∙_}
 use mathlib.Core.Logic.{_≢_}
 use mathlib.Core.Bool.{Bool, true, false}
 use mathlib.Core.List.{List, [], _∷_}
 use native.Mathlib.Omega.{arith}
-use borrow.Author.Tests.{leb-false, ltb-false, eqb-true, eqb-false, le-leb, lt-leb, eq-eqb, ne-eqb, not-false}
+use borrow.Author.Tests.{leb-false, eqb-true, eqb-false}
 use lib.Dec.{eqb}
 use lib.ListN.{length}
-use Rattle.cases.specs.declared.case.Location.{Location}
-use Rattle.cases.specs.declared.case.Register.{Register}
-use Rattle.cases.specs.declared.case.Instruction.{Instruction}
 use Rattle.cases.specs.declared.case.Step.{Step}
 use Rattle.cases.specs.declared.case.Program.{Program}
-use Rattle.cases.specs.Choice.{pick, both}
-use Rattle.cases.specs.Checks.{stepFault, stepOut, stepLeft, beyond, leftOver}
-use Rattle.cases.specs.Sizes.{mostInstructions, mostLocations}
-use Rattle.cases.specs.Ranges.{InstructionFits}
-use Rattle.cases.proofs.ChoiceLaws.{refuse-none, either-false}
+use Rattle.cases.specs.Choice.{pick}
+use Rattle.cases.specs.Sizes.{mostLocations}
+use Rattle.cases.proofs.ChoiceLaws.{refuse-none}
 use Rattle.machine.specs.declared.cells.State.{State}
 use Rattle.machine.specs.declared.cells.Entry.{Entry}
 use Rattle.machine.specs.declared.cells.Entry.the-variants.{Store, Flush, FlushOpt, Sfence}
-use Rattle.machine.specs.Sizes.{room}
-use Rattle.machine.specs.View.{Slot, writeSlot, markerSlot, marksOf, queue, queueLen, withQueue}
-use Rattle.machine.specs.View.{buffer, bufferLen, withBuffer, blankWaiting, wordOf, withWord}
-use Rattle.machine.specs.View.{withRegister, issuedOf, withIssued}
-use Rattle.machine.specs.Look.{wordOr, queuedWord, loadOf}
-use Rattle.machine.specs.Rules.{countAt, instructionAt, issueRule, entryOf, loaded, exchanged, performed}
+use Rattle.machine.specs.View.{Slot, writeSlot, markerSlot, marksOf, queue, queueLen}
+use Rattle.machine.specs.View.{buffer, bufferLen, blankWaiting, wordOf, withWord}
+use Rattle.machine.specs.Look.{wordOr}
+use Rattle.machine.specs.Rules.{issueRule}
 use Rattle.machine.specs.Rules.{issueOf, effectOf, entryAt, moveRule, moveOf, persistRule, persistFirst}
-use Rattle.machine.specs.Rules.{persistOf, ruleOf, nextOf, enqueue, await}
+use Rattle.machine.specs.Rules.{persistOf, ruleOf, nextOf}
 use Rattle.machine.specs.Fit.{Fits, Named, AllBorne, due, unissued}
-use Rattle.machine.specs.Work.{unissuedWeight, waitingWeight, work, cost}
+use Rattle.machine.specs.Work.{waitingWeight, work, cost}
 use Rattle.machine.proofs.ViewLaws.{queue-length, buffer-length}
-use Rattle.machine.proofs.KeepLaws.{queue-within, buffer-within, fits-queue, fits-word, fits-register}
-use Rattle.machine.proofs.SpareLaws.{Spare, named-get, marks-queue, taken-spare, counted-spare}
-use Rattle.machine.proofs.SpareLaws.{await-fits, enqueue-fits, register-spare}
-use Rattle.machine.proofs.WorkLaws.{work-queue, work-enqueue, work-await, work-without, work-counted}
-use Rattle.machine.proofs.WorkLaws.{work-word, work-register}
-
--- what a step that 5 and 8 have nothing against uses is there, and what it doesn't use is 0
-pub record InRange (p : Program) (k : Step) : Type 0 where
-  pub low-code : k .code ≤ 2
-  pub low-thread : k .code ≤ 1 → k .thread .0 < p .threads
-  pub low-position : k .code ≡ 1 → k .position < mostInstructions
-  pub low-location : k .code ≡ 2 → k .location .0 < p .locations
-  pub no-thread : 2 ≤ k .code → k .thread .0 ≡ 0
-  pub no-position : k .code ≢ 1 → k .position ≡ 0
-  pub no-location : k .code ≢ 2 → k .location .0 ≡ 0
-
-used-low : (x limit : ℕ) (used : Bool) → beyond used x limit ≡ false → used ≡ true → x < limit
-unfolding beyond both
-used-low x limit used h e = leb-false _ _ (rw e at h)
-
-unused-none : (x : ℕ) (used : Bool) → leftOver used x ≡ false → used ≡ false → x ≡ 0
-unfolding leftOver both
-unused-none x used h e = eqb-true _ _ (not-false _ (rw e at h))
-
-pub fault-none : (p : Program) (k : Step) → stepFault p k ≡ 0 → InRange p k
-unfolding stepFault stepOut stepLeft
-fault-none p k h =
-    let chain = refuse-none _ 4 _ h in
-    let code = either-false _ _ (chain .0) in
-    let thread = either-false _ _ (code .1) in
-    let position = either-false _ _ (thread .1) in
-    let left = either-false _ _ (refuse-none _ 7 _ (chain .1) .0) in
-    let last = either-false _ _ (left .1) in
-    record {
-      low-code = ltb-false _ _ (code .0);
-      low-thread = λ e. used-low _ _ _ (thread .0) (le-leb _ _ e);
-      low-position = λ e. used-low _ _ _ (position .0) (eq-eqb _ _ e);
-      low-location = λ e. used-low _ _ _ (position .1) (eq-eqb _ _ e);
-      no-thread = λ e. unused-none _ _ (left .0) (lt-leb _ _ e);
-      no-position = λ e. unused-none _ _ (last .0) (ne-eqb _ _ e);
-      no-location = λ e. unused-none _ _ (last .1) (ne-eqb _ _ e);
-    }
-
--- an operation is one of eight
-each-operation {ℓ} : (P : ℕ → Type ℓ) → P 1 → P 2 → P 3 → P 4 → P 5 → P 6 → P 7 → P 8
-    → (op : ℕ) → 1 ≤ op → op ≤ 8 → P op
-each-operation P a b c d e f g i zero h k = absurd (omega arith)
-each-operation P a b c d e f g i (suc zero) h k = a
-each-operation P a b c d e f g i (suc (suc zero)) h k = b
-each-operation P a b c d e f g i (suc (suc (suc zero))) h k = c
-each-operation P a b c d e f g i (suc (suc (suc (suc zero)))) h k = d
-each-operation P a b c d e f g i (suc (suc (suc (suc (suc zero))))) h k = e
-each-operation P a b c d e f g i (suc (suc (suc (suc (suc (suc zero)))))) h k = f
-each-operation P a b c d e f g i (suc (suc (suc (suc (suc (suc (suc zero))))))) h k = g
-each-operation P a b c d e f g i (suc (suc (suc (suc (suc (suc (suc (suc zero)))))))) h k = i
-each-operation P a b c d e f g i (suc (suc (suc (suc (suc (suc (suc (suc (suc n))))))))) h k = absurd (omega arith)
-
--- an instruction of the operation op
-abbrev of : ℕ → Location → Register → ℕ → Instruction
-of op l r w = record { operation = op; location = l; register = r; word = w }
-
--- What an instruction does, where it is counted already
-module _ (p : Program) (s : State) (t : ℕ) (o : Spare p s t) (low : t < p .threads)
-    (l : Location) (r : Register) (w : ℕ) (there : l .0 < p .locations) where
-  performed-fits : (op : ℕ) → 1 ≤ op → op ≤ 8 → Fits p (performed s t (of op l r w))
-  unfolding performed pick entryOf Named loaded exchanged
-  performed-fits =
-      each-operation (λ op. Fits p (performed s t (of op l r w)))
-      (await-fits p s t o low _ there)
-      (await-fits p s t o low _ there)
-      (fits-register p s (o .fit) t _ _)
-      (enqueue-fits p _ t (register-spare p s t o _ _) (l .0) there (writeSlot w) (omega arith))
-      (await-fits p s t o low (Flush l) there)
-      (await-fits p s t o low (FlushOpt l) there)
-      (await-fits p s t o low Sfence tt)
-      (o .fit)
-
-  performed-work : (op : ℕ) → 1 ≤ op → op ≤ 8
-      → work p (performed s t (of op l r w)) + 1 ≡ work p s + unissuedWeight op
-  unfolding performed pick entryOf loaded exchanged unissuedWeight waitingWeight
-  performed-work =
-      let z = o .fit .program .few-threads in
-      let y = o .fit .program .few-locations in
-      let b = o .place in
-      let q = o .queues (l .0) (omega arith) in
-      let v = queuedWord s (l .0) in
-      let x = work-register p s (o .fit) t (r .0) v in
-      let f = register-spare p s t o (r .0) v in
-      let n : queueLen (withRegister s t (r .0) v) (l .0) < room = unfold withRegister in omega arith in
-      let e = work-enqueue p (withRegister s t (r .0) v) (f .fit) (l .0) (omega arith) n (writeSlot w) in
-      each-operation (λ op. work p (performed s t (of op l r w)) + 1 ≡ work p s + unissuedWeight op)
-      (rw (work-await p s (o .fit) t (omega arith) (omega arith)) (omega arith))
-      (rw (work-await p s (o .fit) t (omega arith) (omega arith)) (omega arith))
-      (rw (work-register p s (o .fit) t (r .0)) (omega arith))
-      (omega arith)
-      (rw (work-await p s (o .fit) t (omega arith) (omega arith)) (omega arith))
-      (rw (work-await p s (o .fit) t (omega arith) (omega arith)) (omega arith))
-      (rw (work-await p s (o .fit) t (omega arith) (omega arith)) (omega arith))
-      refl
-
--- counting an instruction as issued before or after what it does is the same
-counted-first : (s : State) (t n : ℕ) (l : Location) (r : Register) (w : ℕ) (op : ℕ) → 1 ≤ op → op ≤ 8
-    → withIssued (performed s t (of op l r w)) t n ≡ performed (withIssued s t n) t (of op l r w)
-unfolding performed pick entryOf loaded exchanged loadOf queuedWord await enqueue withIssued withRegister withBuffer
-    withQueue
-counted-first s t n l r w =
-    each-operation (λ op. withIssued (performed s t (of op l r w)) t n ≡ performed (withIssued s t n) t (of op l r w))
-    refl refl refl refl refl refl refl refl
-
--- Issue
-module _ (p : Program) (s : State) (f : Fits p s) (t : ℕ)
-    (legal : issueRule p (s .issued) (s .waiting) (s .marks) (s .lengths) t ≡ 0) where
-  pub issue-left : issuedOf s t < countAt p t
-  unfolding issueRule
-  issue-left = leb-false _ _ (refuse-none _ 20 _ legal .0)
-
-  abbrev next : Instruction
-  next = instructionAt p t (issuedOf s t)
-
-  there : (t < p .threads) × InstructionFits p next
-  there = f .program .instructions t (issuedOf s t) issue-left
-
-  issue-is : issueOf p s t ≡ performed (withIssued s t (issuedOf s t + 1)) t next
-  unfolding issueOf
-  issue-is =
-      counted-first s t (issuedOf s t + 1) (next .location) (next .register) (next .word) (next .operation)
-      (there .1 .some-operation) (there .1 .low-operation)
-
-  pub issue-fits : Fits p (issueOf p s t)
-  issue-fits =
-      rw issue-is
-      (performed-fits p (withIssued s t (issuedOf s t + 1)) t (counted-spare p s f t (there .0) issue-left)
-      (there .0) (next .location) (next .register) (next .word) (there .1 .low-location) (next .operation)
-      (there .1 .some-operation) (there .1 .low-operation))
-
-  pub issue-work : work p (issueOf p s t) + 1 ≡ work p s
-  issue-work =
-      let a = performed-work p (withIssued s t (issuedOf s t + 1)) t (counted-spare p s f t (there .0) issue-left)
-      (there .0) (next .location) (next .register) (next .word) (there .1 .low-location) (next .operation)
-      (there .1 .some-operation) (there .1 .low-operation) in
-      rw issue-is (a ∙ work-counted p s f t (there .0) issue-left)
+use Rattle.machine.proofs.KeepLaws.{queue-within, buffer-within, fits-queue, fits-word}
+use Rattle.machine.proofs.SpareLaws.{Spare, named-get, marks-queue, taken-spare}
+use Rattle.machine.proofs.SpareLaws.{enqueue-fits}
+use Rattle.machine.proofs.WorkLaws.{work-queue, work-enqueue, work-without}
+use Rattle.machine.proofs.WorkLaws.{work-word}
+use Rattle.machine.proofs.RangeLaws.{InRange}
+use Rattle.machine.proofs.IssueLaws.{issue-fits, issue-work}
 
 -- Move
 module _ (p : Program) (s : State) (t : ℕ) (o : Spare p s t) (low : t < p .threads) where

@@ -42,8 +42,10 @@ module _ (s : State) (z : Sized s) (l : ℕ) (low : l < mostLocations) (n : queu
   queue-length =
       let h = z .held-long in
       let m = z .marks-long in
-      let w : length (part (l * room) (queueLen s l) (s .held)) ≡ queueLen s l = length-part _ _ _ (omega arith) in
-      let k : length (part (l * room) (queueLen s l) (s .marks)) ≡ queueLen s l = length-part _ _ _ (omega arith) in
+      let w : length (part (l * room) (queueLen s l) (s .held)) ≡ queueLen s l
+      = length-part _ _ _ (omega arith) in
+      let k : length (part (l * room) (queueLen s l) (s .marks)) ≡ queueLen s l
+      = length-part _ _ _ (omega arith) in
       length-slots _ _ (w ∙ sym k) ∙ w
 
   module _ (q : List Slot) (m : length q ≤ room) where
@@ -61,7 +63,8 @@ module _ (s : State) (z : Sized s) (l : ℕ) (low : l < mostLocations) (n : queu
         let w = z .marks-long in
         let k = length-marks q in
         let e : getD (set (s .lengths) l (length q)) l 0 ≡ length (marksOf q) = queueLen-same ∙ sym k in
-        rw e (part-put-same 0 (l * room) (queueLen s l) (marksOf q) (s .marks) room n (omega arith) (omega arith))
+        rw e (part-put-same 0 (l * room) (queueLen s l) (marksOf q) (s .marks) room n (omega arith)
+        (omega arith))
 
     words-same : part (l * room) (queueLen (withQueue s l q) l) (withQueue s l q .held) ≡ wordsOf q
     unfolding withQueue
@@ -69,14 +72,16 @@ module _ (s : State) (z : Sized s) (l : ℕ) (low : l < mostLocations) (n : queu
         let w = z .held-long in
         let k = length-words q in
         let e : getD (set (s .lengths) l (length q)) l 0 ≡ length (wordsOf q) = queueLen-same ∙ sym k in
-        rw e (part-put-same 0 (l * room) (queueLen s l) (wordsOf q) (s .held) room n (omega arith) (omega arith))
+        rw e (part-put-same 0 (l * room) (queueLen s l) (wordsOf q) (s .held) room n (omega arith)
+        (omega arith))
 
     pub queue-same : queue (withQueue s l q) l ≡ q
     unfolding queueIn
     queue-same = rw (words-same, marks-same) (slots-apart q)
 
     module _ (k : ℕ) (h : k ≢ l) (f : queueLen s k ≤ room) where
-      pub marks-other : marksIn (withQueue s l q .marks) (withQueue s l q .lengths) k ≡ marksIn (s .marks) (s .lengths) k
+      pub marks-other : marksIn (withQueue s l q .marks) (withQueue s l q .lengths) k
+          ≡ marksIn (s .marks) (s .lengths) k
       unfolding marksIn withQueue
       marks-other =
           let a = length-marks q in
@@ -134,7 +139,8 @@ module _ (s : State) (z : Sized s) (t : ℕ) (low : t < mostThreads) (n : buffer
         rw e (part-put-same blankWaiting (t * mostInstructions) (bufferLen s t) b (s .buffers) mostInstructions
         n m (omega arith))
 
-    pub buffer-other : (k : ℕ) → k ≢ t → bufferLen s k ≤ mostInstructions → buffer (withBuffer s t b) k ≡ buffer s k
+    pub buffer-other : (k : ℕ) → k ≢ t → bufferLen s k ≤ mostInstructions
+        → buffer (withBuffer s t b) k ≡ buffer s k
     unfolding bufferIn withBuffer
     buffer-other k h f =
         let e : getD (set (s .waiting) t (length b)) k 0 ≡ bufferLen s k = bufferLen-other k h in

@@ -44,7 +44,8 @@ weigh-without (w ∷ b) (suc i) d h =
     rw add-one
     (let r = rw add-one at (weigh-without b i d (omega arith)) in omega arith)
 
-weigh-cons : (x : Instruction) (xs : List Instruction) → weighCode (x ∷ xs) ≡ unissuedWeight (x .operation) + weighCode xs
+weigh-cons : (x : Instruction) (xs : List Instruction)
+    → weighCode (x ∷ xs) ≡ unissuedWeight (x .operation) + weighCode xs
 unfolding weighCode
 weigh-cons x xs = refl
 
@@ -79,7 +80,8 @@ module _ (p : Program) (s : State) (f : Fits p s) where
     work-buffer =
         let n = buffer-within p s f t low in
         let c = sum-change mostThreads t (threadWork p (withBuffer s t b)) (threadWork p s) low other in
-        let e : threadWork p (withBuffer s t b) t + weighBuffer (buffer s t) ≡ threadWork p s t + weighBuffer b = here in
+        let e : threadWork p (withBuffer s t b) t + weighBuffer (buffer s t) ≡ threadWork p s t + weighBuffer b
+        = here in
         let q : sumTo mostLocations (queueLen (withBuffer s t b)) ≡ sumTo mostLocations (queueLen s)
         = unfold withBuffer in refl in
         omega arith
@@ -89,7 +91,11 @@ module _ (p : Program) (s : State) (f : Fits p s) where
 
         other : (k : ℕ) → k < mostThreads → k ≢ t → threadWork p (withBuffer s t b) k ≡ threadWork p s k
         other k a e = unfold threadWork in
-            rw (code k, buffer-other s (f .sized) t low (buffer-within p s f t low) b m k e (buffer-within p s f k a))
+            rw (
+              code k,
+              buffer-other s (f .sized) t low (buffer-within p s f t low) b m k e
+                  (buffer-within p s f k a),
+            )
 
         here : threadWork p (withBuffer s t b) t + weighBuffer (buffer s t) ≡ threadWork p s t + weighBuffer b
         here = unfold threadWork in
@@ -109,7 +115,8 @@ module _ (p : Program) (s : State) (f : Fits p s) where
       omega arith
 
   pub work-without : (t i : ℕ) (d : Waiting) → t < mostThreads → i < bufferLen s t
-      → work p (withBuffer s t (without i (buffer s t))) + waitingWeight (getD (buffer s t) i d .entry) ≡ work p s
+      → work p (withBuffer s t (without i (buffer s t))) + waitingWeight (getD (buffer s t) i d .entry)
+      ≡ work p s
   work-without t i d low there =
       let n = buffer-length s (f .sized) t low (buffer-within p s f t low) in
       let k = length-without i (buffer s t) (omega arith) in
@@ -132,11 +139,19 @@ module _ (p : Program) (s : State) (f : Fits p s) where
         let u : unissued p s t ≡ countAt p t - issuedOf s t = unfold unissued in refl in
         let v = unissued-same p s f t low left in
         let e = issued-same s (f .sized) t (issuedOf s t + 1) in-range in
-        let at : t * mostInstructions + issuedOf s t + 1 ≡ t * mostInstructions + (issuedOf s t + 1) = omega arith in
+        let at : t * mostInstructions + issuedOf s t + 1 ≡ t * mostInstructions + (issuedOf s t + 1)
+        = omega arith in
         let one : unissued p s t - 1 ≡ unissued p (withIssued s t (issuedOf s t + 1)) t = omega arith in
         part-next (t * mostInstructions + issuedOf s t) (unissued p s t) 0 (p .code) noInstruction
         (omega arith) (omega arith)
-        ∙ rw (add-zero, drop-part 1 (t * mostInstructions + issuedOf s t) (unissued p s t) (p .code), e, at, one)
+        ∙ rw (
+          add-zero,
+          drop-part 1 (t * mostInstructions + issuedOf s t) (unissued p s t)
+              (p .code),
+          e,
+          at,
+          one,
+        )
 
     other-work : (k : ℕ) → k < mostThreads → k ≢ t
         → threadWork p (withIssued s t (issuedOf s t + 1)) k ≡ threadWork p s k
@@ -160,10 +175,12 @@ module _ (p : Program) (s : State) (f : Fits p s) where
         + unissuedWeight (instructionAt p t (issuedOf s t) .operation) ≡ work p s
     unfolding work
     work-counted =
-        let c = sum-change mostThreads t (threadWork p (withIssued s t (issuedOf s t + 1))) (threadWork p s) in-range
+        let c = sum-change mostThreads t (threadWork p (withIssued s t (issuedOf s t + 1)))
+        (threadWork p s) in-range
         other-work in
         let e = here-work in
-        let q : sumTo mostLocations (queueLen (withIssued s t (issuedOf s t + 1))) ≡ sumTo mostLocations (queueLen s)
+        let q : sumTo mostLocations (queueLen (withIssued s t (issuedOf s t + 1)))
+        ≡ sumTo mostLocations (queueLen s)
         = unfold withIssued in refl in
         omega arith
 

@@ -1,5 +1,5 @@
--- Document 01, refusal 33: "a machine state in memory that doesn't fit its case". The test is the one truth; the
--- record of facts is what proofs use of it (fits-is and is-fits in proofs/FitLaws.antt tie the two).
+-- Document 01, refusal 33: "a machine state in memory that doesn't fit its case". The test is the one truth;
+-- the record of facts is what proofs use of it (`fits-exactly` in proofs/Promises.antt ties the two).
 --   misfits p s      the test: 33 where it is true
 --   Fits p s         the facts: the program's numbers are in range, and the state fits it
 -- Assumes nothing.

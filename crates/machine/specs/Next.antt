@@ -1,5 +1,5 @@
--- Document 01, "Work left and the walk": "next steps in the order issue by thread, move by thread then position,
--- persist by location".
+-- Document 01, "Work left and the walk": "next steps in the order issue by thread, move by thread then
+-- position, persist by location".
 --   candidates p     every step that such a program can have, in that order
 --   legalSteps p s   those that are legal in s
 --   nextSteps p s    the same as an array with its count

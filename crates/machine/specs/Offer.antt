@@ -1,4 +1,5 @@
--- How the list of next steps is made, a step more at a time; Next says what it holds, and doesn't use this page.
+-- How the list of next steps is made, a step more at a time; Next says what it holds, and doesn't use this
+-- page.
 --   offered rule k n       the list n, with the step k behind it where no rule stands against it
 --   offeredAll rule ks n   the same for each of the steps ks
 --   ..RuleAt               the rule of a step, over the parts of the state that it looks at

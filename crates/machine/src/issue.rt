@@ -50,7 +50,8 @@ fn barrier_rule<'a>(
     t: Thread,
 ) -> u8
     requires { ⌜ (t .0 < mostThreads) × Shallow (now lengths) × (length (now marks) ≡ mostSlots) ⌝ }
-    ensures { λ r. ⌜ r ≡ barrierRule (now (waiting .entry)) (now (marks .entry)) (now (lengths .entry)) (t .0) ⌝ }
+    ensures { λ r. ⌜ r
+        ≡ barrierRule (now (waiting .entry)) (now (marks .entry)) (now (lengths .entry)) (t .0) ⌝ }
 {
     if 0 < waiting[t.0 as usize] {
         return 22;
@@ -69,7 +70,8 @@ fn operation_rule<'a>(
     t: Thread,
 ) -> u8
     requires { ⌜ (t .0 < mostThreads) × Shallow (now lengths) × (length (now marks) ≡ mostSlots) ⌝ }
-    ensures { λ r. ⌜ r ≡ operationRule op (now (waiting .entry)) (now (marks .entry)) (now (lengths .entry)) (t .0) ⌝ }
+    ensures { λ r. ⌜ r
+        ≡ operationRule op (now (waiting .entry)) (now (marks .entry)) (now (lengths .entry)) (t .0) ⌝ }
 {
     if is_barrier(op) {
         return barrier_rule(waiting, marks, lengths, t);
@@ -88,7 +90,9 @@ pub(crate) fn issue_rule<'a>(
 ) -> u8
     requires { ⌜ (t .0 < mostThreads) × (countAt p (t .0) ≤ mostInstructions) × Shallow (now lengths)
         × (length (now marks) ≡ mostSlots) ⌝ }
-    ensures { λ r. ⌜ r ≡ issueRule p (now (issued .entry)) (now (waiting .entry)) (now (marks .entry)) (now (lengths .entry)) (t .0) ⌝ }
+    ensures { λ r. ⌜ r
+        ≡ issueRule p (now (issued .entry)) (now (waiting .entry)) (now (marks .entry)) (now (lengths .entry))
+        (t .0) ⌝ }
 {
     let q = p;
     let at = t.0 as usize;
@@ -184,7 +188,8 @@ fn perform(s: State, t: Thread, x: Instruction) -> State
 
 // A thread's next instruction issued, where no rule stands against it.
 pub(crate) fn issue(p: Program, s: State, t: Thread) -> State
-    requires { ⌜ (t .0 < mostThreads) × (issuedOf s (t .0) < mostInstructions) × (bufferLen s (t .0) < mostInstructions)
+    requires { ⌜ (t .0 < mostThreads) × (issuedOf s (t .0) < mostInstructions)
+        × (bufferLen s (t .0) < mostInstructions)
         × (instructionAt p (t .0) (issuedOf s (t .0)) .location .0 < mostLocations)
         × (instructionAt p (t .0) (issuedOf s (t .0)) .register .0 < mostRegisters)
         × (queueLen s (instructionAt p (t .0) (issuedOf s (t .0)) .location .0) < room) ⌝ }

@@ -51,7 +51,8 @@ pub(crate) fn newest_write<'a>(
 ) -> u32
     requires { ⌜ (l .0 < mostLocations) × (getD (now lengths) (l .0) 0 ≤ room)
         × (length (now held) ≡ mostSlots) × (length (now marks) ≡ mostSlots) ⌝ }
-    ensures { λ r. ⌜ r ≡ newestIn (queueIn (now (held .entry)) (now (marks .entry)) (now (lengths .entry)) (l .0)) other ⌝ }
+    ensures { λ r. ⌜ r
+        ≡ newestIn (queueIn (now (held .entry)) (now (marks .entry)) (now (lengths .entry)) (l .0)) other ⌝ }
 {
     let base = (l.0 as usize) * ROOM;
     let n = lengths[l.0 as usize] as usize;
@@ -148,8 +149,8 @@ fn is_bar(w: Waiting, l: Location) -> bool
     }
 }
 
-// The place of the first of a buffer's first i entries that keeps a flush-opt of the location behind it; i where
-// none does.
+// The place of the first of a buffer's first i entries that keeps a flush-opt of the location behind it; i
+// where none does.
 pub(crate) fn first_bar<'a>(
     buffers: [Waiting; CODE],
     waiting: &'a [u8; THREADS],
@@ -157,7 +158,8 @@ pub(crate) fn first_bar<'a>(
     i: u8,
     l: Location,
 ) -> u8
-    requires { ⌜ (t .0 < mostThreads) × (i ≤ getD (now waiting) (t .0) 0) × (getD (now waiting) (t .0) 0 ≤ mostInstructions) ⌝ }
+    requires { ⌜ (t .0 < mostThreads) × (i ≤ getD (now waiting) (t .0) 0)
+        × (getD (now waiting) (t .0) 0 ≤ mostInstructions) ⌝ }
     ensures { λ r. ⌜ r ≡ firstBar (l .0) (take i (bufferIn buffers (now (waiting .entry)) (t .0))) ⌝ }
 {
     let b = buffers;

@@ -58,7 +58,8 @@ fn pass_rule<'a>(
     i: u8,
     e: Entry,
 ) -> u8
-    requires { ⌜ (t .0 < mostThreads) × (i ≤ getD (now waiting) (t .0) 0) × (getD (now waiting) (t .0) 0 ≤ mostInstructions) ⌝ }
+    requires { ⌜ (t .0 < mostThreads) × (i ≤ getD (now waiting) (t .0) 0)
+        × (getD (now waiting) (t .0) 0 ≤ mostInstructions) ⌝ }
     ensures { λ r. ⌜ r ≡ passRule (bufferIn buffers (now (waiting .entry)) (t .0)) i e ⌝ }
 {
     match e {
@@ -87,7 +88,8 @@ pub(crate) fn move_rule<'a>(
     requires { ⌜ (t .0 < mostThreads) × (getD (now waiting) (t .0) 0 ≤ mostInstructions)
         × Named mostLocations (entryAt (bufferIn buffers (now waiting) (t .0)) 0) × Shallow (now lengths)
         × (length (now marks) ≡ mostSlots) ⌝ }
-    ensures { λ r. ⌜ r ≡ moveRule buffers (now (waiting .entry)) (now (marks .entry)) (now (lengths .entry)) (t .0) i ⌝ }
+    ensures { λ r. ⌜ r
+        ≡ moveRule buffers (now (waiting .entry)) (now (marks .entry)) (now (lengths .entry)) (t .0) i ⌝ }
 {
     let b = buffers;
     let at = t.0 as usize;

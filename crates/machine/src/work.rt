@@ -12,9 +12,9 @@ use cases::sizes::INSTRUCTIONS;
 use cases::sizes::LOCATIONS;
 use cases::sizes::THREADS;
 ghost use mathlib.Core.Path.{_≡_};
-ghost use Prim.Native.Nat.{ℕ, _+_, _<_, _≤_};
+ghost use Prim.Native.Nat.{ℕ, _+_, _*_, _<_, _≤_};
 ghost use lib.ListN.{getD};
-ghost use Rattle.cases.specs.Sizes.{mostThreads, mostInstructions, mostLocations};
+ghost use Rattle.cases.specs.Sizes.{mostThreads, mostInstructions, mostLocations, mostCode};
 ghost use Rattle.machine.specs.View.{bufferIn, bufferLen, queueLen, issuedOf};
 ghost use Rattle.machine.specs.Rules.{countAt};
 ghost use Rattle.machine.specs.Fit.{sumTo, Fits};
@@ -100,8 +100,9 @@ fn waiting_weight(w: Waiting) -> usize
 }
 
 fn weigh_code(p: Program, s: State, t: Thread) -> usize
-    requires { ⌜ (t .0 < mostThreads) × (issuedOf s (t .0) ≤ countAt p (t .0)) × (countAt p (t .0) ≤ mostInstructions) ⌝ }
-    ensures { λ r. ⌜ (r ≡ weighCode (codeLeft p s (t .0))) × (r ≤ 24) ⌝ }
+    requires { ⌜ (t .0 < mostThreads) × (issuedOf s (t .0) ≤ countAt p (t .0))
+        × (countAt p (t .0) ≤ mostInstructions) ⌝ }
+    ensures { λ r. ⌜ (r ≡ weighCode (codeLeft p s (t .0))) × (r ≤ 3 * mostInstructions) ⌝ }
 {
     let q = p;
     let u = s;
@@ -119,7 +120,8 @@ fn weigh_code(p: Program, s: State, t: Thread) -> usize
 
 fn weigh_buffer<'a>(buffers: [Waiting; CODE], waiting: &'a [u8; THREADS], t: Thread) -> usize
     requires { ⌜ (t .0 < mostThreads) × (getD (now waiting) (t .0) 0 ≤ mostInstructions) ⌝ }
-    ensures { λ r. ⌜ (r ≡ weighBuffer (bufferIn buffers (now (waiting .entry)) (t .0))) × (r ≤ 16) ⌝ }
+    ensures { λ r. ⌜ (r ≡ weighBuffer (bufferIn buffers (now (waiting .entry)) (t .0)))
+        × (r ≤ 2 * mostInstructions) ⌝ }
 {
     let b = buffers;
     let at = t.0 as usize;
@@ -136,7 +138,7 @@ fn weigh_buffer<'a>(buffers: [Waiting; CODE], waiting: &'a [u8; THREADS], t: Thr
 
 fn threads_work(p: Program, s: State) -> usize
     requires { ⌜ Fits p s ⌝ }
-    ensures { λ r. ⌜ (r ≡ sumTo mostThreads (threadWork p s)) × (r ≤ 160) ⌝ }
+    ensures { λ r. ⌜ (r ≡ sumTo mostThreads (threadWork p s)) × (r ≤ 5 * mostCode) ⌝ }
 {
     let u = s;
     let mut total: usize = 0;
@@ -150,7 +152,7 @@ fn threads_work(p: Program, s: State) -> usize
 }
 
 fn queues_work(s: State) -> usize
-    ensures { λ r. ⌜ (r ≡ sumTo mostLocations (queueLen s)) × (r ≤ 2048) ⌝ }
+    ensures { λ r. ⌜ (r ≡ sumTo mostLocations (queueLen s)) × (r ≤ mostLocations * 256) ⌝ }
 {
     let u = s;
     let mut total: usize = 0;

@@ -1,9 +1,7 @@
 -- `load` meets its contract. Assumes nothing.
-use mathlib.Core.Path.{refl}
-use Rattle.machine.specs.View.{withRegister}
-use Rattle.machine.specs.Look.{queuedWord, loadOf}
-use Rattle.machine.specs.Rules.{loaded}
 use borrow.Author.Needs.{needs}
+use Rattle.machine.specs.View.{withRegister}
+use Rattle.machine.proofs.IssueLaws.{load-is}
 use Rattle.machine.proofs.issue.load.Statement.{statement}
 use Rattle.machine.proofs.issue.load.Tie as tie
 
@@ -41,13 +39,10 @@ element-write-u : tie.Need-element-write-u
 element-write-u c = search needs
 
 returns : tie.Need-returns
-unfolding loaded withRegister loadOf queuedWord
+unfolding withRegister
 returns c =
-    rw (
-      c .before .before .newest-store .ensures,
-      c .before .before .before .before .before .before .newest-write .ensures,
-    )
-    refl
+    load-is _ _ _ _ _ (c .before .before .before .before .before .before .newest-write .ensures)
+    (c .before .before .newest-store .ensures)
 
 pub load-spec : {M : Type 1} → statement M
 load-spec =

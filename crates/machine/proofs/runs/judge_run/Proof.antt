@@ -38,7 +38,8 @@ rule-requires c κs = let o = c .before .before .loop .inv in (o .fit, o .faultl
 returns : tie.Need-returns Inv-loop μ-loop
 unfolding judgeRun judged
 returns c =
-    judging-here (c .before .before .before .before .loop .inv) (omega arith) _ (c .before .rule .ensures) (c .if1 .taken)
+    judging-here (c .before .before .before .before .loop .inv) (omega arith) _ (c .before .rule .ensures)
+    (c .if1 .taken)
 
 take-step-requires : tie.Need-take-step-requires Inv-loop μ-loop
 take-step-requires c κs =

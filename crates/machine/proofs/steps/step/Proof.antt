@@ -41,7 +41,8 @@ returns-2 c = search choices
 step-in-requires : tie.Need-step-in-requires
 step-in-requires c κs =
     let o = c .before .before .before in
-    readable-fits _ (told-true _ _ (o .before .reads-back .ensures) (o .if1 .left)) _ (sized (o .before .before))
+    readable-fits _ (told-true _ _ (o .before .reads-back .ensures) (o .if1 .left)) _
+    (sized (o .before .before))
     (told _ _ _ (c .before .is-misfit .ensures) (c .if2 .left))
 
 returns-3 : tie.Need-returns-3

@@ -23,14 +23,19 @@ returns-2 c =
 
 take-step-requires : tie.Need-take-step-requires
 take-step-requires c κs =
-    let e = c .before .before in
-    (e .before .before .pre, sym (e .before .step-fault .ensures) ∙ e .if1 .left, sym (c .before .rule .ensures) ∙ c .if2 .left)
+    let e = c .before .before in (
+      e .before .before .pre,
+      sym (e .before .step-fault .ensures) ∙ e .if1 .left,
+      sym
+          (c .before .rule .ensures) ∙ c .if2 .left,
+    )
 
 returns-3 : tie.Need-returns-3
 unfolding steppedOf told
 returns-3 c =
     let e = c .before .before .before in
-    rw (c .take-step .ensures, ← c .before .before .rule .ensures, ← e .before .step-fault .ensures) (search choices)
+    rw (c .take-step .ensures, ← c .before .before .rule .ensures, ← e .before .step-fault .ensures)
+    (search choices)
 
 pub step-in-spec : {M : Type 1} → statement M
 step-in-spec =

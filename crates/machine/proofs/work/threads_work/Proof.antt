@@ -1,7 +1,7 @@
 -- `threads_work` meets its contract. Assumes nothing.
-use Prim.Native.Nat.{_-_}
+use Prim.Native.Nat.{_-_, _*_}
 use native.Mathlib.Omega.{arith}
-use Rattle.cases.specs.Sizes.{mostThreads}
+use Rattle.cases.specs.Sizes.{mostThreads, mostInstructions}
 use Rattle.machine.specs.Work.{threadWork}
 use Rattle.machine.proofs.KeepLaws.{buffer-within}
 use Rattle.machine.proofs.CheckLaws.{SummedSoFar, sum-start, sum-next, sum-end}
@@ -9,9 +9,9 @@ use borrow.Author.Needs.{needs}
 use Rattle.machine.proofs.work.threads_work.Statement.{statement}
 use Rattle.machine.proofs.work.threads_work.Tie as tie
 
--- the total is the work of the first t threads, each at most 40
+-- the total is the work of the first t threads, each at most 3 an instruction and 2 an entry
 abbrev Inv-loop : tie.InvT-loop
-Inv-loop p s u total₀ t₀ total t = SummedSoFar (threadWork p s) mostThreads 40 total t
+Inv-loop p s u total₀ t₀ total t = SummedSoFar (threadWork p s) mostThreads (5 * mostInstructions) total t
 
 abbrev μ-loop : tie.MeasureT-loop
 μ-loop p s u total₀ t₀ total t = mostThreads - t

@@ -1,0 +1,139 @@
+-- Issue: what an instruction does keeps the fit, and lowers the work left by one. Assumes nothing.
+use Prim.Native.Nat.{ℕ, zero, suc, _+_, _≤_, _<_}
+use mathlib.Core.Path.{_≡_, refl, _∙_}
+use native.Mathlib.Omega.{arith}
+use borrow.Author.Tests.{leb-false}
+use Rattle.cases.specs.declared.case.Location.{Location}
+use Rattle.cases.specs.declared.case.Register.{Register}
+use Rattle.cases.specs.declared.case.Instruction.{Instruction}
+use Rattle.cases.specs.declared.case.Program.{Program}
+use Rattle.cases.specs.Choice.{pick}
+use Rattle.cases.specs.Ranges.{InstructionFits}
+use Rattle.cases.proofs.ChoiceLaws.{refuse-none}
+use Rattle.machine.specs.declared.cells.State.{State}
+use Rattle.machine.specs.declared.cells.Entry.the-variants.{Flush, FlushOpt, Sfence}
+use Rattle.machine.specs.Sizes.{room}
+use Rattle.machine.specs.View.{writeSlot, queue, queueLen, withQueue}
+use Rattle.machine.specs.View.{buffer, withBuffer, wordOf}
+use Rattle.machine.specs.View.{withRegister, issuedOf, withIssued}
+use Rattle.machine.specs.Look.{newestIn, newestStore, queuedWord, loadOf}
+use Rattle.machine.specs.Rules.{countAt, instructionAt, issueRule, entryOf, loaded, exchanged, performed}
+use Rattle.machine.specs.Rules.{issueOf}
+use Rattle.machine.specs.Rules.{enqueue, await}
+use Rattle.machine.specs.Fit.{Fits, Named}
+use Rattle.machine.specs.Work.{unissuedWeight, waitingWeight, work}
+use Rattle.machine.proofs.KeepLaws.{fits-register}
+use Rattle.machine.proofs.SpareLaws.{Spare, counted-spare}
+use Rattle.machine.proofs.SpareLaws.{await-fits, enqueue-fits, register-spare}
+use Rattle.machine.proofs.WorkLaws.{work-enqueue, work-await, work-counted}
+use Rattle.machine.proofs.WorkLaws.{work-register}
+
+-- an operation is one of eight
+each-operation {ℓ} : (P : ℕ → Type ℓ) → P 1 → P 2 → P 3 → P 4 → P 5 → P 6 → P 7 → P 8
+    → (op : ℕ) → 1 ≤ op → op ≤ 8 → P op
+each-operation P a b c d e f g i zero h k = absurd (omega arith)
+each-operation P a b c d e f g i (suc zero) h k = a
+each-operation P a b c d e f g i (suc (suc zero)) h k = b
+each-operation P a b c d e f g i (suc (suc (suc zero))) h k = c
+each-operation P a b c d e f g i (suc (suc (suc (suc zero)))) h k = d
+each-operation P a b c d e f g i (suc (suc (suc (suc (suc zero))))) h k = e
+each-operation P a b c d e f g i (suc (suc (suc (suc (suc (suc zero)))))) h k = f
+each-operation P a b c d e f g i (suc (suc (suc (suc (suc (suc (suc zero))))))) h k = g
+each-operation P a b c d e f g i (suc (suc (suc (suc (suc (suc (suc (suc zero)))))))) h k = i
+each-operation P a b c d e f g i (suc (suc (suc (suc (suc (suc (suc (suc (suc n))))))))) h k = absurd
+    (omega arith)
+
+-- an instruction of the operation op
+abbrev of : ℕ → Location → Register → ℕ → Instruction
+of op l r w = record { operation = op; location = l; register = r; word = w }
+
+-- What an instruction does, where it is counted already
+module _ (p : Program) (s : State) (t : ℕ) (o : Spare p s t) (low : t < p .threads)
+    (l : Location) (r : Register) (w : ℕ) (there : l .0 < p .locations) where
+  performed-fits : (op : ℕ) → 1 ≤ op → op ≤ 8 → Fits p (performed s t (of op l r w))
+  unfolding performed pick entryOf Named loaded exchanged
+  performed-fits =
+      each-operation (λ op. Fits p (performed s t (of op l r w)))
+      (await-fits p s t o low _ there)
+      (await-fits p s t o low _ there)
+      (fits-register p s (o .fit) t _ _)
+      (enqueue-fits p _ t (register-spare p s t o _ _) (l .0) there (writeSlot w) (omega arith))
+      (await-fits p s t o low (Flush l) there)
+      (await-fits p s t o low (FlushOpt l) there)
+      (await-fits p s t o low Sfence tt)
+      (o .fit)
+
+  performed-work : (op : ℕ) → 1 ≤ op → op ≤ 8
+      → work p (performed s t (of op l r w)) + 1 ≡ work p s + unissuedWeight op
+  unfolding performed pick entryOf loaded exchanged unissuedWeight waitingWeight
+  performed-work =
+      let z = o .fit .program .few-threads in
+      let y = o .fit .program .few-locations in
+      let b = o .place in
+      let q = o .queues (l .0) (omega arith) in
+      let v = queuedWord s (l .0) in
+      let x = work-register p s (o .fit) t (r .0) v in
+      let f = register-spare p s t o (r .0) v in
+      let n : queueLen (withRegister s t (r .0) v) (l .0) < room = unfold withRegister in omega arith in
+      let e = work-enqueue p (withRegister s t (r .0) v) (f .fit) (l .0) (omega arith) n (writeSlot w) in
+      each-operation (λ op. work p (performed s t (of op l r w)) + 1 ≡ work p s + unissuedWeight op)
+      (rw (work-await p s (o .fit) t (omega arith) (omega arith)) (omega arith))
+      (rw (work-await p s (o .fit) t (omega arith) (omega arith)) (omega arith))
+      (rw (work-register p s (o .fit) t (r .0)) (omega arith))
+      (omega arith)
+      (rw (work-await p s (o .fit) t (omega arith) (omega arith)) (omega arith))
+      (rw (work-await p s (o .fit) t (omega arith) (omega arith)) (omega arith))
+      (rw (work-await p s (o .fit) t (omega arith) (omega arith)) (omega arith))
+      refl
+
+-- counting an instruction as issued before or after what it does is the same
+counted-first : (s : State) (t n : ℕ) (l : Location) (r : Register) (w : ℕ) (op : ℕ) → 1 ≤ op → op ≤ 8
+    → withIssued (performed s t (of op l r w)) t n ≡ performed (withIssued s t n) t (of op l r w)
+unfolding performed pick entryOf loaded exchanged loadOf queuedWord await enqueue withIssued withRegister
+    withBuffer withQueue
+counted-first s t n l r w =
+    each-operation
+    (λ op. withIssued (performed s t (of op l r w)) t n ≡ performed (withIssued s t n) t (of op l r w))
+    refl refl refl refl refl refl refl refl
+
+-- Issue
+module _ (p : Program) (s : State) (f : Fits p s) (t : ℕ)
+    (legal : issueRule p (s .issued) (s .waiting) (s .marks) (s .lengths) t ≡ 0) where
+  pub issue-left : issuedOf s t < countAt p t
+  unfolding issueRule
+  issue-left = leb-false _ _ (refuse-none _ 20 _ legal .0)
+
+  abbrev next : Instruction
+  next = instructionAt p t (issuedOf s t)
+
+  there : (t < p .threads) × InstructionFits p next
+  there = f .program .instructions t (issuedOf s t) issue-left
+
+  issue-is : issueOf p s t ≡ performed (withIssued s t (issuedOf s t + 1)) t next
+  unfolding issueOf
+  issue-is =
+      counted-first s t (issuedOf s t + 1) (next .location) (next .register) (next .word) (next .operation)
+      (there .1 .some-operation) (there .1 .low-operation)
+
+  pub issue-fits : Fits p (issueOf p s t)
+  issue-fits =
+      rw issue-is
+      (performed-fits p (withIssued s t (issuedOf s t + 1)) t (counted-spare p s f t (there .0) issue-left)
+      (there .0) (next .location) (next .register) (next .word) (there .1 .low-location) (next .operation)
+      (there .1 .some-operation) (there .1 .low-operation))
+
+  pub issue-work : work p (issueOf p s t) + 1 ≡ work p s
+  issue-work =
+      let a = performed-work p (withIssued s t (issuedOf s t + 1)) t
+      (counted-spare p s f t (there .0) issue-left)
+      (there .0) (next .location) (next .register) (next .word) (there .1 .low-location) (next .operation)
+      (there .1 .some-operation) (there .1 .low-operation) in
+      rw issue-is (a ∙ work-counted p s f t (there .0) issue-left)
+
+-- what a load's register takes, from the queue's word and then the buffer's
+pub load-is : (s : State) (t : ℕ) (x : Instruction) (queued found : ℕ)
+    → queued ≡ newestIn (queue s (x .location .0)) (wordOf s (x .location .0))
+    → found ≡ newestStore (x .location .0) (buffer s t) queued
+    → withRegister s t (x .register .0) found ≡ loaded s t x
+unfolding loaded loadOf queuedWord
+load-is s t x queued found e f = rw (f, e)
