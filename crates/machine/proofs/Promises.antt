@@ -26,12 +26,14 @@ use Rattle.machine.specs.declared.runs.Verdict.the-variants.{Legal, Ille
 use Rattle.machine.specs.Rules.{ruleOf, nextOf, startOf}
 use Rattle.machine.specs.Fit.{misfits, Sized, ProgramFits, Fits}
 use Rattle.machine.specs.Work.{work, fullLength, cost}
-use Rattle.machine.specs.Judge.{Leads, StopsAt, rulingNo, told, steppedOf, stepOf, judgeFrom, runOf}
+use Rattle.machine.specs.Judge.{Leads, Faultless, StopsAt, rulingNo, told, steppedOf, stepOf}
+use Rattle.machine.specs.Judge.{judgeFrom, runOf}
 use Rattle.machine.specs.Judge.{judgeRun, stopped, judgeOf, judgeBytes}
 use Rattle.machine.specs.Next.{legalSteps, listed, nextSteps, Rising, Listed}
 use Rattle.machine.proofs.StartLaws as StartLaws
 use Rattle.machine.proofs.RangeLaws.{fault-none}
 use Rattle.machine.proofs.StepLaws as StepLaws
+use Rattle.machine.proofs.RunLaws as RunLaws
 use Rattle.machine.proofs.OrderLaws as OrderLaws
 use Rattle.machine.proofs.RuleLaws as RuleLaws
 use Rattle.machine.proofs.FitLaws as FitLaws
@@ -87,6 +89,19 @@ module _ (c : Case) (readable : readsBack c ≡ true) where
       → judgeOf c .state ≡ u
   judge-illegal-state i u h = rw judge-is (state-is _ _ _ _ u (says-illegal _ _ _ i u h))
 
+  -- a legal run of it ends in a state that fits, and has used up one of the full length for each of its steps
+  pub legal-run-fits : (u : State) → Leads (c .program) (startOf (c .program)) (runOf c) u → Fits (c .program) u
+  legal-run-fits u h =
+      RunLaws.leads-fits (c .program) _ (runOf c) u start-fits
+      (RunLaws.run-faultless c (readable-ranged c readable)) h
+
+  pub legal-run-work : (u : State) → Leads (c .program) (startOf (c .program)) (runOf c) u
+      → work (c .program) u + length (runOf c) ≡ fullLength (c .program)
+  unfolding fullLength
+  legal-run-work u h =
+      RunLaws.leads-work (c .program) _ (runOf c) u start-fits
+      (RunLaws.run-faultless c (readable-ranged c readable)) h
+
   -- a run is legal to its end, or stops at one step
   pub legal-or-not :
       ((u : State) × Leads (c .program) (startOf (c .program)) (runOf c) u)
@@ -125,6 +140,14 @@ module _ (p : Program) (s : State) (fit : Fits p s) where
     -- and uses up its cost of the work left, which is 1
     pub step-work : work p (nextOf p s k) + cost p s k ≡ work p s
     step-work = StepLaws.step-work p s fit k (fault-none p k faultless) legal
+
+  -- so does a run of them: the fit stays, and its length is used up
+  pub leads-fits : (ks : List Step) (u : State) → Faultless p ks → Leads p s ks u → Fits p u
+  leads-fits ks u = RunLaws.leads-fits p s ks u fit
+
+  pub leads-work : (ks : List Step) (u : State) → Faultless p ks → Leads p s ks u
+      → work p u + length ks ≡ work p s
+  leads-work ks u = RunLaws.leads-work p s ks u fit
 
   -- the list of next steps holds the legal ones, exactly, in 01's order, each once
   pub next-legal : (k : Step) →

@@ -1,8 +1,8 @@
 -- A run judged step by step: the loop's turns. Assumes nothing.
-use Prim.Native.Nat.{ℕ, suc, _+_, _≤_, _<_}
+use Prim.Native.Nat.{ℕ, zero, suc, _+_, _≤_, _<_}
 use mathlib.Core.Path.{_≡_, sym, ap, _∙_, subst}
 use mathlib.Core.Logic.{_≢_}
-use mathlib.Core.List.{List, _∷_}
+use mathlib.Core.List.{List, [], _∷_}
 use native.Mathlib.Omega.{arith}
 use native.Mathlib.Numerals.{add-one}
 use lib.ListN.{length, getD, take, drop}
@@ -20,11 +20,12 @@ use Rattle.machine.specs.declared.cells.State.{State}
 use Rattle.machine.specs.declared.runs.Verdict.the-variants.{Legal, Illegal}
 use Rattle.machine.specs.Rules.{ruleOf, nextOf, startOf}
 use Rattle.machine.specs.Fit.{Fits}
-use Rattle.machine.specs.Judge.{judged, judgeFrom}
+use Rattle.machine.specs.Work.{work}
+use Rattle.machine.specs.Judge.{Leads, Faultless, runOf, judged, judgeFrom}
 use Rattle.machine.proofs.PartLaws.{take-next, take-end}
 use Rattle.machine.proofs.StartLaws.{ranged-fits, start-fits}
 use Rattle.machine.proofs.RangeLaws.{fault-none}
-use Rattle.machine.proofs.StepLaws.{step-fits}
+use Rattle.machine.proofs.StepLaws.{step-fits, step-work}
 use Rattle.machine.proofs.JudgeLaws.{judge-next, judge-here}
 
 -- i of n steps are taken and lead from the start, s₀, to s: what is still to judge says what the whole run says
@@ -93,3 +94,38 @@ pub read-case : (s : List ℕ) (r : Reading) → r ≡ readOf s → (n : ℕ) �
 read-case s r e n a h =
     let z : numberOf (readOf s .answer) ≡ 0 = ap (λ (x : Reading). numberOf (x .answer)) (sym e) ∙ sym a ∙ h in
     subst (λ (x : Reading). Ranged (x .case)) (sym e) (read-ranged s z)
+
+-- A legal run keeps the fit and lowers the work left by its length
+module _ (p : Program) where
+  pub leads-fits : (s : State) (ks : List Step) (u : State) → Fits p s → Faultless p ks → Leads p s ks u
+      → Fits p u
+  unfolding Leads Faultless
+  leads-fits s [] u f r h = rw (sym h) f
+  leads-fits s (k ∷ ks) u f r h =
+      leads-fits (nextOf p s k) ks u (step-fits p s f k (fault-none p k (r .0)) (h .0)) (r .1) (h .1)
+
+  pub leads-work : (s : State) (ks : List Step) (u : State) → Fits p s → Faultless p ks → Leads p s ks u
+      → work p u + length ks ≡ work p s
+  unfolding Leads Faultless
+  leads-work s [] u f r h = rw (sym h) (omega arith)
+  leads-work s (k ∷ ks) u f r h =
+      let rest = leads-work (nextOf p s k) ks u (step-fits p s f k (fault-none p k (r .0)) (h .0)) (r .1)
+      (h .1) in
+      let one = step-work p s f k (fault-none p k (r .0)) (h .0) in
+      omega arith
+
+-- the run of a case that can be read is faultless
+front-faultless : (p : Program) (n : ℕ) (ks : List Step) → n ≤ length ks
+    → ((i : ℕ) → i < n → stepFault p (getD ks i noStep) ≡ 0)
+    → Faultless p (take n ks)
+unfolding Faultless
+front-faultless p zero ks h f = tt
+front-faultless p (suc n) [] h f = absurd (omega arith)
+front-faultless p (suc n) (k ∷ ks) h f =
+    (f 0 (omega arith), front-faultless p n ks (omega arith) (λ i l. f (suc i) (omega arith)))
+
+pub run-faultless : (c : Case) → Ranged c → Faultless (c .program) (runOf c)
+run-faultless c r =
+    let few = r .few-steps in
+    let long = r .steps-long in
+    front-faultless (c .program) (c .run .count) (c .run .steps) (omega arith) (r .steps)

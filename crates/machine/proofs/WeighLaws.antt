@@ -81,7 +81,8 @@ module _ {code : List Instruction} {t end first weight i : ℕ} (o : CodeSoFar c
       record { row = o .row; far = omega arith; light = omega arith; rest = omega arith }
 
   pub code-end : end ≤ i
-      → (weight ≡ weighCode (part (t * mostInstructions + first) (end - first) code)) × (weight ≤ 3 * mostInstructions)
+      → (weight ≡ weighCode (part (t * mostInstructions + first) (end - first) code)) ×
+      (weight ≤ 3 * mostInstructions)
   unfolding weighCode
   code-end h =
       let f = o .row .few in
@@ -134,7 +135,8 @@ module _ {buffers : List Waiting} {t n weight i : ℕ} (o : BufferSoFar buffers 
       let q = weigh-at h in
       record { row = o .row; far = omega arith; light = omega arith; rest = omega arith }
 
-  pub weigh-end : n ≤ i → (weight ≡ weighBuffer (part (t * mostInstructions) n buffers)) × (weight ≤ 2 * mostInstructions)
+  pub weigh-end : n ≤ i
+      → (weight ≡ weighBuffer (part (t * mostInstructions) n buffers)) × (weight ≤ 2 * mostInstructions)
   unfolding weighBuffer
   weigh-end h =
       let f = o .row .few in

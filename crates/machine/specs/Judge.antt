@@ -34,6 +34,11 @@ unfoldable pub Leads : Program → State → List Step → State → Type 0
 Leads p s [] u = s ≡ u
 Leads p s (k ∷ ks) u = (ruleOf p s k ≡ 0) × Leads p (nextOf p s k) ks u
 
+-- 5 and 8 have nothing against any of the steps
+unfoldable pub Faultless : Program → List Step → Type 0
+Faultless p [] = Unit {0}
+Faultless p (k ∷ ks) = (stepFault p k ≡ 0) × Faultless p ks
+
 -- the first n steps are legal and lead from s to u, and the step behind them breaks a rule there
 pub record StopsAt (p : Program) (s : State) (ks : List Step) (n : ℕ) (u : State) : Type 0 where
   pub within : n < length ks
