@@ -2,6 +2,7 @@
 use Rattle.machine.proofs.NextLaws.{next-made}
 use Rattle.machine.proofs.OfferLaws.{issues-room, moves-room, persists-room}
 use Rattle.machine.proofs.ReadyLaws.{shallow, movable}
+use native.Mathlib.Omega.{arith}
 use borrow.Author.Needs.{needs}
 use Rattle.machine.proofs.next.next_steps.Statement.{statement}
 use Rattle.machine.proofs.next.next_steps.Tie as tie
@@ -29,7 +30,9 @@ offer-persists-requires c κs =
     let n = i .before in
     let f = n .before .before .before .before .before .before .before .pre in
     let e = i .offer-issues .ensures in
-    (f .program .few-locations, persists-room _ _ f _ (n .no-steps .ensures) _ e _ (m .offer-moves .ensures))
+    let t = f .program .few-threads in
+    let l = f .program .few-locations in
+    (omega arith, persists-room _ _ f _ (n .no-steps .ensures) _ e _ (m .offer-moves .ensures))
 
 returns : tie.Need-returns
 returns c =
