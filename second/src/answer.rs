@@ -43,12 +43,16 @@ impl Answer {
         if self.lent.is_empty() {
             line.push('-');
         }
-        for byte in &self.lent {
-            for digit in [byte >> 4, byte & 15] {
-                line.push(char::from(b"0123456789abcdef"[usize::from(digit)]));
-            }
-        }
+        push_hex(&mut line, &self.lent);
         line.push('\n');
         line
+    }
+}
+
+pub fn push_hex(line: &mut String, bytes: &[u8]) {
+    for byte in bytes {
+        for digit in [byte >> 4, byte & 15] {
+            line.push(char::from(b"0123456789abcdef"[usize::from(digit)]));
+        }
     }
 }

@@ -3,6 +3,7 @@
 use crate::answer::{answer, Answer};
 use crate::frame::{Frame, FIELDS_END};
 use crate::marks::{mark_of, FAMILIES};
+use crate::tally::{self, row, Row};
 
 /// A sort of frames: its name, the least number of them, and how one is told.
 struct Sort {
@@ -142,39 +143,29 @@ impl Counts {
     }
 
     /// Every count with its name and its minimum.
-    fn rows(&self) -> Vec<(String, u64, u64)> {
+    fn rows(&self) -> Vec<Row> {
         let mut rows = Vec::new();
         for (number, &count) in self.read.iter().enumerate() {
-            rows.push((format!("read: {number}"), count, 500));
+            rows.push(row(&format!("read: {number}"), count, 500));
         }
         for (sort, &count) in SORTS.iter().zip(&self.sorts) {
-            rows.push((sort.name.to_string(), count, sort.least));
+            rows.push(row(sort.name, count, sort.least));
         }
         for (family, &count) in FAMILIES.iter().zip(&self.families) {
-            rows.push((family.name.to_string(), count, family.least));
+            rows.push(row(family.name, count, family.least));
         }
         let seen = self.lengths.iter().filter(|&&seen| seen).count() as u64;
-        let name = "input lengths 0 to 1,328 seen".to_string();
-        rows.push((name, seen, LENGTHS as u64));
+        rows.push(row("input lengths 0 to 1,328 seen", seen, LENGTHS as u64));
         rows
     }
 
     pub fn table(&self) -> String {
-        let mut table = format!("{:<34} {:>8} {:>8}\n", "frames", "count", "least");
-        for (name, count, least) in self.rows() {
-            table += &format!("{name:<34} {count:>8} {least:>8}\n");
-        }
-        table + &format!("{:<34} {:>8}\n", "all frames", self.frames)
+        tally::table(&self.rows(), self.frames)
     }
 
     /// Wrong answers and minima not met.
     pub fn faults(&self) -> Vec<String> {
-        let mut faults = self.faults.clone();
-        for (name, count, least) in self.rows() {
-            if count < least {
-                faults.push(format!("{name}: {count} frames, at least {least} wanted"));
-            }
-        }
-        faults
+        let missing = tally::missing(&self.rows());
+        [self.faults.clone(), missing].concat()
     }
 }

@@ -27,32 +27,47 @@ impl Frame {
 
     /// The next frame; none at the end of the stream.
     pub fn read_from(stream: &mut impl Read) -> io::Result<Option<Frame>> {
-        let mut head = [0; 16];
-        let got = read_fully(stream, &mut head)?;
-        if got == 0 {
-            return Ok(None);
-        }
-        let number =
-            |i: usize| u32::from_le_bytes([head[i], head[i + 1], head[i + 2], head[i + 3]]);
-        let (length, room) = (number(0), number(12));
-        if got < head.len() || length > MOST_INPUT || room > MOST_ROOM {
-            return Err(bad_frame());
-        }
-        let mut input = vec![0; length as usize];
-        if read_fully(stream, &mut input)? < input.len() {
+        let [length, field, value, room] = match read_head(stream)? {
+            Some(head) => head,
+            None => return Ok(None),
+        };
+        if length > MOST_INPUT || room > MOST_ROOM {
             return Err(bad_frame());
         }
         Ok(Some(Frame {
-            input,
-            field: number(4),
-            value: number(8),
+            input: read_part(stream, length as usize)?,
+            field,
+            value,
             room,
         }))
     }
 }
 
-fn bad_frame() -> io::Error {
-    io::Error::new(ErrorKind::InvalidData, "a frame is cut or too large")
+/// The four numbers in front of a frame; none at the end of the stream.
+pub fn read_head(stream: &mut impl Read) -> io::Result<Option<[u32; 4]>> {
+    let mut head = [0; 16];
+    let got = read_fully(stream, &mut head)?;
+    if got == 0 {
+        return Ok(None);
+    }
+    if got < head.len() {
+        return Err(bad_frame());
+    }
+    let number = |i: usize| u32::from_le_bytes([head[i], head[i + 1], head[i + 2], head[i + 3]]);
+    Ok(Some([number(0), number(4), number(8), number(12)]))
+}
+
+/// The next bytes of a frame, so many and no fewer.
+pub fn read_part(stream: &mut impl Read, length: usize) -> io::Result<Vec<u8>> {
+    let mut part = vec![0; length];
+    if read_fully(stream, &mut part)? < length {
+        return Err(bad_frame());
+    }
+    Ok(part)
+}
+
+pub fn bad_frame() -> io::Error {
+    io::Error::new(ErrorKind::InvalidData, "a frame is cut or out of bounds")
 }
 
 /// Fills the buffer as far as the stream goes.

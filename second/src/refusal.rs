@@ -11,6 +11,7 @@ pub const UNUSED_NOT_ZERO: u8 = 8;
 pub const NINETY_SEVENTH_STEP: u8 = 9;
 pub const BUFFER_TOO_SHORT: u8 = 31;
 pub const READS_FROM_NO_BYTES: u8 = 32;
+pub const STATE_DOES_NOT_FIT: u8 = 33;
 
 /// A check: the number when the condition does not hold.
 pub fn require(holds: bool, number: u8) -> Result<(), u8> {

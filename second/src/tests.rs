@@ -1,5 +1,8 @@
 //! Hand-made byte strings with their numbers, and what the frames must have in common.
 
+mod machine;
+mod states;
+
 use crate::answer::answer;
 use crate::case::Case;
 use crate::form::fits;

@@ -3,11 +3,11 @@
 mod boundaries;
 mod changes;
 mod damage;
-mod faults;
+pub mod faults;
 mod pairs;
-mod random;
-mod records;
-mod sketch;
+pub mod random;
+pub mod records;
+pub mod sketch;
 mod spoil;
 pub mod valid;
 
@@ -15,10 +15,11 @@ use crate::frame::Frame;
 use random::Random;
 use std::io;
 
-type Part = fn(&mut Random) -> Vec<Frame>;
+/// Some frames; what they are follows from the numbers drawn.
+pub type Part<F> = fn(&mut Random) -> Vec<F>;
 
 /// Made once, whatever the number of frames asked for.
-const ONCE: [Part; 12] = [
+const ONCE: [Part<Frame>; 12] = [
     valid::all,
     damage::truncated,
     damage::flipped,
@@ -34,19 +35,30 @@ const ONCE: [Part; 12] = [
 ];
 
 /// Made in turn until there are enough frames.
-const AGAIN: [Part; 4] = [valid::some, damage::some, faults::some, changes::some];
+const AGAIN: [Part<Frame>; 4] = [valid::some, damage::some, faults::some, changes::some];
 
 /// Hands out at least `count` frames, part by part.
 pub fn frames(
     seed: u64,
     count: u64,
-    mut take: impl FnMut(Vec<Frame>) -> io::Result<()>,
+    take: impl FnMut(Vec<Frame>) -> io::Result<()>,
+) -> io::Result<()> {
+    hand_out(&ONCE, &AGAIN, seed, count, take)
+}
+
+/// The parts made once, then the others in turn until there are enough frames.
+pub fn hand_out<F>(
+    once: &[Part<F>],
+    again: &[Part<F>],
+    seed: u64,
+    count: u64,
+    mut take: impl FnMut(Vec<F>) -> io::Result<()>,
 ) -> io::Result<()> {
     let mut random = Random::new(seed);
     let mut made = 0;
-    let parts = ONCE.iter().chain(AGAIN.iter().cycle());
+    let parts = once.iter().chain(again.iter().cycle());
     for (turn, part) in parts.enumerate() {
-        if turn >= ONCE.len() && made >= count {
+        if turn >= once.len() && made >= count {
             break;
         }
         let frames = part(&mut random);

@@ -35,6 +35,14 @@ impl Random {
         from[self.below(from.len())]
     }
 
+    /// None where there is nothing to pick from.
+    pub fn pick_some<T: Copy>(&mut self, from: &[T]) -> Option<T> {
+        if from.is_empty() {
+            return None;
+        }
+        Some(self.pick(from))
+    }
+
     /// A word, the telling ones often.
     pub fn word(&mut self) -> u32 {
         let any = self.next() as u32;

@@ -14,20 +14,20 @@ unread-requires c κs = search needs
 number-requires : tie.Need-number-requires
 number-requires c κs = search needs
 
-cast-print-number : tie.Need-cast-print-number
-cast-print-number c = search needs
+cast-number : tie.Need-cast-number
+cast-number c = search needs
 
-print-number-requires : tie.Need-print-number-requires
-print-number-requires c κs = search needs
+number-requires-2 : tie.Need-number-requires-2
+number-requires-2 c κs = search needs
 
 offset-requires : tie.Need-offset-requires
 offset-requires c κs = search needs
 
-print-number-requires-2 : tie.Need-print-number-requires-2
-print-number-requires-2 c κs = search needs
+number-requires-3 : tie.Need-number-requires-3
+number-requires-3 c κs = search needs
 
-print-number-requires-3 : tie.Need-print-number-requires-3
-print-number-requires-3 c κs = search needs
+number-requires-4 : tie.Need-number-requires-4
+number-requires-4 c κs = search needs
 
 changed-requires : tie.Need-changed-requires
 changed-requires c κs = search needs
@@ -44,17 +44,17 @@ write-requires c κs = search needs
 wrote-number-requires : tie.Need-wrote-number-requires
 wrote-number-requires c κs = search needs
 
-cast-print-number-2 : tie.Need-cast-print-number-2
-cast-print-number-2 c = search needs
+cast-number-2 : tie.Need-cast-number-2
+cast-number-2 c = search needs
 
-print-number-requires-4 : tie.Need-print-number-requires-4
-print-number-requires-4 c κs = search needs
+number-requires-5 : tie.Need-number-requires-5
+number-requires-5 c κs = search needs
 
 wrote-length-requires : tie.Need-wrote-length-requires
 wrote-length-requires c κs = search needs
 
-print-number-requires-5 : tie.Need-print-number-requires-5
-print-number-requires-5 c κs = search needs
+number-requires-6 : tie.Need-number-requires-6
+number-requires-6 c κs = search needs
 
 slice-aggregate-write-all : tie.Need-slice-aggregate-write-all
 slice-aggregate-write-all c = search needs
@@ -62,8 +62,8 @@ slice-aggregate-write-all c = search needs
 write-all-requires : tie.Need-write-all-requires
 write-all-requires c κs = search needs
 
-print-bytes-requires : tie.Need-print-bytes-requires
-print-bytes-requires c κs = search needs
+bytes-requires : tie.Need-bytes-requires
+bytes-requires c κs = search needs
 
 slice-aggregate-write-all-2 : tie.Need-slice-aggregate-write-all-2
 slice-aggregate-write-all-2 c = search needs
@@ -81,23 +81,23 @@ answer-spec =
     read-requires
     unread-requires
     number-requires
-    cast-print-number
-    print-number-requires
+    cast-number
+    number-requires-2
     offset-requires
-    print-number-requires-2
-    print-number-requires-3
+    number-requires-3
+    number-requires-4
     changed-requires
     array-borrow-prefix-lent
     slice-aggregate-write
     write-requires
     wrote-number-requires
-    cast-print-number-2
-    print-number-requires-4
+    cast-number-2
+    number-requires-5
     wrote-length-requires
-    print-number-requires-5
+    number-requires-6
     slice-aggregate-write-all
     write-all-requires
-    print-bytes-requires
+    bytes-requires
     slice-aggregate-write-all-2
     write-all-requires-2
     returns)

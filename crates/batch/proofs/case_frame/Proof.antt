@@ -1,18 +1,9 @@
--- `frame` is safe and ends. Assumes nothing.
+-- `case_frame` is safe and ends. Assumes nothing.
 use mathlib.Core.Path.{sym}
 use lib.Seq.{length-take-le}
 use borrow.Author.Needs.{needs}
-use Rattle.batch.proofs.frame.Statement.{statement}
-use Rattle.batch.proofs.frame.Tie as tie
-
-slice-aggregate-read-full : tie.Need-slice-aggregate-read-full
-slice-aggregate-read-full c = search needs
-
-read-full-requires : tie.Need-read-full-requires
-read-full-requires c κs = search needs
-
-returns : tie.Need-returns
-returns c = search needs
+use Rattle.batch.proofs.case_frame.Statement.{statement}
+use Rattle.batch.proofs.case_frame.Tie as tie
 
 number-at-requires : tie.Need-number-at-requires
 number-at-requires c κs = search needs
@@ -26,11 +17,11 @@ number-at-requires-2 c κs = search needs
 cast-room : tie.Need-cast-room
 cast-room c = search needs
 
+returns : tie.Need-returns
+returns c = search needs
+
 returns-2 : tie.Need-returns-2
 returns-2 c = search needs
-
-returns-3 : tie.Need-returns-3
-returns-3 c = search needs
 
 large-buffer-requires : tie.Need-large-buffer-requires
 large-buffer-requires c κs = search needs
@@ -38,14 +29,14 @@ large-buffer-requires c κs = search needs
 array-borrow-prefix-input : tie.Need-array-borrow-prefix-input
 array-borrow-prefix-input c = search needs
 
-slice-aggregate-read-full-2 : tie.Need-slice-aggregate-read-full-2
-slice-aggregate-read-full-2 c = sym (length-take-le _ _ (search needs))
+slice-aggregate-read-full : tie.Need-slice-aggregate-read-full
+slice-aggregate-read-full c = sym (length-take-le _ _ (search needs))
 
-read-full-requires-2 : tie.Need-read-full-requires-2
-read-full-requires-2 c κs = search needs
+read-full-requires : tie.Need-read-full-requires
+read-full-requires c κs = search needs
 
-returns-4 : tie.Need-returns-4
-returns-4 c = search needs
+returns-3 : tie.Need-returns-3
+returns-3 c = search needs
 
 number-at-requires-3 : tie.Need-number-at-requires-3
 number-at-requires-3 c κs = search needs
@@ -59,29 +50,26 @@ number-at-requires-4 c κs = search needs
 answer-first-requires : tie.Need-answer-first-requires
 answer-first-requires c κs = search needs
 
-returns-5 : tie.Need-returns-5
-returns-5 c = search needs
+returns-4 : tie.Need-returns-4
+returns-4 c = search needs
 
-pub frame-spec : {M : Type 1} → statement M
-frame-spec =
+pub case-frame-spec : {M : Type 1} → statement M
+case-frame-spec =
     tie.close
     (tie.spec
-    slice-aggregate-read-full
-    read-full-requires
-    returns
     number-at-requires
     cast-n
     number-at-requires-2
     cast-room
+    returns
     returns-2
-    returns-3
     large-buffer-requires
     array-borrow-prefix-input
-    slice-aggregate-read-full-2
-    read-full-requires-2
-    returns-4
+    slice-aggregate-read-full
+    read-full-requires
+    returns-3
     number-at-requires-3
     cast-answer-first
     number-at-requires-4
     answer-first-requires
-    returns-5)
+    returns-4)

@@ -1,17 +1,17 @@
--- `print_bytes` is safe and ends. The loop's invariant: the text keeps its length. Assumes nothing.
+-- `bytes` is safe and ends. The loop's invariant: the text keeps its length. Assumes nothing.
 use Prim.Native.Nat.{_≤_, _-_}
 use mathlib.Core.Path.{_≡_, sym}
 use lib.ListN.{length}
 use lib.Seq.{length-take-le}
 use borrow.Author.Needs.{needs}
-use Rattle.batch.proofs.print_bytes.Statement.{statement}
-use Rattle.batch.proofs.print_bytes.Tie as tie
+use Rattle.batch.proofs.print.bytes.Statement.{statement}
+use Rattle.batch.proofs.print.bytes.Tie as tie
 
 abbrev Inv-loop : tie.InvT-loop
-Inv-loop room lent text₀ i₀ text i = (i ≤ room) × (room ≤ 2048) × (length text ≡ 4096)
+Inv-loop count lent text₀ i₀ text i = (i ≤ count) × (count ≤ 2048) × (length text ≡ 4096)
 
 abbrev μ-loop : tie.MeasureT-loop
-μ-loop room lent text₀ i₀ text i = room - i
+μ-loop count lent text₀ i₀ text i = count - i
 
 loop-holds : tie.Need-loop-holds Inv-loop μ-loop
 loop-holds c = search needs
@@ -64,8 +64,8 @@ write-all-requires c κs = search needs
 returns : tie.Need-returns Inv-loop μ-loop
 returns c = search needs
 
-pub print-bytes-spec : {M : Type 1} → statement M
-print-bytes-spec =
+pub bytes-spec : {M : Type 1} → statement M
+bytes-spec =
     tie.close
     (tie.spec
     Inv-loop

@@ -1,0 +1,59 @@
+-- `put_buffers` is safe and ends: the measure is how many entries are still to come. Assumes nothing.
+use Prim.Native.Nat.{_≤_, _-_}
+use borrow.Author.Needs.{needs}
+use Rattle.batch.proofs.state.put_buffers.Statement.{statement}
+use Rattle.batch.proofs.state.put_buffers.Tie as tie
+
+-- the index is at most the number of entries
+abbrev Inv-loop : tie.InvT-loop
+Inv-loop raw₀ u i₀ raw i = i ≤ 32
+
+abbrev μ-loop : tie.MeasureT-loop
+μ-loop raw₀ u i₀ raw i = 32 - i
+
+loop-holds : tie.Need-loop-holds Inv-loop μ-loop
+loop-holds c = search needs
+
+mul-w : tie.Need-mul-w Inv-loop μ-loop
+mul-w c = search needs
+
+element-copy-out-w : tie.Need-element-copy-out-w Inv-loop μ-loop
+element-copy-out-w c = search needs
+
+mul-put-entry : tie.Need-mul-put-entry Inv-loop μ-loop
+mul-put-entry c = search needs
+
+add-put-entry : tie.Need-add-put-entry Inv-loop μ-loop
+add-put-entry c = search needs
+
+put-entry-requires : tie.Need-put-entry-requires Inv-loop μ-loop
+put-entry-requires c κs = search needs
+
+add-i : tie.Need-add-i Inv-loop μ-loop
+add-i c = search needs
+
+loop-less : tie.Need-loop-less Inv-loop μ-loop
+loop-less c = search needs
+
+loop-again : tie.Need-loop-again Inv-loop μ-loop
+loop-again c = search needs
+
+returns : tie.Need-returns Inv-loop μ-loop
+returns c = search needs
+
+pub put-buffers-spec : {M : Type 1} → statement M
+put-buffers-spec =
+    tie.close
+    (tie.spec
+    Inv-loop
+    μ-loop
+    loop-holds
+    mul-w
+    element-copy-out-w
+    mul-put-entry
+    add-put-entry
+    put-entry-requires
+    add-i
+    loop-less
+    loop-again
+    returns)

@@ -1,0 +1,32 @@
+// What the answers are made of: numbers, and bytes in hex.
+use libc::STDOUT_FILENO;
+ghost use Prim.Native.Nat.{_≤_, _<_};
+
+// The most bytes that are printed at once.
+pub const ROOM: usize = 2048;
+
+fn glyph(digit: u8) -> u8
+    requires { ⌜ digit < 16 ⌝ }
+{
+    if digit < 10 { 48 + digit } else { 87 + digit }
+}
+
+// The first `count` bytes in hex, two digits each.
+pub fn bytes(lent: [u8; ROOM], count: usize)
+    requires { ⌜ count ≤ 2048 ⌝ }
+{
+    let mut text = [0u8; 4096];
+    let mut i = 0;
+    while i < count {
+        let b = lent[i];
+        text[2 * i] = glyph(b / 16 % 16);
+        text[2 * i + 1] = glyph(b % 16);
+        i = i + 1;
+    }
+    io::write_all(STDOUT_FILENO, &text[..2 * count]);
+}
+
+pub fn number(n: usize) {
+    io::print_decimal(STDOUT_FILENO, n as u64);
+    io::write_all(STDOUT_FILENO, b" ");
+}

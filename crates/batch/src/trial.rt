@@ -1,0 +1,109 @@
+// Frames of the machine: a run judged, or a single step given with a state in memory.
+use crate::change;
+use crate::print;
+use crate::print::ROOM;
+use crate::state;
+use crate::state::STATE_BYTES;
+use cases::case::Case;
+use cases::case::Location;
+use cases::case::Step;
+use cases::case::Thread;
+use libc::STDIN_FILENO;
+use libc::STDOUT_FILENO;
+use machine::cells::State;
+use machine::runs;
+use machine::steps;
+use machine::work;
+use machine::work::Weighed;
+ghost use Prim.Native.Nat.{_≤_};
+
+const INPUT: usize = 65536;
+
+fn print_weight(w: Weighed) {
+    let refused = work::weighed_number(w);
+    if refused != 0 {
+        io::write_all(STDOUT_FILENO, b"r");
+        print::number(refused as usize);
+        return;
+    }
+    print::number(work::weighed_work(w));
+}
+
+// The number, its place, the work left in one state, the full length, and the other state's bytes.
+fn print_line(number: u8, place: usize, c: Case, weighed: State, out: State) {
+    print::number(number as usize);
+    print::number(place);
+    print_weight(machine::work_left(c, weighed));
+    print_weight(machine::full_length(c));
+    let mut raw = [0u8; ROOM];
+    state::to_bytes(&mut raw, out);
+    print::bytes(raw, STATE_BYTES);
+    io::write_all(STDOUT_FILENO, b"\n");
+}
+
+// Judges bytes.
+fn judge_bytes(bytes: &[u8]) {
+    let j = machine::judge_bytes(bytes);
+    let v = j.verdict;
+    let r = cases::read(bytes);
+    print_line(
+        runs::verdict_number(v),
+        runs::verdict_place(v),
+        r.case,
+        j.state,
+        j.state,
+    );
+}
+
+// Judges a case in memory.
+fn judge_case(c: Case) {
+    let j = machine::judge(c);
+    let v = j.verdict;
+    print_line(
+        runs::verdict_number(v),
+        runs::verdict_place(v),
+        c,
+        j.state,
+        j.state,
+    );
+}
+
+// Takes a single step in a state in memory; false where the stream ends before it.
+fn take_step(c: Case) -> bool {
+    let mut fields = [0u8; 4];
+    if io::read_full(STDIN_FILENO, &mut fields) < 4 {
+        return false;
+    }
+    let mut raw = [0u8; ROOM];
+    if io::read_full(STDIN_FILENO, &mut raw[..STATE_BYTES]) < STATE_BYTES {
+        return false;
+    }
+    let k = Step {
+        thread: Thread(fields[0]),
+        code: fields[1],
+        position: fields[2],
+        location: Location(fields[3]),
+    };
+    let s = state::from_bytes(steps::start_of(c.program), &raw);
+    let r = machine::step(c, s, k);
+    let ruling = r.ruling;
+    print_line(steps::ruling_number(ruling), 0, c, s, r.state);
+    true
+}
+
+// Answers for the first n bytes of a buffer; false where the stream ends in the frame.
+pub fn answer(job: u32, input: [u8; INPUT], n: usize, field: usize, value: u32) -> bool
+    requires { ⌜ n ≤ 65536 ⌝ }
+{
+    if job == 0 {
+        judge_bytes(&input[..n]);
+        return true;
+    }
+    let r = cases::read(&input[..n]);
+    let c = change::changed(r.case, field, value);
+    if job == 1 {
+        judge_case(c);
+        return true;
+    }
+    take_step(c)
+}

@@ -1,0 +1,254 @@
+//! States in memory by hand: the bytes of a frame, what a step leaves alone, number 33.
+
+use super::machine::program;
+use crate::case::{Case, Instruction, Step};
+use crate::generate::random::Random;
+use crate::generate::valid::ROW;
+use crate::machine::fit::fits;
+use crate::machine::judge::{single_step, LEGAL};
+use crate::machine::state::{Entry, Held, State};
+use crate::machine::work::work_left;
+use crate::reading::read;
+use crate::trial::answer::answer;
+use crate::trial::frame::{Job, Trial};
+use crate::trial::generate::runs::{issue, persist, shift};
+use crate::trial::raw::{decode, encode, ENTRIES_AT, STATE_BYTES};
+
+/// A store, one thread, two locations.
+fn small() -> Case {
+    program(&[&[Instruction {
+        operation: 1,
+        location: 1,
+        register: 0,
+        word: 7,
+    }]])
+}
+
+#[test]
+fn states_come_back_from_their_bytes() {
+    let mut random = Random::new(3);
+    for _ in 0..50 {
+        let bytes = random.bytes(STATE_BYTES);
+        let state = decode(&bytes);
+        let again = encode(&state);
+        assert_eq!(again.len(), STATE_BYTES);
+        assert_eq!(decode(&again), state);
+        assert_eq!(again[..ENTRIES_AT], bytes[..ENTRIES_AT]);
+        assert_eq!(again[ENTRIES_AT + 192..], bytes[ENTRIES_AT + 192..]);
+    }
+}
+
+#[test]
+fn each_part_stands_at_its_bytes() {
+    let mut state = State::start(&Case::empty());
+    state.words[7] = 1;
+    state.queues[1].places[2] = Held { word: 2, mark: 3 };
+    state.queues[6].count = 4;
+    state.buffers[1].places[3] = Entry::Store {
+        location: 5,
+        word: 6,
+    };
+    state.buffers[2].places[0] = Entry::FlushOpt(7);
+    state.buffers[3].count = 8;
+    state.registers[1][2] = 9;
+    state.issued[0] = 10;
+    let mut bytes = vec![0; STATE_BYTES];
+    bytes[28] = 1;
+    bytes[32 + 4 * 34] = 2;
+    bytes[1056 + 34] = 3;
+    bytes[1312 + 6] = 4;
+    bytes[1320 + 6 * 11 + 1] = 5;
+    bytes[1320 + 6 * 11 + 2] = 6;
+    bytes[1320 + 6 * 16] = 2;
+    bytes[1320 + 6 * 16 + 1] = 7;
+    bytes[1512 + 3] = 8;
+    bytes[1516 + 4 * 6] = 9;
+    bytes[1580] = 10;
+    assert_eq!(encode(&state), bytes);
+    // A kind is taken modulo 4; an sfence has no location and no word, a flush-opt no word.
+    let mut other = bytes.clone();
+    other[1320 + 6 * 16] = 254;
+    other[1320 + 6 * 16 + 5] = 255;
+    assert_eq!(decode(&other), state);
+    other[1320 + 6 * 16] = 255;
+    bytes[1320 + 6 * 16] = 3;
+    bytes[1320 + 6 * 16 + 1] = 0;
+    assert_eq!(encode(&decode(&other)), bytes);
+}
+
+/// Junk everywhere but in the counts.
+fn junk(case: &Case) -> State {
+    let mut state = decode(&[0xEE; STATE_BYTES]);
+    let blank = State::start(case);
+    for (queue, blank) in state.queues.iter_mut().zip(&blank.queues) {
+        queue.count = blank.count;
+    }
+    for (buffer, blank) in state.buffers.iter_mut().zip(&blank.buffers) {
+        buffer.count = blank.count;
+    }
+    state.issued = blank.issued;
+    state
+}
+
+/// Each step on junk changes its own places and no other.
+#[test]
+fn steps_keep_what_they_do_not_change() {
+    let case = small();
+    let mut state = junk(&case);
+    let step = |state: &State, step: Step, right: &State| {
+        let next = single_step(&case, state.clone(), &step);
+        assert_eq!(next.number, LEGAL);
+        assert_eq!(next.state, *right);
+    };
+    let mut next = state.clone();
+    next.issued[0] = 1;
+    next.buffers[0].count = 1;
+    next.buffers[0].places[0] = Entry::Store {
+        location: 1,
+        word: 7,
+    };
+    step(&state, issue(0), &next);
+    state = next.clone();
+    next.buffers[0].count = 0;
+    next.buffers[0].places[0] = Entry::default();
+    next.queues[1].count = 1;
+    next.queues[1].places[0] = Held::write(7);
+    step(&state, shift(0, 0), &next);
+    state = next.clone();
+    next.queues[1].count = 0;
+    next.queues[1].places[0] = Held::write(0);
+    next.words[1] = 7;
+    step(&state, persist(1), &next);
+    // A marker's word is moved down with it.
+    state.queues[1].count = 3;
+    state.queues[1].places[1] = Held { word: 5, mark: 1 };
+    next = state.clone();
+    next.words[1] = 7;
+    next.queues[1].count = 2;
+    next.queues[1].places[0] = state.queues[1].places[1];
+    next.queues[1].places[1] = Held::write(0);
+    next.queues[1].places[2] = Held::write(0);
+    state.queues[1].places[2] = Held::write(0);
+    step(&state, persist(1), &next);
+}
+
+/// Whether the state fits after the change, over a program of 1 thread, 2 locations, 1 store.
+fn after(change: fn(&mut State)) -> bool {
+    let case = small();
+    let mut state = State::start(&case);
+    change(&mut state);
+    let fitting = fits(&case, &state);
+    let number = single_step(&case, state.clone(), &persist(0)).number;
+    assert_eq!(fitting, number != 33);
+    assert_eq!(fitting, work_left(&case, &state) != Err(33));
+    fitting
+}
+
+#[test]
+fn each_clause_at_its_limit_and_above() {
+    assert!(after(|_| {}));
+    assert!(after(|state| state.buffers[0].count = 7));
+    assert!(!after(|state| state.buffers[0].count = 8));
+    assert!(!after(|state| state.buffers[0].count = 255));
+    assert!(!after(|state| state.buffers[1].count = 1));
+    assert!(after(|state| state.queues[1].count = 31));
+    assert!(!after(|state| state.queues[1].count = 32));
+    assert!(!after(|state| state.queues[1].count = 255));
+    assert!(!after(|state| state.queues[2].count = 1));
+    assert!(after(|state| state.issued[0] = 1));
+    assert!(!after(|state| state.issued[0] = 2));
+    assert!(!after(|state| state.issued[1] = 1));
+    assert!(after(|state| state.buffers[0].push(Entry::Flush(1))));
+    assert!(!after(|state| state.buffers[0].push(Entry::Flush(2))));
+    assert!(!after(|state| state.buffers[0].push(Entry::FlushOpt(2))));
+    assert!(after(|state| state.buffers[0].push(Entry::Sfence)));
+    assert!(after(|state| state.queues[0].push(Held::marker(0))));
+    assert!(!after(|state| state.queues[0].push(Held::marker(1))));
+    // Each queue alone; words and registers that the program lacks are not looked at.
+    assert!(after(|state| {
+        state.queues[0].count = 31;
+        state.queues[1].count = 31;
+        state.words[5] = 1;
+        state.registers[3][3] = 1;
+    }));
+}
+
+#[test]
+fn numbers_of_a_single_step_come_in_their_order() {
+    let (case, start) = (small(), State::start(&small()));
+    let mut unfit = start.clone();
+    unfit.issued[0] = 9;
+    let mut unreadable = case.clone();
+    unreadable.count = 97;
+    let bad_step = Step {
+        position: 1,
+        ..issue(1)
+    };
+    let number = |case: &Case, state: &State, step: &Step| {
+        let verdict = single_step(case, state.clone(), step);
+        assert_eq!((verdict.place, &verdict.state), (0, state));
+        verdict.number
+    };
+    assert_eq!(number(&unreadable, &unfit, &bad_step), 32);
+    assert_eq!(number(&case, &unfit, &bad_step), 33);
+    assert_eq!(number(&case, &start, &bad_step), 5);
+    let unused = Step {
+        position: 1,
+        ..persist(0)
+    };
+    assert_eq!(number(&case, &start, &unused), 8);
+    assert_eq!(number(&case, &start, &persist(0)), 29);
+}
+
+/// Issue, from the start, of the row's first store with another word: field 18.
+fn first_issue() -> Trial {
+    Trial {
+        job: Job::Step(issue(0), vec![0; STATE_BYTES]),
+        input: ROW.to_vec(),
+        field: 18,
+        value: 0x0102_0304,
+    }
+}
+
+#[test]
+fn frames_of_the_machine_come_back_from_their_stream() {
+    let trial = first_issue();
+    let mut stream = Vec::new();
+    assert!(trial.write_to(&mut stream).is_ok());
+    assert_eq!(stream.len(), 16 + 50 + 4 + STATE_BYTES);
+    let mut rest = &stream[..];
+    assert_eq!(Trial::read_from(&mut rest).ok(), Some(Some(trial)));
+    assert_eq!(Trial::read_from(&mut rest).ok(), Some(None));
+    assert!(Trial::read_from(&mut &stream[..stream.len() - 1]).is_err());
+    stream[0] = 3;
+    assert!(Trial::read_from(&mut &stream[..]).is_err());
+}
+
+#[test]
+fn lines_of_the_machine() {
+    let told = answer(&first_issue());
+    let mut state = State::start(&read(&ROW).case);
+    state.issued[0] = 1;
+    state.buffers[0].push(Entry::Store {
+        location: 0,
+        word: 0x0102_0304,
+    });
+    assert_eq!(told.verdict.state, state);
+    let line = told.line();
+    assert!(line.starts_with("103 0 6 6 0000") && line.ends_with("01000000\n"));
+    assert_eq!(line.trim_end().len(), "103 0 6 6 ".len() + 2 * STATE_BYTES);
+    let judged = |job, field, value| {
+        let trial = Trial {
+            job,
+            field,
+            value,
+            ..first_issue()
+        };
+        let line = answer(&trial).line();
+        line[..line.rfind(' ').unwrap_or(0)].to_string()
+    };
+    assert_eq!(judged(Job::Bytes, 1, 0), "103 0 6 6");
+    assert_eq!(judged(Job::Case, 1, 0), "32 0 r32 r32");
+    let unfit = Job::Step(issue(0), vec![255; STATE_BYTES]);
+    assert_eq!(judged(unfit, 0, 0), "33 0 r33 6");
+}

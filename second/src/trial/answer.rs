@@ -1,0 +1,64 @@
+//! The second judge's answer to a frame of the machine's stream, and its line.
+
+use super::frame::{Job, Trial};
+use super::raw;
+use crate::answer::push_hex;
+use crate::case::Case;
+use crate::frame::slot;
+use crate::machine::judge::{judge, judge_bytes, single_step, Verdict};
+use crate::machine::state::State;
+use crate::machine::work::{full_length, work_left};
+use crate::reading::read;
+
+pub struct Answer {
+    /// The case that the verdict, the work and the full length are about.
+    pub case: Case,
+    /// The state that a single step is given with.
+    pub given: Option<State>,
+    pub verdict: Verdict,
+    pub work: Result<u32, u8>,
+    pub full: Result<u32, u8>,
+}
+
+pub fn answer(trial: &Trial) -> Answer {
+    let mut case = read(&trial.input).case;
+    if trial.job != Job::Bytes {
+        if let Some(mut field) = slot(&mut case, trial.field) {
+            field.set(trial.value);
+        }
+    }
+    let given = match &trial.job {
+        Job::Step(_, state) => Some(raw::decode(state)),
+        _ => None,
+    };
+    let verdict = match (&trial.job, &given) {
+        (Job::Step(step, _), Some(state)) => single_step(&case, state.clone(), step),
+        (Job::Bytes, _) => judge_bytes(&trial.input),
+        _ => judge(&case),
+    };
+    Answer {
+        work: work_left(&case, given.as_ref().unwrap_or(&verdict.state)),
+        full: full_length(&case),
+        case,
+        given,
+        verdict,
+    }
+}
+
+impl Answer {
+    pub fn line(&self) -> String {
+        let told = |number: Result<u32, u8>| match number {
+            Ok(number) => number.to_string(),
+            Err(refusal) => format!("r{refusal}"),
+        };
+        let Verdict {
+            number,
+            place,
+            state,
+        } = &self.verdict;
+        let mut line = format!("{number} {place} {} {} ", told(self.work), told(self.full));
+        push_hex(&mut line, &raw::encode(state));
+        line.push('\n');
+        line
+    }
+}

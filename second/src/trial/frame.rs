@@ -1,0 +1,80 @@
+//! A frame of the machine's stream.
+
+use super::raw::STATE_BYTES;
+use crate::case::Step;
+use crate::frame::{bad_frame, read_head, read_part};
+use std::io::{self, Read, Write};
+
+pub const MOST_INPUT: u32 = 2048;
+/// What a frame's first number has above its job: no frame of the other stream begins with so high a number.
+const MACHINE: u32 = 1 << 31;
+
+#[derive(Clone, Debug, PartialEq, Eq)]
+pub enum Job {
+    /// Job 0: judge the input bytes.
+    Bytes,
+    /// Job 1: judge the case in memory.
+    Case,
+    /// Job 2: a single step, given with the bytes of a state.
+    Step(Step, Vec<u8>),
+}
+
+#[derive(Clone, Debug, PartialEq, Eq)]
+pub struct Trial {
+    pub job: Job,
+    pub input: Vec<u8>,
+    pub field: u32,
+    pub value: u32,
+}
+
+impl Trial {
+    pub fn write_to(&self, out: &mut impl Write) -> io::Result<()> {
+        let job = match self.job {
+            Job::Bytes => 0,
+            Job::Case => 1,
+            Job::Step(..) => 2,
+        };
+        let length = self.input.len() as u32;
+        for number in [MACHINE + job, length, self.field, self.value] {
+            out.write_all(&number.to_le_bytes())?;
+        }
+        out.write_all(&self.input)?;
+        if let Job::Step(step, state) = &self.job {
+            out.write_all(&[step.thread, step.code, step.position, step.location])?;
+            out.write_all(state)?;
+        }
+        Ok(())
+    }
+
+    /// The next frame; none at the end of the stream.
+    pub fn read_from(stream: &mut impl Read) -> io::Result<Option<Trial>> {
+        let [first, length, field, value] = match read_head(stream)? {
+            Some(head) => head,
+            None => return Ok(None),
+        };
+        if first < MACHINE || first > MACHINE + 2 || length > MOST_INPUT {
+            return Err(bad_frame());
+        }
+        let input = read_part(stream, length as usize)?;
+        let job = match first - MACHINE {
+            0 => Job::Bytes,
+            1 => Job::Case,
+            _ => {
+                let fields = read_part(stream, 4)?;
+                let step = Step {
+                    thread: fields[0],
+                    code: fields[1],
+                    position: fields[2],
+                    location: fields[3],
+                };
+                Job::Step(step, read_part(stream, STATE_BYTES)?)
+            }
+        };
+        Ok(Some(Trial {
+            job,
+            input,
+            field,
+            value,
+        }))
+    }
+}
