@@ -1,5 +1,5 @@
--- The judge and legality: a run is legal to its end, or to its first illegal step, and the judge says which.
--- Assumes nothing.
+-- The judge and legality: a run is legal to its end, or to its first illegal step, and the judge says which;
+-- and a single step. Assumes nothing.
 use Prim.Native.Nat.{ℕ, zero, suc, _+_}
 use mathlib.Core.Path.{_≡_, refl, sym, ap, _∙_, subst}
 use mathlib.Core.Logic.{_⊎_, inl, inr, _≢_}
@@ -12,14 +12,16 @@ use lib.Dec.{eqb}
 use lib.ListN.{length, getD, take}
 use Rattle.cases.specs.declared.case.Step.{Step}
 use Rattle.cases.specs.declared.case.Program.{Program}
+use Rattle.cases.specs.Checks.{stepFault}
 use Rattle.cases.specs.Draft.{noStep}
-use Rattle.cases.proofs.ChoiceLaws.{pick-true, pick-false}
+use Rattle.cases.proofs.ChoiceLaws.{pick-true, pick-false, true-not}
 use Rattle.machine.specs.declared.cells.State.{State}
+use Rattle.machine.specs.declared.steps.Ruling.the-variants.{Allowed}
 use Rattle.machine.specs.declared.runs.Verdict.{Verdict}
 use Rattle.machine.specs.declared.runs.Verdict.the-variants.{Legal, Illegal}
 use Rattle.machine.specs.declared.runs.Judged.{Judged}
 use Rattle.machine.specs.Rules.{ruleOf, nextOf}
-use Rattle.machine.specs.Judge.{Leads, StopsAt, judged, judgeFrom}
+use Rattle.machine.specs.Judge.{Leads, StopsAt, told, steppedOf, judged, judgeFrom}
 
 module _ (p : Program) where
   -- a turn of the judge: a legal step; an illegal one; none is left
@@ -133,3 +135,12 @@ module _ (p : Program) (s : State) (ks : List Step) where
             subst (λ n. StopsAt p s ks n (e .1)) (w .1) (e .2),
             subst (λ n. ruleOf p (e .1) (getD ks n noStep) ≡ r) (w .1) (w .0),
           )
+
+-- A single step that neither 5 and 8 nor a rule stands against
+pub stepped-legal : (p : Program) (s : State) (k : Step) (u : State) → stepFault p k ≡ 0 → ruleOf p s k ≡ 0
+    → u ≡ nextOf p s k
+    → told Allowed u ≡ steppedOf p s k
+unfolding steppedOf
+stepped-legal p s k u f r e =
+    ap (told Allowed) e
+    ∙ sym (pick-false _ _ _ (true-not _ (eq-eqb _ _ f)) ∙ pick-false _ _ _ (true-not _ (eq-eqb _ _ r)))

@@ -20,7 +20,7 @@ use Rattle.machine.specs.declared.cells.State.{State}
 use Rattle.machine.specs.declared.cells.Waiting.{Waiting}
 use Rattle.machine.specs.declared.next.Next.{Next}
 use Rattle.machine.specs.Sizes.{mostCandidates}
-use Rattle.machine.specs.Rules.{moveRule, ruleOf}
+use Rattle.machine.specs.Rules.{moveRule, ruleIn, ruleOf}
 use Rattle.machine.specs.Fit.{ProgramFits}
 use Rattle.machine.specs.Next.{issueStep, moveStep, persistStep, issuesFrom, movesAt, movesFrom}
 use Rattle.machine.specs.Next.{persistsFrom, candidates, allowed, legalSteps, listed, nextSteps}
@@ -165,14 +165,14 @@ module _ (p : Program) (s : State) where
   issues-same : (t m : ℕ) (n : Next)
       → offeredAll (issueRuleAt p (s .issued) (s .waiting) (s .marks) (s .lengths)) (issuesFrom t m) n
       ≡ offeredAll (ruleOf p s) (issuesFrom t m) n
-  unfolding issuesFrom offeredAll issueRuleAt ruleOf pick
+  unfolding issuesFrom offeredAll issueRuleAt ruleOf ruleIn pick
   issues-same t zero n = refl
   issues-same t (suc m) n = issues-same (suc t) m _
 
   positions-same : (t i m : ℕ) (n : Next)
       → offeredAll (moveRuleAt (s .buffers) (s .waiting) (s .marks) (s .lengths)) (movesAt t i m) n
       ≡ offeredAll (ruleOf p s) (movesAt t i m) n
-  unfolding movesAt offeredAll moveRuleAt ruleOf pick
+  unfolding movesAt offeredAll moveRuleAt ruleOf ruleIn pick
   positions-same t i zero n = refl
   positions-same t i (suc m) n = positions-same t (suc i) m _
 
@@ -189,7 +189,7 @@ module _ (p : Program) (s : State) where
   persists-same : (l m : ℕ) (n : Next)
       → offeredAll (persistRuleAt (s .lengths)) (persistsFrom l m) n
       ≡ offeredAll (ruleOf p s) (persistsFrom l m) n
-  unfolding persistsFrom offeredAll persistRuleAt ruleOf pick
+  unfolding persistsFrom offeredAll persistRuleAt ruleOf ruleIn pick
   persists-same l zero n = refl
   persists-same l (suc m) n = persists-same (suc l) m _
 

@@ -6,7 +6,7 @@ use mathlib.Core.Logic.{_≢_}
 use native.Mathlib.Omega.{arith}
 use borrow.Author.Tests.{eq-eqb, ne-eqb}
 use mathlib.Core.List.{List, [], _∷_}
-use lib.ListN.{length}
+use lib.ListN.{length, getD}
 use Rattle.cases.specs.declared.case.Step.{Step}
 use Rattle.cases.specs.declared.case.Program.{Program}
 use Rattle.cases.specs.Checks.{stepFault}
@@ -17,10 +17,10 @@ use Rattle.machine.specs.declared.cells.Waiting.{Waiting}
 use Rattle.machine.specs.declared.cells.Entry.{Entry}
 use Rattle.machine.specs.declared.cells.Entry.the-variants.{Store, Flush, FlushOpt, Sfence}
 use Rattle.machine.specs.Sizes.{room, mostSlots}
-use Rattle.machine.specs.View.{queueLen, buffer, bufferLen, issuedOf}
-use Rattle.machine.specs.Rules.{countAt, instructionAt, issueRule, moveRule, persistRule, ruleOf}
+use Rattle.machine.specs.View.{queueLen, buffer, bufferIn, bufferLen, issuedOf}
+use Rattle.machine.specs.Rules.{countAt, instructionAt, issueRule, moveRule, persistRule, ruleIn, ruleOf}
 use Rattle.machine.specs.Rules.{entryAt}
-use Rattle.machine.specs.Fit.{Fits, Named, AllNamed, Shallow, Roomy, unissued, due}
+use Rattle.machine.specs.Fit.{ProgramFits, Fits, Named, AllNamed, Shallow, Roomy, unissued, due}
 use Rattle.machine.specs.Offer.{Movable}
 use Rattle.machine.proofs.SumLaws.{sum-part}
 use Rattle.machine.proofs.KeepLaws.{queue-within, buffer-within}
@@ -41,6 +41,38 @@ first-entry : (n : ℕ) (b : List Waiting) → n ≤ mostLocations → AllNamed 
 unfolding AllNamed
 first-entry n [] h a = unfold Named in omega arith
 first-entry n (w ∷ b) h a = named-low n (w .entry) h (a .0)
+
+-- the rules by their codes, over the parts they look at
+module _ (p : Program) (g : ProgramFits p) (k : Step) (faultless : stepFault p k ≡ 0) where
+  thread-low : k .code ≤ 1 → k .thread .0 < mostThreads
+  thread-low h =
+      let a = fault-none p k faultless .low-thread h in
+      let b = g .few-threads in
+      omega arith
+
+  pub location-low : k .code ≢ 0 → k .code ≢ 1 → k .location .0 < mostLocations
+  location-low h n =
+      let r = fault-none p k faultless in
+      let c = r .low-code in
+      let a = r .low-location (omega arith) in
+      let b = g .few-locations in
+      omega arith
+
+  module _ (marks lengths : List ℕ) (deep : Shallow lengths) (long : length marks ≡ mostSlots) where
+    pub issue-rule-ready : k .code ≡ 0
+        → (k .thread .0 < mostThreads) × (countAt p (k .thread .0) ≤ mostInstructions) × Shallow lengths
+        × (length marks ≡ mostSlots)
+    issue-rule-ready h = (thread-low (omega arith), g .few-instructions (k .thread .0), deep, long)
+
+    pub move-rule-ready : (buffers : List Waiting) (waiting : List ℕ) → Movable buffers waiting → k .code ≡ 1
+        → (k .thread .0 < mostThreads) × (getD waiting (k .thread .0) 0 ≤ mostInstructions)
+        × Named mostLocations (entryAt (bufferIn buffers waiting (k .thread .0)) 0) × Shallow lengths
+        × (length marks ≡ mostSlots)
+    unfolding Movable
+    move-rule-ready buffers waiting m h =
+        let low = thread-low (omega arith) in
+        let at = m (k .thread .0) low in
+        (low, at .0, at .1, deep, long)
 
 module _ (p : Program) (s : State) (f : Fits p s) where
   pub shallow : Shallow (s .lengths)
@@ -71,57 +103,27 @@ module _ (p : Program) (s : State) (f : Fits p s) where
   due-unissued t low h = let w = sum-part mostThreads t (unissued p s) low in omega arith
 
   module _ (k : Step) (faultless : stepFault p k ≡ 0) where
-    thread-low : k .code ≤ 1 → k .thread .0 < mostThreads
-    thread-low h =
-        let a = fault-none p k faultless .low-thread h in
-        let b = f .program .few-threads in
-        omega arith
-
-    -- the three rules
-    pub issue-rule-ready : k .code ≡ 0
-        → (k .thread .0 < mostThreads) × (countAt p (k .thread .0) ≤ mostInstructions) × Shallow (s .lengths)
-        × (length (s .marks) ≡ mostSlots)
-    issue-rule-ready h =
-        (thread-low (omega arith), f .program .few-instructions (k .thread .0), shallow, f .sized .marks-long)
-
-    pub move-rule-ready : k .code ≡ 1
-        → (k .thread .0 < mostThreads) × (bufferLen s (k .thread .0) ≤ mostInstructions)
-        × Named mostLocations (entryAt (buffer s (k .thread .0)) 0) × Shallow (s .lengths)
-        × (length (s .marks) ≡ mostSlots)
-    move-rule-ready h =
-        let low = thread-low (omega arith) in (
-          low,
-          buffer-within p s f (k .thread .0) low,
-          head-named
-              (k .thread .0) low,
-          shallow,
-          f .sized .marks-long,
-        )
-
-    pub persist-rule-ready : k .code ≢ 0 → k .code ≢ 1 → k .location .0 < mostLocations
-    persist-rule-ready h g =
-        let r = fault-none p k faultless in
-        let c = r .low-code in
-        let a = r .low-location (omega arith) in
-        let b = f .program .few-locations in
-        omega arith
+    -- what `rule` asks for
+    pub rule-ready : ProgramFits p × Movable (s .buffers) (s .waiting) × Shallow (s .lengths)
+        × (length (s .marks) ≡ mostSlots) × (stepFault p k ≡ 0)
+    rule-ready = (f .program, movable, shallow, f .sized .marks-long, faultless)
 
     -- the three steps, where they are legal
     module _ (legal : ruleOf p s k ≡ 0) where
       issue-legal : k .code ≡ 0
           → issueRule p (s .issued) (s .waiting) (s .marks) (s .lengths) (k .thread .0) ≡ 0
-      unfolding ruleOf
+      unfolding ruleOf ruleIn
       issue-legal h = sym (pick-true _ _ _ (eq-eqb _ _ h)) ∙ legal
 
       move-legal : k .code ≡ 1
           → moveRule (s .buffers) (s .waiting) (s .marks) (s .lengths) (k .thread .0) (k .position) ≡ 0
-      unfolding ruleOf
+      unfolding ruleOf ruleIn
       move-legal h =
           let n : k .code ≢ 0 = λ z. omega arith in
           sym (pick-false _ _ _ (ne-eqb _ _ n) ∙ pick-true _ _ _ (eq-eqb _ _ h)) ∙ legal
 
       persist-legal : k .code ≢ 0 → k .code ≢ 1 → persistRule (s .lengths) (k .location .0) ≡ 0
-      unfolding ruleOf
+      unfolding ruleOf ruleIn
       persist-legal h g =
           sym (pick-false _ _ _ (ne-eqb _ _ h) ∙ pick-false _ _ _ (ne-eqb _ _ g)) ∙ legal
 
@@ -132,7 +134,7 @@ module _ (p : Program) (s : State) (f : Fits p s) where
           × (instructionAt p (k .thread .0) (issuedOf s (k .thread .0)) .register .0 < mostRegisters)
           × (queueLen s (instructionAt p (k .thread .0) (issuedOf s (k .thread .0)) .location .0) < room)
       issue-ready h =
-          let low = thread-low (omega arith) in
+          let low = thread-low p (f .program) k faultless (omega arith) in
           let left : issuedOf s (k .thread .0) < countAt p (k .thread .0)
           = issue-left p s f (k .thread .0) (issue-legal h) in
           let few = f .program .few-instructions (k .thread .0) in
@@ -151,7 +153,7 @@ module _ (p : Program) (s : State) (f : Fits p s) where
           × (bufferLen s (k .thread .0) ≤ mostInstructions)
           × Named mostLocations (entryAt (buffer s (k .thread .0)) (k .position)) × Roomy s
       move-ready h =
-          let low = thread-low (omega arith) in
+          let low = thread-low p (f .program) k faultless (omega arith) in
           let range = fault-none p k faultless .low-thread (omega arith) in
           let there = move-there p s f (k .thread .0) (k .position) range (move-legal h) in
           let named = move-named p s f (k .thread .0) (k .position) range (move-legal h) in (
@@ -166,7 +168,7 @@ module _ (p : Program) (s : State) (f : Fits p s) where
           → (k .location .0 < mostLocations) × (0 < queueLen s (k .location .0))
           × (queueLen s (k .location .0) ≤ room)
       persist-ready h g =
-          let low = persist-rule-ready h g in
+          let low = location-low p (f .program) k faultless h g in
           let r = fault-none p k faultless in
           let c = r .low-code in
           let range = r .low-location (omega arith) in (

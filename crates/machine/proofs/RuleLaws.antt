@@ -14,7 +14,7 @@ use Rattle.machine.specs.declared.cells.Waiting.{Waiting}
 use Rattle.machine.specs.declared.cells.Entry.{Entry}
 use Rattle.machine.specs.declared.cells.Entry.the-variants.{Store, Flush, FlushOpt, Sfence}
 use Rattle.machine.specs.Rules.{barrierRule, operationRule, issueRule, effectRule, passRule, moveRule}
-use Rattle.machine.specs.Rules.{persistRule, ruleOf}
+use Rattle.machine.specs.Rules.{persistRule, ruleIn, ruleOf}
 
 -- 0, or a rule of 01
 abbrev pub InTable : ℕ → Type 0
@@ -40,7 +40,7 @@ pass-table b i (FlushOpt l) = refuse-table _ 26 0 (omega arith) (omega arith) (i
 pass-table b i Sfence = inr (omega arith, omega arith)
 
 pub rule-table : (p : Program) (s : State) (k : Step) → InTable (ruleOf p s k)
-unfolding ruleOf issueRule operationRule barrierRule moveRule persistRule
+unfolding ruleOf ruleIn issueRule operationRule barrierRule moveRule persistRule
 rule-table p s k =
     pick-cases InTable _ _ _
     (λ h. refuse-table _ 21 _ (omega arith) (omega arith)

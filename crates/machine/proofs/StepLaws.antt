@@ -21,7 +21,7 @@ use Rattle.machine.specs.View.{buffer, bufferLen, blankWaiting, wordOf, 
 use Rattle.machine.specs.Look.{wordOr}
 use Rattle.machine.specs.Rules.{issueRule}
 use Rattle.machine.specs.Rules.{issueOf, effectOf, entryAt, moveRule, moveOf, persistRule, persistFirst}
-use Rattle.machine.specs.Rules.{persistOf, ruleOf, nextOf}
+use Rattle.machine.specs.Rules.{persistOf, ruleIn, ruleOf, nextOf}
 use Rattle.machine.specs.Fit.{Fits, Named, AllBorne, due, unissued}
 use Rattle.machine.specs.Work.{waitingWeight, work, cost}
 use Rattle.machine.proofs.ViewLaws.{queue-length, buffer-length}
@@ -145,7 +145,7 @@ pub step-cases {ℓ} : (p : Program) (s : State) (k : Step) (Q : State → Type 
     → (k .location .0 < p .locations → persistRule (s .lengths) (k .location .0) ≡ 0
     → Q (persistOf s (k .location .0)))
     → InRange p k → ruleOf p s k ≡ 0 → Q (nextOf p s k)
-unfolding ruleOf nextOf pick
+unfolding ruleOf ruleIn nextOf pick
 step-cases p s k Q issue move persist r legal = go (eqb (k .code) 0) refl (eqb (k .code) 1) refl legal
   where
     go : (a : Bool) → eqb (k .code) 0 ≡ a → (b : Bool) → eqb (k .code) 1 ≡ b

@@ -5,7 +5,8 @@
 --   effectRule, effectOf     what an entry does as it takes effect: 27, 28. It is already out of its buffer, so
 --                            that a machine without buffers can use these two.
 --   persistRule, persistOf   persist: 29
---   ruleOf p s k, nextOf p s k   a step by its code
+--   ruleIn, ruleOf p s k     a step's rule by its code, over the parts it looks at, in a state
+--   nextOf p s k             what a legal step does, by its code
 --   startOf p                where a run starts
 -- Assumes nothing.
 use Prim.Native.Nat.{ℕ, _+_, _*_}
@@ -26,7 +27,7 @@ use Rattle.machine.specs.declared.cells.Entry.the-variants.{Store, Flush
 use Rattle.machine.specs.Sizes.{mostSlots, mostPlaces}
 use Rattle.machine.specs.View.{Slot, writeSlot, markerSlot, without, queue, withQueue, blankWaiting}
 use Rattle.machine.specs.View.{bufferIn, buffer, withBuffer, wordOf, withWord}
-use Rattle.machine.specs.View.{registerOf, withRegister, issuedOf, withIssued}
+use Rattle.machine.specs.View.{registerIn, withRegister, issuedOf, withIssued}
 use Rattle.machine.specs.Look.{wordOr, queuedWord, loadOf, marked, firstBar}
 
 -- which queue a location's entries go through: its own
@@ -67,11 +68,11 @@ issueRule p issued waiting marks lengths t =
     (operationRule (instructionAt p t (getD issued t 0) .operation) waiting marks lengths t)
 
 -- "Stores fix their word now; stores, flushes, flush-opts and sfences join the end of the thread's buffer."
-unfoldable pub entryOf : State → ℕ → Instruction → Entry
-entryOf s t x =
+unfoldable pub entryOf : List ℕ → ℕ → Instruction → Entry
+entryOf registers t x =
     pick (eqb (x .operation) 1) (Store (record { location = x .location; word = x .word }))
     (pick (eqb (x .operation) 2)
-    (Store (record { location = x .location; word = registerOf s t (x .register .0) }))
+    (Store (record { location = x .location; word = registerIn registers t (x .register .0) }))
     (pick (eqb (x .operation) 5) (Flush (x .location))
     (pick (eqb (x .operation) 6) (FlushOpt (x .location))
     Sfence)))
@@ -92,7 +93,7 @@ performed s t x =
     pick (eqb (x .operation) 3) (loaded s t x)
     (pick (eqb (x .operation) 4) (exchanged s t x)
     (pick (eqb (x .operation) 8) s
-    (await s t (entryOf s t x))))
+    (await s t (entryOf (s .registers) t x))))
 
 unfoldable pub issueOf : Program → State → ℕ → State
 issueOf p s t =
@@ -148,12 +149,14 @@ unfoldable pub persistOf : State → ℕ → State
 persistOf s l = persistFirst s l (queue s l)
 
 -- "Step codes: 0 issue (thread); 1 move (thread, position 0 to 7); 2 persist (location)."
+unfoldable pub ruleIn : Program → List Waiting → List ℕ → List ℕ → List ℕ → List ℕ → Step → ℕ
+ruleIn p buffers issued waiting marks lengths k =
+    pick (eqb (k .code) 0) (issueRule p issued waiting marks lengths (k .thread .0))
+    (pick (eqb (k .code) 1) (moveRule buffers waiting marks lengths (k .thread .0) (k .position))
+    (persistRule lengths (k .location .0)))
+
 unfoldable pub ruleOf : Program → State → Step → ℕ
-ruleOf p s k =
-    pick (eqb (k .code) 0) (issueRule p (s .issued) (s .waiting) (s .marks) (s .lengths) (k .thread .0))
-    (pick (eqb (k .code) 1)
-    (moveRule (s .buffers) (s .waiting) (s .marks) (s .lengths) (k .thread .0) (k .position))
-    (persistRule (s .lengths) (k .location .0)))
+ruleOf p s k = ruleIn p (s .buffers) (s .issued) (s .waiting) (s .marks) (s .lengths) k
 
 unfoldable pub nextOf : Program → State → Step → State
 nextOf p s k =

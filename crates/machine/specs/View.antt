@@ -130,8 +130,8 @@ withWord s l w =
       issued = s .issued;
     }
 
-abbrev pub registerOf : State → ℕ → ℕ → ℕ
-registerOf s t r = getD (s .registers) (t * mostRegisters + r) 0
+abbrev pub registerIn : List ℕ → ℕ → ℕ → ℕ
+registerIn registers t r = getD registers (t * mostRegisters + r) 0
 
 unfoldable pub withRegister : State → ℕ → ℕ → ℕ → State
 withRegister s t r w =

@@ -10,12 +10,12 @@ use cases::case::Write;
 use cases::sizes::CODE;
 use cases::sizes::INSTRUCTIONS;
 ghost use mathlib.Core.Path.{_≡_};
-ghost use Prim.Native.Nat.{ℕ, _<_, _≤_};
-ghost use lib.ListN.{length, drop};
+ghost use Prim.Native.Nat.{_<_, _≤_};
+ghost use lib.ListN.{length};
 ghost use Rattle.cases.specs.Sizes.{mostThreads, mostInstructions, mostLocations, mostCode};
 ghost use Rattle.machine.specs.Sizes.{room, mostSlots};
-ghost use Rattle.machine.specs.View.{closeGap, queueLen, queue, withQueue, without};
-ghost use Rattle.machine.specs.View.{blankWaiting, bufferLen, buffer, withBuffer};
+ghost use Rattle.machine.specs.View.{closeGap, queueLen};
+ghost use Rattle.machine.specs.View.{blankWaiting, bufferLen};
 ghost use Rattle.machine.specs.Rules as rules;
 
 // An entry at the end of a location's queue.
@@ -47,7 +47,7 @@ pub(crate) fn await_entry(s: State, t: Thread, e: Entry) -> State
 }
 
 // The words behind `from`, up to `end`, each one place down, and the last place 0.
-fn close_words(held: &mut [u32; SLOTS], from: usize, end: usize)
+pub(crate) fn close_words(held: &mut [u32; SLOTS], from: usize, end: usize)
     requires { ⌜ (from < end) × (end ≤ mostSlots) × (length (now held) ≡ mostSlots) ⌝ }
     ensures { λ r. ⌜ now (held .exit) ≡ closeGap 0 from end (now (held .entry)) ⌝ }
 {
@@ -60,7 +60,7 @@ fn close_words(held: &mut [u32; SLOTS], from: usize, end: usize)
 }
 
 // The same of marks.
-fn close_marks(marks: &mut [u8; SLOTS], from: usize, end: usize)
+pub(crate) fn close_marks(marks: &mut [u8; SLOTS], from: usize, end: usize)
     requires { ⌜ (from < end) × (end ≤ mostSlots) × (length (now marks) ≡ mostSlots) ⌝ }
     ensures { λ r. ⌜ now (marks .exit) ≡ closeGap 0 from end (now (marks .entry)) ⌝ }
 {
@@ -72,24 +72,9 @@ fn close_marks(marks: &mut [u8; SLOTS], from: usize, end: usize)
     marks[end - 1] = 0;
 }
 
-// Without the oldest entry of a location's queue.
-pub(crate) fn dequeue(s: State, l: Location) -> State
-    requires { ⌜ (l .0 < mostLocations) × (0 < queueLen s (l .0)) × (queueLen s (l .0) ≤ room) ⌝ }
-    ensures { λ r. ⌜ r ≡ withQueue s (l .0) (drop 1 (queue s (l .0))) ⌝ }
-{
-    let mut u = s;
-    let at = l.0 as usize;
-    let n = u.lengths[at];
-    let end = at * ROOM + (n as usize);
-    close_words(&mut u.held, at * ROOM, end);
-    close_marks(&mut u.marks, at * ROOM, end);
-    u.lengths[at] = n - 1;
-    u
-}
-
 // The entries behind `from`, up to `end`, each one place down, and the last place blank. By value: an array of
 // structs can't be lent.
-fn close_entries(buffers: [Waiting; CODE], from: usize, end: usize) -> [Waiting; CODE]
+pub(crate) fn close_entries(buffers: [Waiting; CODE], from: usize, end: usize) -> [Waiting; CODE]
     requires { ⌜ (from < end) × (end ≤ mostCode) ⌝ }
     ensures { λ r. ⌜ r ≡ closeGap blankWaiting from end buffers ⌝ }
 {
@@ -107,20 +92,4 @@ fn close_entries(buffers: [Waiting; CODE], from: usize, end: usize) -> [Waiting;
         }),
     };
     b
-}
-
-// Without the entry at a position of a thread's buffer.
-pub(crate) fn take_out(s: State, t: Thread, i: u8) -> State
-    requires { ⌜ (t .0 < mostThreads) × (i < bufferLen s (t .0)) × (bufferLen s (t .0) ≤ mostInstructions) ⌝ }
-    ensures { λ r. ⌜ r ≡ withBuffer s (t .0) (without i (buffer s (t .0))) ⌝ }
-{
-    let mut u = s;
-    let at = t.0 as usize;
-    let n = u.waiting[at];
-    let base = at * INSTRUCTIONS;
-    let b = u.buffers;
-    let closed = close_entries(b, base + (i as usize), base + (n as usize));
-    u.buffers = closed;
-    u.waiting[at] = n - 1;
-    u
 }

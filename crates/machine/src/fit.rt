@@ -12,24 +12,13 @@ use cases::sizes::INSTRUCTIONS;
 use cases::sizes::LOCATIONS;
 use cases::sizes::THREADS;
 ghost use mathlib.Core.Path.{_≡_};
-ghost use Prim.Native.Nat.{ℕ, _+_, _<_, _≤_};
+ghost use Prim.Native.Nat.{_+_, _<_, _≤_};
 ghost use lib.ListN.{getD};
 ghost use Rattle.cases.specs.Sizes.{mostThreads, mostInstructions, mostLocations};
 ghost use Rattle.machine.specs.Sizes.{room};
-ghost use Rattle.machine.specs.View.{marksIn, bufferIn, bufferLen, issuedOf};
-ghost use Rattle.machine.specs.Rules.{countAt};
-ghost use Rattle.machine.specs.Fit.{
-  sumTo,
-  anyFrom,
-  strays,
-  anyStrays,
-  anyForeign,
-  unissued,
-  due,
-  threadMisfits,
-  queueMisfits,
-  misfits,
-};
+ghost use Rattle.machine.specs.View.{marksIn, bufferIn, bufferLen};
+ghost use Rattle.machine.specs.Fit.{sumTo, anyFrom, strays, anyStrays, anyForeign, unissued, due};
+ghost use Rattle.machine.specs.Fit.{threadMisfits, queueMisfits, misfits};
 
 // Does an entry name a location that the program lacks?
 fn is_stray(w: Waiting, locations: u8) -> bool

@@ -3,6 +3,7 @@ use crate::cells::Entry;
 use crate::cells::State;
 use crate::change;
 use crate::look;
+use crate::sizes::PLACES;
 use crate::sizes::SLOTS;
 use cases::case::Instruction;
 use cases::case::Program;
@@ -13,24 +14,13 @@ use cases::sizes::LOCATIONS;
 use cases::sizes::REGISTERS;
 use cases::sizes::THREADS;
 ghost use mathlib.Core.Path.{_≡_};
-ghost use Prim.Native.Nat.{ℕ, _+_, _<_, _≤_};
-ghost use lib.ListN.{length, getD};
+ghost use Prim.Native.Nat.{_+_, _<_, _≤_};
+ghost use lib.ListN.{length};
 ghost use Rattle.cases.specs.Sizes.{mostThreads, mostInstructions, mostLocations, mostRegisters};
 ghost use Rattle.machine.specs.Sizes.{room, mostSlots};
-ghost use Rattle.machine.specs.View.{queueLen, bufferLen, issuedOf, withIssued};
-ghost use Rattle.machine.specs.Rules.{
-  countAt,
-  instructionAt,
-  isBarrier,
-  barrierRule,
-  operationRule,
-  issueRule,
-  entryOf,
-  loaded,
-  exchanged,
-  performed,
-  issueOf,
-};
+ghost use Rattle.machine.specs.View.{queueLen, bufferLen, issuedOf};
+ghost use Rattle.machine.specs.Rules.{countAt, instructionAt, isBarrier, barrierRule, operationRule};
+ghost use Rattle.machine.specs.Rules.{issueRule, entryOf, loaded, exchanged, performed, issueOf};
 ghost use Rattle.machine.specs.Fit.{Shallow};
 
 // Does an operation need what went before it to be done? Exchange and mfence do.
@@ -105,11 +95,10 @@ pub(crate) fn issue_rule<'a>(
 }
 
 // The entry that a store, flush, flush-opt or sfence leaves in the buffer; a store's word is fixed now.
-fn entry_of(s: State, t: Thread, x: Instruction) -> Entry
+fn entry_of<'a>(registers: &'a [u32; PLACES], t: Thread, x: Instruction) -> Entry
     requires { ⌜ (t .0 < mostThreads) × (x .register .0 < mostRegisters) ⌝ }
-    ensures { λ r. ⌜ r ≡ entryOf s (t .0) x ⌝ }
+    ensures { λ r. ⌜ r ≡ entryOf (now (registers .entry)) (t .0) x ⌝ }
 {
-    let u = s;
     let l = x.location;
     let op = x.operation;
     if op == 1 {
@@ -119,7 +108,7 @@ fn entry_of(s: State, t: Thread, x: Instruction) -> Entry
         });
     }
     if op == 2 {
-        let word = u.registers[(t.0 as usize) * REGISTERS + (x.register.0 as usize)];
+        let word = registers[(t.0 as usize) * REGISTERS + (x.register.0 as usize)];
         return Entry::Store(Write {
             location: l,
             word: word,
@@ -182,8 +171,9 @@ fn perform(s: State, t: Thread, x: Instruction) -> State
     if op == 8 {
         return s;
     }
-    let e = entry_of(s, t, x);
-    change::await_entry(s, t, e)
+    let u = s;
+    let e = entry_of(&u.registers, t, x);
+    change::await_entry(u, t, e)
 }
 
 // A thread's next instruction issued, where no rule stands against it.

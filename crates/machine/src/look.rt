@@ -11,22 +11,14 @@ use cases::sizes::INSTRUCTIONS;
 use cases::sizes::LOCATIONS;
 use cases::sizes::THREADS;
 ghost use mathlib.Core.Path.{_≡_};
-ghost use Prim.Native.Nat.{ℕ, _<_, _≤_};
+ghost use Prim.Native.Nat.{_<_, _≤_};
 ghost use lib.ListN.{length, getD, take};
 ghost use Rattle.cases.specs.Sizes.{mostThreads, mostInstructions, mostLocations};
 ghost use Rattle.machine.specs.Sizes.{room, mostSlots};
 ghost use Rattle.machine.specs.View.{queueIn, bufferIn};
 ghost use Rattle.machine.specs.Fit.{Shallow};
-ghost use Rattle.machine.specs.Look.{
-  wordOr,
-  newestIn,
-  storedOr,
-  newestStore,
-  markerOf,
-  marked,
-  bars,
-  firstBar,
-};
+ghost use Rattle.machine.specs.Look.{wordOr, newestIn, storedOr, newestStore, markerOf, marked, bars};
+ghost use Rattle.machine.specs.Look.{firstBar};
 
 // Where a marker stands: its queue and its place there.
 pub enum Found {

@@ -13,21 +13,13 @@ use cases::sizes::INSTRUCTIONS;
 use cases::sizes::LOCATIONS;
 use cases::sizes::THREADS;
 ghost use mathlib.Core.Path.{_≡_};
-ghost use Prim.Native.Nat.{ℕ, _<_, _≤_};
+ghost use Prim.Native.Nat.{_<_, _≤_};
 ghost use lib.ListN.{length, getD};
 ghost use Rattle.cases.specs.Sizes.{mostThreads, mostInstructions, mostLocations};
 ghost use Rattle.machine.specs.Sizes.{room, mostSlots};
 ghost use Rattle.machine.specs.View.{queueLen, bufferIn, buffer, bufferLen};
-ghost use Rattle.machine.specs.Rules.{
-  effectRule,
-  effectOf,
-  passRule,
-  entryAt,
-  moveRule,
-  moveOf,
-  persistRule,
-  persistOf,
-};
+ghost use Rattle.machine.specs.Rules.{effectRule, effectOf, passRule, entryAt, moveRule, moveOf};
+ghost use Rattle.machine.specs.Rules.{persistRule, persistOf};
 ghost use Rattle.machine.specs.Fit.{Named, Shallow, Roomy};
 
 // The rule against an entry's effect; 0 where none stands against it.
@@ -123,11 +115,17 @@ pub(crate) fn move_entry(s: State, t: Thread, i: u8) -> State
         × Named mostLocations (entryAt (buffer s (t .0)) i) × Roomy s ⌝ }
     ensures { λ r. ⌜ r ≡ moveOf s (t .0) i ⌝ }
 {
-    let u = s;
+    let mut u = s;
     let at = t.0 as usize;
-    let w = u.buffers[at * INSTRUCTIONS + (i as usize)];
+    let base = at * INSTRUCTIONS;
+    let n = u.waiting[at];
+    let b = u.buffers;
+    let w = b[base + (i as usize)];
     let e = w.entry;
-    take_effect(change::take_out(s, t, i), t, e)
+    let closed = change::close_entries(b, base + (i as usize), base + (n as usize));
+    u.buffers = closed;
+    u.waiting[at] = n - 1;
+    take_effect(u, t, e)
 }
 
 // The rule against persisting a location's oldest entry; 0 where none stands against it.
@@ -146,10 +144,15 @@ pub(crate) fn persist(s: State, l: Location) -> State
     requires { ⌜ (l .0 < mostLocations) × (0 < queueLen s (l .0)) × (queueLen s (l .0) ≤ room) ⌝ }
     ensures { λ r. ⌜ r ≡ persistOf s (l .0) ⌝ }
 {
-    let v = s;
+    let mut u = s;
     let at = l.0 as usize;
-    let word = look::word_or(v.held[at * ROOM], v.marks[at * ROOM], v.words[at]);
-    let mut u = change::dequeue(s, l);
+    let base = at * ROOM;
+    let n = u.lengths[at];
+    let word = look::word_or(u.held[base], u.marks[base], u.words[at]);
+    let end = base + (n as usize);
+    change::close_words(&mut u.held, base, end);
+    change::close_marks(&mut u.marks, base, end);
+    u.lengths[at] = n - 1;
     u.words[at] = word;
     u
 }

@@ -64,7 +64,8 @@ fn judge_run(c: Case) -> Judged
     let mut i: usize = 0;
     while i < n {
         let k = run.steps[i];
-        let broken = steps::rule(p, s, k);
+        let b = s.buffers;
+        let broken = steps::rule(p, b, &s.issued, &s.waiting, &s.marks, &s.lengths, k);
         if broken != 0 {
             return Judged {
                 verdict: Verdict::Illegal(broken, i),

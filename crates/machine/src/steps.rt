@@ -17,9 +17,12 @@ use cases::sizes::CODE;
 use cases::sizes::LOCATIONS;
 use cases::sizes::THREADS;
 ghost use mathlib.Core.Path.{_≡_};
+ghost use lib.ListN.{length};
 ghost use Rattle.cases.specs.Checks.{stepFault};
-ghost use Rattle.machine.specs.Rules.{ruleOf, nextOf, startOf};
-ghost use Rattle.machine.specs.Fit.{Fits};
+ghost use Rattle.machine.specs.Sizes.{mostSlots};
+ghost use Rattle.machine.specs.Rules.{ruleIn, ruleOf, nextOf, startOf};
+ghost use Rattle.machine.specs.Fit.{Fits, ProgramFits, Shallow};
+ghost use Rattle.machine.specs.Offer.{Movable};
 ghost use Rattle.machine.specs.Judge.{rulingNo, steppedOf, stepOf, startedOf};
 
 // What is said of a step: legal, a rule broken, or the input refused.
@@ -69,20 +72,29 @@ pub fn start_of(p: Program) -> State
 }
 
 // The rule that a step breaks; 0 where it is legal.
-pub(crate) fn rule(p: Program, s: State, k: Step) -> u8
-    requires { ⌜ Fits p s × (stepFault p k ≡ 0) ⌝ }
-    ensures { λ r. ⌜ r ≡ ruleOf p s k ⌝ }
+pub(crate) fn rule<'a>(
+    p: Program,
+    buffers: [Waiting; CODE],
+    issued: &'a [u8; THREADS],
+    waiting: &'a [u8; THREADS],
+    marks: &'a [u8; SLOTS],
+    lengths: &'a [u8; LOCATIONS],
+    k: Step,
+) -> u8
+    requires { ⌜ ProgramFits p × Movable buffers (now waiting) × Shallow (now lengths)
+        × (length (now marks) ≡ mostSlots) × (stepFault p k ≡ 0) ⌝ }
+    ensures { λ r. ⌜ r
+        ≡ ruleIn p buffers (now (issued .entry)) (now (waiting .entry)) (now (marks .entry))
+        (now (lengths .entry)) k ⌝ }
 {
-    let u = s;
     let code = k.code;
     if code == 0 {
-        return issue::issue_rule(p, &u.issued, &u.waiting, &u.marks, &u.lengths, k.thread);
+        return issue::issue_rule(p, issued, waiting, marks, lengths, k.thread);
     }
     if code == 1 {
-        let b = u.buffers;
-        return moves::move_rule(b, &u.waiting, &u.marks, &u.lengths, k.thread, k.position);
+        return moves::move_rule(buffers, waiting, marks, lengths, k.thread, k.position);
     }
-    moves::persist_rule(&u.lengths, k.location)
+    moves::persist_rule(lengths, k.location)
 }
 
 // The state after a legal step. Not tested again: the walk takes millions of them.
@@ -129,7 +141,9 @@ fn step_in(p: Program, s: State, k: Step) -> Stepped
             state: s,
         };
     }
-    let broken = rule(p, s, k);
+    let u = s;
+    let b = u.buffers;
+    let broken = rule(p, b, &u.issued, &u.waiting, &u.marks, &u.lengths, k);
     if broken != 0 {
         return Stepped {
             ruling: Ruling::Broken(broken),

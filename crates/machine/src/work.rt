@@ -12,25 +12,14 @@ use cases::sizes::INSTRUCTIONS;
 use cases::sizes::LOCATIONS;
 use cases::sizes::THREADS;
 ghost use mathlib.Core.Path.{_≡_};
-ghost use Prim.Native.Nat.{ℕ, _+_, _*_, _<_, _≤_};
+ghost use Prim.Native.Nat.{_+_, _*_, _<_, _≤_};
 ghost use lib.ListN.{getD};
 ghost use Rattle.cases.specs.Sizes.{mostThreads, mostInstructions, mostLocations, mostCode};
-ghost use Rattle.machine.specs.View.{bufferIn, bufferLen, queueLen, issuedOf};
+ghost use Rattle.machine.specs.View.{bufferIn, queueLen, issuedOf};
 ghost use Rattle.machine.specs.Rules.{countAt};
 ghost use Rattle.machine.specs.Fit.{sumTo, Fits};
-ghost use Rattle.machine.specs.Work.{
-  unissuedWeight,
-  waitingWeight,
-  weighCode,
-  weighBuffer,
-  codeLeft,
-  threadWork,
-  work,
-  weighedNo,
-  weighedWork,
-  workOf,
-  fullOf,
-};
+ghost use Rattle.machine.specs.Work.{unissuedWeight, waitingWeight, weighCode, weighBuffer, codeLeft};
+ghost use Rattle.machine.specs.Work.{threadWork, work, weighedNo, weighedWork, workOf, fullOf};
 
 // The work left, or the number of the refusal.
 pub enum Weighed {

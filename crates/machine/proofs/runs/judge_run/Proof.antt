@@ -3,7 +3,9 @@ use Prim.Native.Nat.{_-_}
 use mathlib.Core.Path.{sym, _∙_}
 use borrow.Author.Needs.{needs}
 use native.Mathlib.Omega.{arith}
+use Rattle.machine.specs.Rules.{ruleOf}
 use Rattle.machine.specs.Judge.{judgeRun, judged}
+use Rattle.machine.proofs.ReadyLaws.{rule-ready}
 use Rattle.machine.proofs.RunLaws.{JudgedSoFar, judging-start, judging-next, judging-here, judging-end}
 use Rattle.machine.proofs.runs.judge_run.Statement.{statement}
 use Rattle.machine.proofs.runs.judge_run.Tie as tie
@@ -33,17 +35,20 @@ element-copy-out-k : tie.Need-element-copy-out-k Inv-loop μ-loop
 element-copy-out-k c = let o = c .before .loop .inv in omega (arith, o .few)
 
 rule-requires : tie.Need-rule-requires Inv-loop μ-loop
-rule-requires c κs = let o = c .before .before .loop .inv in (o .fit, o .faultless _ (omega arith))
+rule-requires c κs =
+    let o = c .before .before .before .before .before .before .before .before .loop .inv in
+    rule-ready _ _ (o .fit) _ (o .faultless _ (omega arith))
 
 returns : tie.Need-returns Inv-loop μ-loop
-unfolding judgeRun judged
+unfolding judgeRun judged ruleOf
 returns c =
-    judging-here (c .before .before .before .before .loop .inv) (omega arith) _ (c .before .rule .ensures)
-    (c .if1 .taken)
+    let o = c .before .before .before .before .before .before .before .before .before .before .loop .inv in
+    judging-here o (omega arith) _ (c .before .rule .ensures) (c .if1 .taken)
 
 take-step-requires : tie.Need-take-step-requires Inv-loop μ-loop
+unfolding ruleOf
 take-step-requires c κs =
-    let o = c .before .before .before .before .loop .inv in
+    let o = c .before .before .before .before .before .before .before .before .before .before .loop .inv in
     (o .fit, o .faultless _ (omega arith), sym (c .before .rule .ensures) ∙ c .if1 .left)
 
 add-i : tie.Need-add-i Inv-loop μ-loop
@@ -53,10 +58,11 @@ loop-less : tie.Need-loop-less Inv-loop μ-loop
 loop-less c = search needs
 
 loop-again : tie.Need-loop-again Inv-loop μ-loop
+unfolding ruleOf
 loop-again c =
     let e = c .before in
-    judging-next (e .before .before .before .before .loop .inv) (omega arith) _
-    (sym (e .before .rule .ensures) ∙ e .if1 .left) (c .take-step .ensures)
+    let o = e .before .before .before .before .before .before .before .before .before .before .loop .inv in
+    judging-next o (omega arith) _ (sym (e .before .rule .ensures) ∙ e .if1 .left) (c .take-step .ensures)
 
 returns-2 : tie.Need-returns-2 Inv-loop μ-loop
 unfolding judgeRun judged

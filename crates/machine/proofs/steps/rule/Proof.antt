@@ -1,36 +1,38 @@
 -- `rule` meets its contract: each kind of step has what its rule asks for. Assumes nothing.
+use denote.Ref.{now}
 use native.Mathlib.Omega.{arith}
 use Rattle.cases.proofs.ChoiceLaws.{choices}
-use Rattle.machine.specs.Rules.{ruleOf}
-use Rattle.machine.proofs.ReadyLaws.{issue-rule-ready, move-rule-ready, persist-rule-ready}
+use Rattle.machine.specs.Rules.{ruleIn}
+use Rattle.machine.proofs.ReadyLaws.{issue-rule-ready, move-rule-ready, location-low}
 use Rattle.machine.proofs.steps.rule.Statement.{statement}
 use Rattle.machine.proofs.steps.rule.Tie as tie
 
 issue-rule-requires : tie.Need-issue-rule-requires
 issue-rule-requires c κs =
-    let e = c .before .before .before .before .before .before in
-    issue-rule-ready _ _ (e .pre .0) _ (e .pre .1) (omega arith)
+    let e = c .before in
+    issue-rule-ready _ (e .pre .0) _ (e .pre .4) (now (e .args .marks)) _ (e .pre .2) (e .pre .3) (omega arith)
 
 returns : tie.Need-returns
-unfolding ruleOf
+unfolding ruleIn
 returns c = search choices
 
 move-rule-requires : tie.Need-move-rule-requires
 move-rule-requires c κs =
-    let e = c .before .before .before .before .before .before .before in
-    move-rule-ready _ _ (e .pre .0) _ (e .pre .1) (omega arith)
+    let e = c .before .before in
+    move-rule-ready _ (e .pre .0) _ (e .pre .4) (now (e .args .marks)) _ (e .pre .2) (e .pre .3) _ _ (e .pre .1)
+    (omega arith)
 
 returns-2 : tie.Need-returns-2
-unfolding ruleOf
+unfolding ruleIn
 returns-2 c = search choices
 
 persist-rule-requires : tie.Need-persist-rule-requires
 persist-rule-requires c κs =
-    let e = c .before .before .before .before in
-    persist-rule-ready _ _ (e .pre .0) (e .args .k) (e .pre .1) (λ z. omega arith) (λ z. omega arith)
+    let e = c .before .before in
+    location-low _ (e .pre .0) (e .args .k) (e .pre .4) (λ z. omega arith) (λ z. omega arith)
 
 returns-3 : tie.Need-returns-3
-unfolding ruleOf
+unfolding ruleIn
 returns-3 c = search choices
 
 pub rule-spec : {M : Type 1} → statement M

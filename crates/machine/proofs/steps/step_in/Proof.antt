@@ -2,7 +2,10 @@
 use mathlib.Core.Path.{sym, _∙_}
 use borrow.Author.Needs.{needs}
 use Rattle.cases.proofs.ChoiceLaws.{choices}
+use Rattle.machine.specs.Rules.{ruleOf}
 use Rattle.machine.specs.Judge.{steppedOf, told}
+use Rattle.machine.proofs.JudgeLaws.{stepped-legal}
+use Rattle.machine.proofs.ReadyLaws.{rule-ready}
 use Rattle.machine.proofs.steps.step_in.Statement.{statement}
 use Rattle.machine.proofs.steps.step_in.Tie as tie
 
@@ -14,28 +17,30 @@ unfolding steppedOf told
 returns c = rw (← c .before .step-fault .ensures) (search choices)
 
 rule-requires : tie.Need-rule-requires
-rule-requires c κs = (c .before .before .pre, sym (c .before .step-fault .ensures) ∙ c .if1 .left)
+rule-requires c κs =
+    let e = c .before .before .before .before .before .before in
+    rule-ready _ _ (e .before .before .pre) _ (sym (e .before .step-fault .ensures) ∙ e .if1 .left)
 
 returns-2 : tie.Need-returns-2
-unfolding steppedOf told
+unfolding steppedOf told ruleOf
 returns-2 c =
-    rw (← c .before .rule .ensures, ← c .before .before .before .step-fault .ensures) (search choices)
+    let e = c .before .before .before .before .before .before .before .before .before in
+    rw (← c .before .rule .ensures, ← e .step-fault .ensures) (search choices)
 
 take-step-requires : tie.Need-take-step-requires
+unfolding ruleOf
 take-step-requires c κs =
-    let e = c .before .before in (
-      e .before .before .pre,
-      sym (e .before .step-fault .ensures) ∙ e .if1 .left,
-      sym
-          (c .before .rule .ensures) ∙ c .if2 .left,
-    )
+    let e = c .before .before .before .before .before .before .before .before in
+    let faultless = sym (e .before .step-fault .ensures) ∙ e .if1 .left in
+    (e .before .before .pre, faultless, sym (c .before .rule .ensures) ∙ c .if2 .left)
 
 returns-3 : tie.Need-returns-3
-unfolding steppedOf told
+unfolding told ruleOf
 returns-3 c =
-    let e = c .before .before .before in
-    rw (c .take-step .ensures, ← c .before .before .rule .ensures, ← e .before .step-fault .ensures)
-    (search choices)
+    let e = c .before .before .before .before .before .before .before .before .before in
+    let faultless = sym (e .before .step-fault .ensures) ∙ e .if1 .left in
+    let r = c .before in
+    stepped-legal _ _ _ _ faultless (sym (r .before .rule .ensures) ∙ r .if2 .left) (c .take-step .ensures)
 
 pub step-in-spec : {M : Type 1} → statement M
 step-in-spec =
