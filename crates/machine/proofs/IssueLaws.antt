@@ -13,13 +13,12 @@ use Rattle.cases.proofs.ChoiceLaws.{refuse-none}
 use Rattle.machine.specs.declared.cells.State.{State}
 use Rattle.machine.specs.declared.cells.Entry.the-variants.{Flush, FlushOpt, Sfence}
 use Rattle.machine.specs.Sizes.{room}
-use Rattle.machine.specs.View.{writeSlot, queue, queueLen, withQueue}
-use Rattle.machine.specs.View.{buffer, withBuffer, wordOf}
+use Rattle.machine.specs.View.{writeSlot, queue, queueLen}
+use Rattle.machine.specs.View.{buffer, wordOf}
 use Rattle.machine.specs.View.{withRegister, issuedOf, withIssued}
 use Rattle.machine.specs.Look.{newestIn, newestStore, queuedWord, loadOf}
 use Rattle.machine.specs.Rules.{countAt, instructionAt, issueRule, entryOf, loaded, exchanged, performed}
 use Rattle.machine.specs.Rules.{issueOf}
-use Rattle.machine.specs.Rules.{enqueue, await}
 use Rattle.machine.specs.Fit.{Fits, Named}
 use Rattle.machine.specs.Work.{unissuedWeight, waitingWeight, work}
 use Rattle.machine.proofs.KeepLaws.{fits-register}
@@ -86,16 +85,6 @@ module _ (p : Program) (s : State) (t : ℕ) (o : Spare p s t) (low : t < p .thr
       (rw (work-await p s (o .fit) t (omega arith) (omega arith)) (omega arith))
       refl
 
--- counting an instruction as issued before or after what it does is the same
-counted-first : (s : State) (t n : ℕ) (l : Location) (r : Register) (w : ℕ) (op : ℕ) → 1 ≤ op → op ≤ 8
-    → withIssued (performed s t (of op l r w)) t n ≡ performed (withIssued s t n) t (of op l r w)
-unfolding performed pick entryOf loaded exchanged loadOf queuedWord await enqueue withIssued withRegister
-    withBuffer withQueue
-counted-first s t n l r w =
-    each-operation
-    (λ op. withIssued (performed s t (of op l r w)) t n ≡ performed (withIssued s t n) t (of op l r w))
-    refl refl refl refl refl refl refl refl
-
 -- Issue
 module _ (p : Program) (s : State) (f : Fits p s) (t : ℕ)
     (legal : issueRule p (s .issued) (s .waiting) (s .marks) (s .lengths) t ≡ 0) where
@@ -109,26 +98,20 @@ module _ (p : Program) (s : State) (f : Fits p s) (t : ℕ)
   there : (t < p .threads) × InstructionFits p next
   there = f .program .instructions t (issuedOf s t) issue-left
 
-  issue-is : issueOf p s t ≡ performed (withIssued s t (issuedOf s t + 1)) t next
+  pub issue-fits : Fits p (issueOf p s t)
   unfolding issueOf
-  issue-is =
-      counted-first s t (issuedOf s t + 1) (next .location) (next .register) (next .word) (next .operation)
+  issue-fits =
+      performed-fits p (withIssued s t (issuedOf s t + 1)) t (counted-spare p s f t (there .0) issue-left)
+      (there .0) (next .location) (next .register) (next .word) (there .1 .low-location) (next .operation)
       (there .1 .some-operation) (there .1 .low-operation)
 
-  pub issue-fits : Fits p (issueOf p s t)
-  issue-fits =
-      rw issue-is
-      (performed-fits p (withIssued s t (issuedOf s t + 1)) t (counted-spare p s f t (there .0) issue-left)
-      (there .0) (next .location) (next .register) (next .word) (there .1 .low-location) (next .operation)
-      (there .1 .some-operation) (there .1 .low-operation))
-
   pub issue-work : work p (issueOf p s t) + 1 ≡ work p s
+  unfolding issueOf
   issue-work =
-      let a = performed-work p (withIssued s t (issuedOf s t + 1)) t
-      (counted-spare p s f t (there .0) issue-left)
+      performed-work p (withIssued s t (issuedOf s t + 1)) t (counted-spare p s f t (there .0) issue-left)
       (there .0) (next .location) (next .register) (next .word) (there .1 .low-location) (next .operation)
-      (there .1 .some-operation) (there .1 .low-operation) in
-      rw issue-is (a ∙ work-counted p s f t (there .0) issue-left)
+      (there .1 .some-operation) (there .1 .low-operation)
+      ∙ work-counted p s f t (there .0) issue-left
 
 -- what a load's register takes, from the queue's word and then the buffer's
 pub load-is : (s : State) (t : ℕ) (x : Instruction) (queued found : ℕ)

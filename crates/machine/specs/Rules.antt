@@ -97,7 +97,7 @@ performed s t x =
 
 unfoldable pub issueOf : Program → State → ℕ → State
 issueOf p s t =
-    withIssued (performed s t (instructionAt p t (issuedOf s t))) t (issuedOf s t + 1)
+    performed (withIssued s t (issuedOf s t + 1)) t (instructionAt p t (issuedOf s t))
 
 -- "A flush leaves only if its location's queue is empty, markers counted (else 27)." "An sfence leaves only if
 -- no queue holds a marker of that thread (else 28)."

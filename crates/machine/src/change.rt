@@ -1,21 +1,19 @@
-// What a step changes of a state: an entry joins the end of a queue or a buffer, or is taken out of it.
+// What a step changes of a state: an entry joins the end of a queue, or is taken out of a row of them.
 use crate::cells::Entry;
 use crate::cells::State;
 use crate::cells::Waiting;
 use crate::sizes::ROOM;
 use crate::sizes::SLOTS;
 use cases::case::Location;
-use cases::case::Thread;
 use cases::case::Write;
 use cases::sizes::CODE;
-use cases::sizes::INSTRUCTIONS;
 ghost use mathlib.Core.Path.{_≡_};
 ghost use Prim.Native.Nat.{_<_, _≤_};
 ghost use lib.ListN.{length};
-ghost use Rattle.cases.specs.Sizes.{mostThreads, mostInstructions, mostLocations, mostCode};
+ghost use Rattle.cases.specs.Sizes.{mostLocations, mostCode};
 ghost use Rattle.machine.specs.Sizes.{room, mostSlots};
 ghost use Rattle.machine.specs.View.{closeGap, queueLen};
-ghost use Rattle.machine.specs.View.{blankWaiting, bufferLen};
+ghost use Rattle.machine.specs.View.{blankWaiting};
 ghost use Rattle.machine.specs.Rules as rules;
 
 // An entry at the end of a location's queue.
@@ -30,19 +28,6 @@ pub(crate) fn enqueue(s: State, l: Location, word: u32, mark: u8) -> State
     u.held[end] = word;
     u.marks[end] = mark;
     u.lengths[at] = n + 1;
-    u
-}
-
-// An entry at the end of a thread's buffer.
-pub(crate) fn await_entry(s: State, t: Thread, e: Entry) -> State
-    requires { ⌜ (t .0 < mostThreads) × (bufferLen s (t .0) < mostInstructions) ⌝ }
-    ensures { λ r. ⌜ r ≡ rules.await s (t .0) e ⌝ }
-{
-    let mut u = s;
-    let at = t.0 as usize;
-    let n = u.waiting[at];
-    u.buffers[at * INSTRUCTIONS + (n as usize)] = Waiting { entry: e };
-    u.waiting[at] = n + 1;
     u
 }
 

@@ -1,6 +1,7 @@
 // Issue: which rule stands against a thread's next instruction, and what it does.
 use crate::cells::Entry;
 use crate::cells::State;
+use crate::cells::Waiting;
 use crate::change;
 use crate::look;
 use crate::sizes::PLACES;
@@ -20,7 +21,7 @@ ghost use Rattle.cases.specs.Sizes.{mostThreads, mostInstructions, mostLocation
 ghost use Rattle.machine.specs.Sizes.{room, mostSlots};
 ghost use Rattle.machine.specs.View.{queueLen, bufferLen, issuedOf};
 ghost use Rattle.machine.specs.Rules.{countAt, instructionAt, isBarrier, barrierRule, operationRule};
-ghost use Rattle.machine.specs.Rules.{issueRule, entryOf, loaded, exchanged, performed, issueOf};
+ghost use Rattle.machine.specs.Rules.{issueRule, entryOf, loaded, exchanged, performed, issueOf, await};
 ghost use Rattle.machine.specs.Fit.{Shallow};
 
 // Does an operation need what went before it to be done? Exchange and mfence do.
@@ -155,6 +156,21 @@ fn exchange(s: State, t: Thread, x: Instruction) -> State
     change::enqueue(u, l, x.word, 0)
 }
 
+// The instruction's entry joins the end of the thread's buffer.
+fn join_buffer(s: State, t: Thread, x: Instruction) -> State
+    requires { ⌜ (t .0 < mostThreads) × (x .register .0 < mostRegisters)
+        × (bufferLen s (t .0) < mostInstructions) ⌝ }
+    ensures { λ r. ⌜ r ≡ await s (t .0) (entryOf (s .registers) (t .0) x) ⌝ }
+{
+    let mut u = s;
+    let at = t.0 as usize;
+    let e = entry_of(&u.registers, t, x);
+    let n = u.waiting[at];
+    u.buffers[at * INSTRUCTIONS + (n as usize)] = Waiting { entry: e };
+    u.waiting[at] = n + 1;
+    u
+}
+
 // What an instruction does as it is issued; the one place that tells operations apart.
 fn perform(s: State, t: Thread, x: Instruction) -> State
     requires { ⌜ (t .0 < mostThreads) × (x .location .0 < mostLocations) × (x .register .0 < mostRegisters)
@@ -171,9 +187,7 @@ fn perform(s: State, t: Thread, x: Instruction) -> State
     if op == 8 {
         return s;
     }
-    let u = s;
-    let e = entry_of(&u.registers, t, x);
-    change::await_entry(u, t, e)
+    join_buffer(s, t, x)
 }
 
 // A thread's next instruction issued, where no rule stands against it.
@@ -186,11 +200,10 @@ pub(crate) fn issue(p: Program, s: State, t: Thread) -> State
     ensures { λ r. ⌜ r ≡ issueOf p s (t .0) ⌝ }
 {
     let q = p;
-    let v = s;
+    let mut u = s;
     let at = t.0 as usize;
-    let n = v.issued[at];
+    let n = u.issued[at];
     let x = q.code[at * INSTRUCTIONS + (n as usize)];
-    let mut u = perform(s, t, x);
     u.issued[at] = n + 1;
-    u
+    perform(u, t, x)
 }

@@ -1,5 +1,4 @@
 -- `issue` meets its contract. Assumes nothing.
-use mathlib.Core.Path.{refl}
 use Rattle.machine.specs.View.{withIssued}
 use Rattle.machine.specs.Rules.{issueOf}
 use borrow.Author.Needs.{needs}
@@ -27,18 +26,18 @@ mul-x-2 c = search needs
 element-copy-out-x : tie.Need-element-copy-out-x
 element-copy-out-x c = search needs
 
-perform-requires : tie.Need-perform-requires
-perform-requires c κs = search needs
-
 add-u : tie.Need-add-u
 add-u c = search needs
 
 element-write-u : tie.Need-element-write-u
 element-write-u c = search needs
 
+perform-requires : tie.Need-perform-requires
+perform-requires c κs = search needs
+
 returns : tie.Need-returns
 unfolding issueOf withIssued
-returns c = rw (c .perform .ensures) refl
+returns c = c .perform .ensures
 
 pub issue-spec : {M : Type 1} → statement M
 issue-spec =
@@ -51,7 +50,7 @@ issue-spec =
     add-x
     mul-x-2
     element-copy-out-x
-    perform-requires
     add-u
     element-write-u
+    perform-requires
     returns)

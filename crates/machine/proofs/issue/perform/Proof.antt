@@ -1,6 +1,5 @@
 -- `perform` meets its contract. Assumes nothing.
-use mathlib.Core.Path.{ap, _∙_}
-use Rattle.machine.specs.Rules.{await, performed}
+use Rattle.machine.specs.Rules.{performed}
 use Rattle.cases.proofs.ChoiceLaws.{choices}
 use borrow.Author.Needs.{needs}
 use Rattle.machine.proofs.issue.perform.Statement.{statement}
@@ -24,17 +23,12 @@ returns-3 : tie.Need-returns-3
 unfolding performed
 returns-3 c = search choices
 
-entry-of-requires : tie.Need-entry-of-requires
-entry-of-requires c κs = search needs
-
-await-entry-requires : tie.Need-await-entry-requires
-await-entry-requires c κs = search needs
+join-buffer-requires : tie.Need-join-buffer-requires
+join-buffer-requires c κs = search needs
 
 returns-4 : tie.Need-returns-4
 unfolding performed
-returns-4 c =
-    let waits = c .await-entry .ensures ∙ ap (await _ _) (c .before .entry-of .ensures) in
-    search choices
+returns-4 c = search choices
 
 pub perform-spec : {M : Type 1} → statement M
 perform-spec =
@@ -45,6 +39,5 @@ perform-spec =
     exchange-requires
     returns-2
     returns-3
-    entry-of-requires
-    await-entry-requires
+    join-buffer-requires
     returns-4)
