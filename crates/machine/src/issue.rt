@@ -171,7 +171,7 @@ fn join_buffer(s: State, t: Thread, x: Instruction) -> State
     u
 }
 
-// What an instruction does as it is issued; the one place that tells operations apart.
+// What an instruction does as it is issued; those that wait are told apart in `entry_of`.
 fn perform(s: State, t: Thread, x: Instruction) -> State
     requires { ⌜ (t .0 < mostThreads) × (x .location .0 < mostLocations) × (x .register .0 < mostRegisters)
         × (bufferLen s (t .0) < mostInstructions) × (queueLen s (x .location .0) < room) ⌝ }
