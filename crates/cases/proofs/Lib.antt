@@ -1,6 +1,8 @@
--- The laws of cases. Other crates can name Promises, and the laws of how definitions choose, alone.
+-- The laws of cases. Other crates can name Promises, and the laws that every layer needs, of how definitions
+-- choose and of what owning an array tells, alone.
 pub mod Promises
 pub mod ChoiceLaws
+pub mod ArrayLaws
 -- definitions' own laws: bytes, records, places, checks, drafts
 mod BytesLaws
 mod RecordLaws

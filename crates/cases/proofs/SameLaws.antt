@@ -2,9 +2,9 @@
 -- is the same. Assumes nothing.
 use Prim.Native.Nat.{ℕ, _+_, _<_, _≤_}
 use mathlib.Core.Path.{_≡_, refl, sym, _∙_}
-use mathlib.Core.List.{List, [], _∷_, map}
+use mathlib.Core.List.{List, [], _∷_}
 use mathlib.Core.Bool.{Bool, true, false}
-use lib.ListN.{length, getD, drop, length-map, drop-of-length-le}
+use lib.ListN.{length, getD, drop, drop-of-length-le}
 use lib.Seq.{drop-cons}
 use lib.Dec.{eqb}
 use borrow.Author.Tests.{eqb-true, eq-eqb}
@@ -20,10 +20,6 @@ use Rattle.cases.specs.Choice.{both}
 use Rattle.cases.specs.Writing.{sameList, sameFlag, sameInstruction, sameStep}
 use Rattle.cases.specs.Writing.{sameProgram, sameAsk, sameRun, sameCase}
 use Rattle.cases.proofs.ChoiceLaws.{both-true}
-
--- of an array of structs a proof is handed the length of what `map` makes of it
-pub unmapped : (X Y : Type 0) (f : X → Y) (l : List X) (n : ℕ) → length (map f l) ≡ n → length l ≡ n
-unmapped X Y f l n p = sym (length-map l f) ∙ p
 
 -- a loop has compared the first i of n elements: what is still to compare says what the whole lists say
 pub record SameSoFar {A : Type 0} (e : A → A → Bool) (a b : List A) (n i : ℕ) : Type 0 where

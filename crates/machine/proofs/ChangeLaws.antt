@@ -17,7 +17,8 @@ use Rattle.machine.specs.View.{blankWaiting, bufferIn, bufferLen, buffer
 use Rattle.machine.specs.Rules.{enqueue, await}
 use Rattle.machine.proofs.PartLaws.{length-part, put-push, put-without, shift-none, shift-next}
 use Rattle.machine.proofs.PartLaws.{length-without}
-use Rattle.machine.proofs.SlotLaws.{words-slots, marks-slots, length-slots, words-append, marks-append}
+use Rattle.machine.proofs.ViewLaws.{words-queue, marks-queue, length-queue}
+use Rattle.machine.proofs.SlotLaws.{words-append, marks-append}
 use Rattle.machine.proofs.SlotLaws.{words-drop, marks-drop}
 
 -- a loop closes the gap at `from` in a row of n and has come to i: the row is the one before, shifted so far
@@ -56,26 +57,7 @@ module _ {A : Type 0} {from end n : ℕ} {before row : List A} {i : ℕ} (o : Cl
   unfolding closeGap
   closing-end blank h = let e : i ≡ end = omega arith in rw (o .shifted, e)
 
--- a queue's words, its marks, its length
-module _ (held marks lengths : List ℕ) (l : ℕ) (h : l * room + getD lengths l 0 ≤ length held)
-    (k : l * room + getD lengths l 0 ≤ length marks) where
-  alike : length (part (l * room) (getD lengths l 0) held) ≡ length (marksIn marks lengths l)
-  unfolding marksIn
-  alike = length-part _ _ held h ∙ sym (length-part _ _ marks k)
-
-  words-queue : wordsOf (queueIn held marks lengths l) ≡ part (l * room) (getD lengths l 0) held
-  unfolding queueIn
-  words-queue = words-slots _ _ alike
-
-  marks-queue : marksOf (queueIn held marks lengths l) ≡ part (l * room) (getD lengths l 0) marks
-  unfolding queueIn marksIn
-  marks-queue = marks-slots _ _ alike
-
-  pub length-queue : length (queueIn held marks lengths l) ≡ getD lengths l 0
-  unfolding queueIn
-  length-queue = length-slots _ _ alike ∙ length-part _ _ held h
-
--- the same of a queue with one more at its end
+-- the words, marks and length of a queue with one more at its end
 module _ (held marks lengths : List ℕ) (l : ℕ) (h : l * room + getD lengths l 0 < length held)
     (k : l * room + getD lengths l 0 < length marks) (x : Slot) where
   words-push : put 0 (l * room) (getD lengths l 0) (wordsOf (queueIn held marks lengths l ++ (x ∷ []))) held
@@ -90,7 +72,7 @@ module _ (held marks lengths : List ℕ) (l : ℕ) (h : l * room + getD lengths 
 
   marks-push : put 0 (l * room) (getD lengths l 0) (marksOf (queueIn held marks lengths l ++ (x ∷ []))) marks
       ≡ set marks (l * room + getD lengths l 0) (x .mark)
-  unfolding marksOf
+  unfolding marksOf marksIn
   marks-push =
       rw (
         marks-append (queueIn held marks lengths l) (x ∷ []),
@@ -117,7 +99,7 @@ module _ (held marks lengths : List ℕ) (l : ℕ) (h : l * room + getD lengths 
 
   marks-pop : put 0 (l * room) (getD lengths l 0) (marksOf (drop 1 (queueIn held marks lengths l))) marks
       ≡ closeGap 0 (l * room) (l * room + getD lengths l 0) marks
-  unfolding without
+  unfolding without marksIn
   marks-pop =
       rw (marks-drop 1 (queueIn held marks lengths l), marks-queue held marks lengths l h k)
       (put-without 0 marks (l * room) _ 0 some k ∙ rw add-zero)

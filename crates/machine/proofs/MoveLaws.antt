@@ -1,7 +1,7 @@
 -- Laws of moving and persisting: what an entry's name tells, the entry at a position, and each rule and effect
 -- from what the code has at hand. Assumes nothing.
 use Prim.Native.Nat.{ℕ, _+_, _*_, _≤_, _<_}
-use mathlib.Core.Path.{_≡_, sym, ap, _∙_}
+use mathlib.Core.Path.{_≡_, refl, sym, ap, _∙_}
 use mathlib.Core.List.{List, _∷_}
 use native.Mathlib.Omega.{arith}
 use native.Mathlib.Nat.{add-zero}
@@ -9,8 +9,8 @@ use lib.ListN.{length, getD, drop}
 use Rattle.cases.specs.declared.case.Location.{Location}
 use Rattle.cases.specs.declared.case.Write.{Write}
 use Rattle.cases.specs.Sizes.{mostInstructions, mostLocations}
-use Rattle.cases.proofs.ChoiceLaws.{pick-here, pick-next, refuse-next}
-use borrow.Author.Tests.{eq-eqb, ne-eqb, lt-leb}
+use Rattle.cases.proofs.ChoiceLaws.{pick-here, pick-next, refuse-here, refuse-next}
+use borrow.Author.Tests.{eq-eqb, ne-eqb, lt-leb, lt-ltb, le-ltb}
 use Rattle.machine.specs.declared.cells.State.{State}
 use Rattle.machine.specs.declared.cells.Waiting.{Waiting}
 use Rattle.machine.specs.declared.cells.Entry.{Entry}
@@ -38,6 +38,16 @@ module _ {n : ℕ} {e : Entry} (h : Named n e) where
   pub flush-opt-named : (l : Location) → e ≡ FlushOpt l → l .0 < n
   unfolding Named
   flush-opt-named l p = rw p at h
+
+-- effectRule of a flush: something is queued; nothing is
+module _ (marks lengths : List ℕ) (t : ℕ) (l : Location) (e : Entry) (is : e ≡ Flush l) where
+  pub flush-held : 0 < getD lengths (l .0) 0 → 27 ≡ effectRule marks lengths t e
+  unfolding effectRule
+  flush-held h = rw is (refuse-here _ 27 0 (lt-ltb _ _ h))
+
+  pub flush-free : getD lengths (l .0) 0 ≤ 0 → 0 ≡ effectRule marks lengths t e
+  unfolding effectRule
+  flush-free h = rw is (refuse-next _ 0 27 0 (le-ltb _ _ h) refl)
 
 -- Roomy: there is room for an entry of a location; taking an entry out of a buffer leaves it
 pub roomy-is : (s : State) → Roomy s → (l : ℕ) → l < mostLocations → (l < mostLocations) × (queueLen s l < room)

@@ -3,21 +3,17 @@ use Prim.Native.Nat.{ℕ, zero, suc, _+_, _-_, _≤_, _<_}
 use mathlib.Core.Path.{_≡_, refl, sym, _∙_}
 use mathlib.Core.Logic.{_⊎_, inl, inr}
 use mathlib.Core.Bool.{Bool, true, false}
-use mathlib.Core.List.{List, [], _∷_, _++_, append-nil, append-assoc, map}
+use mathlib.Core.List.{List, [], _∷_, _++_, append-nil, append-assoc}
 use native.Mathlib.Omega.{arith}
 use native.Mathlib.Nat.{add-zero, add-suc, suc-add, sub-zero, zero-sub, suc-sub-suc}
 use native.Mathlib.Numerals.{add-one}
 use borrow.Author.Tests.{ltb-true, ltb-false}
 use lib.Dec.{ltb}
 use lib.ListN.{length, getD, set, take, drop, replicate, length-append, length-take, length-drop}
-use lib.ListN.{length-replicate, take-append-drop, length-map, drop-of-length-le}
+use lib.ListN.{length-replicate, take-append-drop, drop-of-length-le}
 use lib.Seq.{take-nil, sets, sets-eq, drop-cons, take-suc, take-at, drop-at, getD-drop, getD-take}
 use lib.Seq.{drop-drop, take-take, take-set-le, drop-set-lt, getD-set-other, length-take-le}
 use Rattle.machine.specs.View.{part, put, shift, closeGap, without}
-
--- of an array of structs a proof is handed the length of what `map` makes of it
-pub unmapped : (X Y : Type 0) (f : X → Y) (l : List X) (n : ℕ) → length (map f l) ≡ n → length l ≡ n
-unmapped X Y f l n p = sym (length-map l f) ∙ p
 
 pub lt-or-ge : (a b : ℕ) → (a < b) ⊎ (b ≤ a)
 lt-or-ge a b = go (ltb a b) refl

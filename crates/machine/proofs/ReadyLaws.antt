@@ -18,7 +18,8 @@ use Rattle.machine.specs.declared.cells.Entry.{Entry}
 use Rattle.machine.specs.declared.cells.Entry.the-variants.{Store, Flush, FlushOpt, Sfence}
 use Rattle.machine.specs.Sizes.{room, mostSlots}
 use Rattle.machine.specs.View.{queueLen, buffer, bufferIn, bufferLen, issuedOf}
-use Rattle.machine.specs.Rules.{countAt, instructionAt, issueRule, moveRule, persistRule, ruleIn, ruleOf}
+use Rattle.machine.specs.Rules.{countAt, instructionAt, issueRule, moveRule, persistRule, ruleIn}
+use Rattle.machine.specs.Rules.{ruleOf}
 use Rattle.machine.specs.Rules.{entryAt}
 use Rattle.machine.specs.Fit.{ProgramFits, Fits, Named, AllNamed, Shallow, Roomy, unissued, due}
 use Rattle.machine.specs.Offer.{Movable}
@@ -174,6 +175,5 @@ module _ (p : Program) (s : State) (f : Fits p s) where
           let range = r .low-location (omega arith) in (
             low,
             persist-there p s f (k .location .0) range (persist-legal h g),
-            queue-within p s f
-                (k .location .0) low,
+            queue-within p s f (k .location .0) low,
           )

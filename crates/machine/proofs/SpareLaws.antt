@@ -1,7 +1,7 @@
 -- A fit with room for one entry more in thread t's buffer and in each queue. Taking an entry out of a buffer,
 -- or counting an instruction as issued, leaves it; putting one in uses it up. Assumes nothing.
 use Prim.Native.Nat.{ℕ, zero, suc, _+_, _-_, _≤_, _<_}
-use mathlib.Core.Path.{_≡_, refl, sym, _∙_}
+use mathlib.Core.Path.{_≡_, refl, _∙_}
 use mathlib.Core.Logic.{_≢_}
 use mathlib.Core.List.{List, [], _∷_, _++_}
 use native.Mathlib.Omega.{arith}
@@ -14,14 +14,15 @@ use Rattle.machine.specs.declared.cells.State.{State}
 use Rattle.machine.specs.declared.cells.Waiting.{Waiting}
 use Rattle.machine.specs.declared.cells.Entry.{Entry}
 use Rattle.machine.specs.Sizes.{room}
-use Rattle.machine.specs.View.{Slot, marksOf, marksIn, queue, queueIn, queueLen, without}
+use Rattle.machine.specs.View.{Slot, marksOf, marksIn, queue, queueLen, without}
 use Rattle.machine.specs.View.{buffer, bufferLen, withBuffer, withRegister, issuedOf, withIssued}
 use Rattle.machine.specs.Rules.{countAt, enqueue, await}
 use Rattle.machine.specs.Fit.{sumTo, unissued, due, Fits, Named, AllNamed, AllBorne}
 use Rattle.machine.proofs.SumLaws.{sum-change}
-use Rattle.machine.proofs.PartLaws.{length-without, length-part}
-use Rattle.machine.proofs.SlotLaws.{marks-append, marks-slots}
-use Rattle.machine.proofs.ViewLaws.{queue-length, buffer-length, bufferLen-same, sized-issued}
+use Rattle.machine.proofs.PartLaws.{length-without}
+use Rattle.machine.proofs.SlotLaws.{marks-append}
+use Rattle.machine.proofs.ViewLaws.{marks-queue, queue-length, buffer-length, bufferLen-same}
+use Rattle.machine.proofs.ViewLaws.{sized-issued}
 use Rattle.machine.proofs.ViewLaws.{issued-same, issued-other}
 use Rattle.machine.proofs.KeepLaws.{queue-within, buffer-within, fits-queue, due-buffer, fits-buffer}
 use Rattle.machine.proofs.KeepLaws.{fits-register}
@@ -57,15 +58,14 @@ pub record Spare (p : Program) (s : State) (t : ℕ) : Type 0 where
   pub place : bufferLen s t + unissued p s t < mostInstructions
   pub queues : (l : ℕ) → l < mostLocations → queueLen s l + due p s < room
 
--- the marks of a queue are its slots' marks
-pub marks-queue : (p : Program) (s : State) (f : Fits p s) (l : ℕ) → l < mostLocations
+-- the marks of a queue of a state that fits are its slots' marks
+pub marks-fit : (p : Program) (s : State) (f : Fits p s) (l : ℕ) → l < mostLocations
     → marksOf (queue s l) ≡ marksIn (s .marks) (s .lengths) l
-unfolding queueIn marksIn
-marks-queue p s f l low =
+marks-fit p s f l low =
     let h = f .sized .held-long in
     let m = f .sized .marks-long in
     let n = queue-within p s f l low in
-    marks-slots _ _ (length-part _ _ _ (omega arith) ∙ sym (length-part _ _ _ (omega arith)))
+    marks-queue (s .held) (s .marks) (s .lengths) l (omega arith) (omega arith)
 
 -- an entry taken out of a buffer
 module _ (p : Program) (s : State) (f : Fits p s) (t i : ℕ) (low : t < p .threads)
@@ -186,7 +186,7 @@ module _ (p : Program) (s : State) (t : ℕ) (o : Spare p s t) where
       let k : length (queue s l ++ (h ∷ [])) ≡ suc (queueLen s l) = simp (length-append, n) (omega arith) in
       let w = o .queues l (omega arith) in
       fits-queue p s (o .fit) l low (queue s l ++ (h ∷ [])) (omega arith)
-      (rw (marks-append (queue s l) (h ∷ []), marks-queue p s (o .fit) l (omega arith))
+      (rw (marks-append (queue s l) (h ∷ []), marks-fit p s (o .fit) l (omega arith))
       (borne-append (p .threads) _ _ (o .fit .borne l (omega arith)) (unfold AllBorne marksOf in (few, tt))))
 
   pub register-spare : (r w : ℕ) → Spare p (withRegister s t r w) t

@@ -26,7 +26,7 @@ use Rattle.machine.specs.Fit.{Fits, Named, AllBorne, due, unissued}
 use Rattle.machine.specs.Work.{waitingWeight, work, cost}
 use Rattle.machine.proofs.ViewLaws.{queue-length, buffer-length}
 use Rattle.machine.proofs.KeepLaws.{queue-within, buffer-within, fits-queue, fits-word}
-use Rattle.machine.proofs.SpareLaws.{Spare, named-get, marks-queue, taken-spare}
+use Rattle.machine.proofs.SpareLaws.{Spare, named-get, marks-fit, taken-spare}
 use Rattle.machine.proofs.SpareLaws.{enqueue-fits}
 use Rattle.machine.proofs.WorkLaws.{work-queue, work-enqueue, work-without}
 use Rattle.machine.proofs.WorkLaws.{work-word}
@@ -106,7 +106,7 @@ module _ (p : Program) (s : State) (f : Fits p s) (l : ℕ) (low : l < p .locati
       let d : due p (withWord s l (wordOr h (wordOf s l))) ≡ due p s = unfold withWord due unissued in refl in
       let w = f .few-queued l in-range in
       let b : AllBorne (p .threads) (marksOf (h ∷ q))
-      = rw (sym (marks-queue p s f l in-range) ∙ ap marksOf e) at (f .borne l in-range) in
+      = rw (sym (marks-fit p s f l in-range) ∙ ap marksOf e) at (f .borne l in-range) in
       fits-queue p _ (fits-word p s f l (wordOr h (wordOf s l))) l low q (omega arith)
       (borne-rest (p .threads) h q b)
 

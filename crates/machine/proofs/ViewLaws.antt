@@ -15,7 +15,8 @@ use Rattle.machine.specs.View.{withQueue, buffer, bufferIn, bufferLen, w
 use Rattle.machine.specs.View.{withWord, withRegister, withIssued, issuedOf}
 use Rattle.machine.specs.Fit.{Sized}
 use Rattle.machine.proofs.PartLaws.{length-part, part-put-same, part-put-other, lt-or-ge}
-use Rattle.machine.proofs.SlotLaws.{slots-apart, length-slots, length-words, length-marks}
+use Rattle.machine.proofs.SlotLaws.{words-slots, marks-slots, slots-apart, length-slots, length-words}
+use Rattle.machine.proofs.SlotLaws.{length-marks}
 
 -- row k, of which n are in use, lies before row l or behind it
 apart : (k l n : ℕ) → k ≢ l → n ≤ room → (k * room + n ≤ l * room) ⊎ (l * room + room ≤ k * room)
@@ -35,18 +36,32 @@ apart-buffers k t n h m = go (lt-or-ge k t)
     go (inl w) = inl (omega arith)
     go (inr w) = inr (let v : (t ≡ k → ⊥) = (λ y. h (sym y)) in omega arith)
 
+-- A queue's words, its marks, its length
+module _ (held marks lengths : List ℕ) (l : ℕ) (h : l * room + getD lengths l 0 ≤ length held)
+    (k : l * room + getD lengths l 0 ≤ length marks) where
+  alike : length (part (l * room) (getD lengths l 0) held) ≡ length (marksIn marks lengths l)
+  unfolding marksIn
+  alike = length-part _ _ held h ∙ sym (length-part _ _ marks k)
+
+  pub words-queue : wordsOf (queueIn held marks lengths l) ≡ part (l * room) (getD lengths l 0) held
+  unfolding queueIn
+  words-queue = words-slots _ _ alike
+
+  pub marks-queue : marksOf (queueIn held marks lengths l) ≡ marksIn marks lengths l
+  unfolding queueIn
+  marks-queue = marks-slots _ _ alike
+
+  pub length-queue : length (queueIn held marks lengths l) ≡ getD lengths l 0
+  unfolding queueIn
+  length-queue = length-slots _ _ alike ∙ length-part _ _ held h
+
 -- A queue put: that one, every other, and the rest of the state
 module _ (s : State) (z : Sized s) (l : ℕ) (low : l < mostLocations) (n : queueLen s l ≤ room) where
   pub queue-length : length (queue s l) ≡ queueLen s l
-  unfolding queueIn marksIn
   queue-length =
       let h = z .held-long in
       let m = z .marks-long in
-      let w : length (part (l * room) (queueLen s l) (s .held)) ≡ queueLen s l
-      = length-part _ _ _ (omega arith) in
-      let k : length (part (l * room) (queueLen s l) (s .marks)) ≡ queueLen s l
-      = length-part _ _ _ (omega arith) in
-      length-slots _ _ (w ∙ sym k) ∙ w
+      length-queue (s .held) (s .marks) (s .lengths) l (omega arith) (omega arith)
 
   module _ (q : List Slot) (m : length q ≤ room) where
     pub queueLen-same : queueLen (withQueue s l q) l ≡ length q

@@ -1,6 +1,7 @@
 -- Document 01, "The machine's steps": a single step given with a state, and a run, judged.
 --   Leads p s ks u    the steps ks, each legal where it is taken, lead from the state s to u
 --   StopsAt p s ks n u   the first n of them do, and the next one breaks a rule there
+--   Faultless p ks    5 and 8 have nothing against any of the steps
 --   stepOf c s k      a single step
 --   judgeFrom p i s ks, judgeOf c, judgeBytes s   a run; i steps are taken already
 -- Assumes nothing.

@@ -19,7 +19,7 @@ use Rattle.machine.specs.declared.cells.Entry.{Entry}
 use Rattle.machine.specs.declared.cells.Entry.the-variants.{Store, Flush, FlushOpt, Sfence}
 use Rattle.machine.specs.declared.look.Found.{Found}
 use Rattle.machine.specs.declared.look.Found.the-variants.{At, Nothing}
-use Rattle.machine.specs.View.{Slot, queue, buffer, wordOf, marksIn}
+use Rattle.machine.specs.View.{Slot, queueOf, queue, buffer, wordOf, marksIn}
 
 -- a write's word; of a marker the word before
 unfoldable pub wordOr : Slot → ℕ → ℕ
@@ -43,7 +43,7 @@ newestStore l (e ∷ b) w = newestStore l b (storedOr l (e .entry) w)
 -- "A load takes the newest store to that location in its own buffer, else the newest write in the location's
 -- queue, else the persistent word."
 unfoldable pub queuedWord : State → ℕ → ℕ
-queuedWord s l = newestIn (queue s l) (wordOf s l)
+queuedWord s l = newestIn (queue s (queueOf l)) (wordOf s l)
 
 unfoldable pub loadOf : State → ℕ → ℕ → ℕ
 loadOf s t l = newestStore l (buffer s t) (queuedWord s l)

@@ -25,14 +25,11 @@ use Rattle.machine.specs.declared.cells.Waiting.{Waiting}
 use Rattle.machine.specs.declared.cells.Entry.{Entry}
 use Rattle.machine.specs.declared.cells.Entry.the-variants.{Store, Flush, FlushOpt, Sfence}
 use Rattle.machine.specs.Sizes.{mostSlots, mostPlaces}
-use Rattle.machine.specs.View.{Slot, writeSlot, markerSlot, without, queue, withQueue, blankWaiting}
+use Rattle.machine.specs.View.{Slot, queueOf, writeSlot, markerSlot}
+use Rattle.machine.specs.View.{without, queue, withQueue, blankWaiting}
 use Rattle.machine.specs.View.{bufferIn, buffer, withBuffer, wordOf, withWord}
 use Rattle.machine.specs.View.{registerIn, withRegister, issuedOf, withIssued}
 use Rattle.machine.specs.Look.{wordOr, queuedWord, loadOf, marked, firstBar}
-
--- which queue a location's entries go through: its own
-abbrev pub queueOf : ℕ → ℕ
-queueOf l = l
 
 -- one more at a queue's end, at a buffer's end
 unfoldable pub enqueue : State → ℕ → Slot → State

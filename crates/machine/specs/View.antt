@@ -4,6 +4,7 @@
 --   part base n xs          the first n of xs from base on
 --   put blank base n q xs   xs with q from base on; of the n that stood there, those given up are blank
 --   shift, closeGap         one taken out of a row: those behind it each one place down
+--   queueOf l               the queue that location l's entries go through
 --   queue, withQueue        the entries of a queue, oldest first; the state with others there
 --   buffer, withBuffer      the entries of a store buffer, oldest first; the state with others there
 -- Assumes nothing.
@@ -62,6 +63,10 @@ marksOf [] = []
 marksOf (h ∷ q) = h .mark ∷ marksOf q
 
 -- Queues
+-- which queue a location's entries go through: its own
+abbrev pub queueOf : ℕ → ℕ
+queueOf l = l
+
 abbrev pub queueLen : State → ℕ → ℕ
 queueLen s l = getD (s .lengths) l 0
 

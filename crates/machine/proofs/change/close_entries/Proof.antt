@@ -3,7 +3,7 @@ use Prim.Native.Nat.{_-_}
 use native.Mathlib.Omega.{arith}
 use Rattle.cases.specs.Sizes.{mostCode}
 use Rattle.machine.specs.View.{blankWaiting}
-use Rattle.machine.proofs.PartLaws.{unmapped}
+use Rattle.cases.proofs.ArrayLaws.{unmapped}
 use Rattle.machine.proofs.ChangeLaws.{Closing, closing-start, closing-next, closing-end}
 use borrow.Author.Needs.{needs}
 use Rattle.machine.proofs.change.close_entries.Statement.{statement}

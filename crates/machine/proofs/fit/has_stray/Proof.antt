@@ -6,7 +6,7 @@ use lib.ListN.{length}
 use Rattle.cases.specs.Sizes.{mostCode}
 use Rattle.cases.proofs.ChoiceLaws.{told}
 use Rattle.machine.specs.View.{bufferIn}
-use Rattle.machine.proofs.PartLaws.{unmapped}
+use Rattle.cases.proofs.ArrayLaws.{unmapped}
 use Rattle.machine.proofs.CheckLaws.{StraySoFar, stray-start, stray-next, stray-here, stray-end}
 use borrow.Author.Needs.{needs}
 use Rattle.machine.proofs.fit.has_stray.Statement.{statement}

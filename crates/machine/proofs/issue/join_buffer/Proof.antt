@@ -3,7 +3,7 @@ use mathlib.Core.Path.{_≡_, ap, _∙_}
 use lib.ListN.{length}
 use Rattle.cases.specs.Sizes.{mostCode}
 use Rattle.machine.specs.Rules.{await}
-use Rattle.machine.proofs.PartLaws.{unmapped}
+use Rattle.cases.proofs.ArrayLaws.{unmapped}
 use Rattle.machine.proofs.ChangeLaws.{await-is}
 use borrow.Author.Needs.{needs}
 use Rattle.machine.proofs.issue.join_buffer.Statement.{statement}

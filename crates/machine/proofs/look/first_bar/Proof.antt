@@ -5,7 +5,7 @@ use native.Mathlib.Omega.{arith}
 use lib.ListN.{length}
 use Rattle.cases.specs.Sizes.{mostCode}
 use Rattle.cases.proofs.ChoiceLaws.{told}
-use Rattle.machine.proofs.PartLaws.{unmapped}
+use Rattle.cases.proofs.ArrayLaws.{unmapped}
 use Rattle.machine.proofs.LookLaws.{BarSoFar, bar-start, bar-next, bar-here, bar-end}
 use borrow.Author.Needs.{needs}
 use Rattle.machine.proofs.look.first_bar.Statement.{statement}

@@ -4,7 +4,7 @@ use mathlib.Core.Path.{_≡_}
 use native.Mathlib.Omega.{arith}
 use lib.ListN.{length}
 use Rattle.cases.specs.Sizes.{mostCode}
-use Rattle.machine.proofs.PartLaws.{unmapped}
+use Rattle.cases.proofs.ArrayLaws.{unmapped}
 use Rattle.machine.proofs.LookLaws.{StoreSoFar, store-start, store-next, store-end}
 use borrow.Author.Needs.{needs}
 use Rattle.machine.proofs.look.newest_store.Statement.{statement}

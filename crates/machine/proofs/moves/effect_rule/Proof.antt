@@ -1,7 +1,8 @@
 -- `effect_rule` meets its contract. Assumes nothing.
+use native.Mathlib.Omega.{arith}
 use Rattle.machine.specs.Rules.{effectRule}
 use Rattle.cases.proofs.ChoiceLaws.{choices}
-use Rattle.machine.proofs.MoveLaws.{flush-named}
+use Rattle.machine.proofs.MoveLaws.{flush-named, flush-held, flush-free}
 use borrow.Author.Needs.{needs}
 use Rattle.machine.proofs.moves.effect_rule.Statement.{statement}
 use Rattle.machine.proofs.moves.effect_rule.Tie as tie
@@ -34,12 +35,10 @@ unfolding effectRule
 returns c = rw (c .enum-told .given .1)
 
 returns-2 : tie.Need-returns-2
-unfolding effectRule
-returns-2 c = rw (c .before .before .before .before .e .given .1) (search choices)
+returns-2 c = flush-held _ _ _ _ _ (c .before .before .before .before .e .given .1) (omega arith)
 
 returns-3 : tie.Need-returns-3
-unfolding effectRule
-returns-3 c = rw (c .before .before .before .before .e .given .1) (search choices)
+returns-3 c = flush-free _ _ _ _ _ (c .before .before .before .before .e .given .1) (omega arith)
 
 returns-4 : tie.Need-returns-4
 unfolding effectRule

@@ -2,7 +2,7 @@
 use mathlib.Core.Path.{_≡_}
 use lib.ListN.{length}
 use Rattle.cases.specs.Sizes.{mostCode}
-use Rattle.machine.proofs.PartLaws.{unmapped}
+use Rattle.cases.proofs.ArrayLaws.{unmapped}
 use Rattle.machine.proofs.ChangeLaws.{take-out-is}
 use Rattle.machine.proofs.MoveLaws.{entry-named, roomy-buffer, move-taken}
 use borrow.Author.Needs.{needs}

@@ -3,7 +3,7 @@ use borrow.Author.Needs.{needs}
 use Rattle.cases.proofs.ChoiceLaws.{choices, told, told-true}
 use Rattle.machine.specs.Fit.{Sized}
 use Rattle.machine.specs.Judge as judge
-use Rattle.machine.proofs.PartLaws.{unmapped}
+use Rattle.cases.proofs.ArrayLaws.{unmapped}
 use Rattle.machine.proofs.FitLaws.{readable-fits}
 use Rattle.machine.proofs.steps.step.Statement.{statement}
 use Rattle.machine.proofs.steps.step.Tie as tie

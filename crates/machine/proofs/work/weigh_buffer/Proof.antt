@@ -5,7 +5,7 @@ use native.Mathlib.Omega.{arith}
 use lib.ListN.{length}
 use Rattle.cases.specs.Sizes.{mostCode}
 use Rattle.machine.specs.View.{bufferIn}
-use Rattle.machine.proofs.PartLaws.{unmapped}
+use Rattle.cases.proofs.ArrayLaws.{unmapped}
 use Rattle.machine.proofs.WeighLaws.{BufferSoFar, weigh-start, weigh-next, weigh-end}
 use borrow.Author.Needs.{needs}
 use Rattle.machine.proofs.work.weigh_buffer.Statement.{statement}

@@ -6,7 +6,7 @@ use lib.ListN.{length}
 use Rattle.cases.specs.Sizes.{mostCode}
 use Rattle.machine.specs.Fit.{unissued}
 use Rattle.machine.specs.Work.{codeLeft}
-use Rattle.machine.proofs.PartLaws.{unmapped}
+use Rattle.cases.proofs.ArrayLaws.{unmapped}
 use Rattle.machine.proofs.WeighLaws.{CodeSoFar, code-start, code-next, code-end}
 use borrow.Author.Needs.{needs}
 use Rattle.machine.proofs.work.weigh_code.Statement.{statement}

@@ -2,7 +2,7 @@
 use Rattle.machine.specs.Fit.{Sized}
 use Rattle.machine.specs.Work.{workOf}
 use Rattle.cases.proofs.ChoiceLaws.{choices, told, told-true}
-use Rattle.machine.proofs.PartLaws.{unmapped}
+use Rattle.cases.proofs.ArrayLaws.{unmapped}
 use Rattle.machine.proofs.FitLaws.{readable-fits}
 use Rattle.machine.proofs.WeighLaws.{work-told}
 use borrow.Author.Needs.{needs}
