@@ -5,7 +5,7 @@ use crate::frame::{slot, Frame};
 use crate::reading::{read, Reading};
 use crate::writing::write;
 
-const UNTOUCHED: u8 = 0xA5;
+pub const UNTOUCHED: u8 = 0xA5;
 
 pub struct Answer {
     pub reading: Reading,
@@ -40,13 +40,18 @@ impl Answer {
         let read = &self.reading;
         let mut line = format!("{} {} {} ", read.number, read.offset, self.unread);
         line += &format!("{} {} ", self.number, self.length);
-        if self.lent.is_empty() {
-            line.push('-');
-        }
-        push_hex(&mut line, &self.lent);
+        push_buffer(&mut line, &self.lent);
         line.push('\n');
         line
     }
+}
+
+/// A lent buffer, `-` where it has no bytes.
+pub fn push_buffer(line: &mut String, lent: &[u8]) {
+    if lent.is_empty() {
+        line.push('-');
+    }
+    push_hex(line, lent);
 }
 
 pub fn push_hex(line: &mut String, bytes: &[u8]) {

@@ -15,6 +15,17 @@ pub struct Instruction {
     pub word: u32,
 }
 
+impl Instruction {
+    pub fn new(operation: u8, location: u8, register: u8, word: u32) -> Instruction {
+        Instruction {
+            operation,
+            location,
+            register,
+            word,
+        }
+    }
+}
+
 #[derive(Clone, Copy, Debug, Default, PartialEq, Eq)]
 pub struct Step {
     pub thread: u8,

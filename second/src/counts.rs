@@ -3,7 +3,7 @@
 use crate::answer::{answer, Answer};
 use crate::frame::{Frame, FIELDS_END};
 use crate::marks::{mark_of, FAMILIES};
-use crate::tally::{self, row, Row};
+use crate::tally::{row, Counts, Row};
 
 /// A sort of frames: its name, the least number of them, and how one is told.
 struct Sort {
@@ -89,7 +89,7 @@ const SORTS: [Sort; 24] = [
 /// Files are cut at every length up to the longest file's.
 const LENGTHS: usize = 1329;
 
-pub struct Counts {
+pub struct FrameCounts {
     frames: u64,
     read: [u64; 10],
     sorts: [u64; SORTS.len()],
@@ -98,9 +98,9 @@ pub struct Counts {
     faults: Vec<String>,
 }
 
-impl Counts {
-    pub fn new() -> Counts {
-        Counts {
+impl FrameCounts {
+    pub fn new() -> FrameCounts {
+        FrameCounts {
             frames: 0,
             read: [0; 10],
             sorts: [0; SORTS.len()],
@@ -108,19 +108,6 @@ impl Counts {
             lengths: [false; LENGTHS],
             faults: Vec::new(),
         }
-    }
-
-    pub fn take(&mut self, frame: &Frame) {
-        let answer = answer(frame);
-        self.frames += 1;
-        self.read[usize::from(answer.reading.number)] += 1;
-        for (sort, count) in SORTS.iter().zip(&mut self.sorts) {
-            *count += u64::from((sort.is)(frame, &answer));
-        }
-        if let Some(seen) = self.lengths.get_mut(frame.input.len()) {
-            *seen = true;
-        }
-        self.check(frame, &answer);
     }
 
     /// A marked frame has one right answer; a case as it was read always fits.
@@ -141,8 +128,22 @@ impl Counts {
             }
         }
     }
+}
 
-    /// Every count with its name and its minimum.
+impl Counts<Frame> for FrameCounts {
+    fn take(&mut self, frame: &Frame) {
+        let answer = answer(frame);
+        self.frames += 1;
+        self.read[usize::from(answer.reading.number)] += 1;
+        for (sort, count) in SORTS.iter().zip(&mut self.sorts) {
+            *count += u64::from((sort.is)(frame, &answer));
+        }
+        if let Some(seen) = self.lengths.get_mut(frame.input.len()) {
+            *seen = true;
+        }
+        self.check(frame, &answer);
+    }
+
     fn rows(&self) -> Vec<Row> {
         let mut rows = Vec::new();
         for (number, &count) in self.read.iter().enumerate() {
@@ -159,13 +160,11 @@ impl Counts {
         rows
     }
 
-    pub fn table(&self) -> String {
-        tally::table(&self.rows(), self.frames)
+    fn frames(&self) -> u64 {
+        self.frames
     }
 
-    /// Wrong answers and minima not met.
-    pub fn faults(&self) -> Vec<String> {
-        let missing = tally::missing(&self.rows());
-        [self.faults.clone(), missing].concat()
+    fn wrong(&self) -> Vec<String> {
+        self.faults.clone()
     }
 }

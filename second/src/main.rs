@@ -1,4 +1,4 @@
-//! The independent second judge: cases and the machine in plain Rust, answers by frames.
+//! The independent second judge: cases, the machine and the question in plain Rust, answers by frames.
 
 mod answer;
 mod case;
@@ -9,6 +9,7 @@ mod frame;
 mod generate;
 mod machine;
 mod marks;
+mod question;
 mod reading;
 mod refusal;
 mod tally;
@@ -18,26 +19,45 @@ mod writing;
 #[cfg(test)]
 mod tests;
 
+use counts::FrameCounts;
 use frame::Frame;
-use std::io::{self, BufReader, BufWriter, StdinLock, Write};
+use generate::Take;
+use question::counts::QueryCounts;
+use question::frame::Query;
+use std::io::{self, BufReader, BufWriter, StdinLock, StdoutLock, Write};
 use std::process::ExitCode;
+use tally::Counts;
+use trial::counts::TrialCounts;
 use trial::frame::Trial;
 
 const USAGE: &str = "usage: second answer | second generate SEED COUNT | second counts, \
-                     or machine- in front of the mode";
+                     or machine- or question- in front of the mode";
 
 type Stream = BufReader<StdinLock<'static>>;
+type Out = BufWriter<StdoutLock<'static>>;
 
 fn main() -> ExitCode {
     let words: Vec<String> = std::env::args().skip(1).collect();
     let words: Vec<&str> = words.iter().map(String::as_str).collect();
     let done = match words[..] {
         ["answer"] => answer_all(Frame::read_from, |frame| answer::answer(frame).line()),
-        ["counts"] => count_cases(),
-        ["generate", seed, count] => generate_cases(seed, count),
+        ["counts"] => count(Frame::read_from, FrameCounts::new()),
+        ["generate", seed, count] => generate(generate::frames, Frame::write_to, seed, count),
         ["machine-answer"] => answer_all(Trial::read_from, |one| trial::answer::answer(one).line()),
-        ["machine-counts"] => count_machine(),
-        ["machine-generate", seed, count] => generate_machine(seed, count),
+        ["machine-counts"] => count(Trial::read_from, TrialCounts::new()),
+        ["machine-generate", seed, count] => {
+            generate(trial::generate::frames, Trial::write_to, seed, count)
+        }
+        ["question-answer"] => {
+            answer_all(Query::read_from, |one| question::answer::answer(one).line())
+        }
+        ["question-counts"] => count(Query::read_from, QueryCounts::new()),
+        ["question-generate", seed, count] => {
+            let write = |case: &Vec<Query>, out: &mut Out| {
+                case.iter().try_for_each(|query| query.write_to(out))
+            };
+            generate(question::generate::cases, write, seed, count)
+        }
         _ => Err(usage()),
     };
     match done {
@@ -78,42 +98,29 @@ fn answer_all<F>(
     out.flush()
 }
 
-fn generate_cases(seed: &str, count: &str) -> io::Result<()> {
+fn generate<F>(
+    frames: fn(u64, u64, Take<F>) -> io::Result<()>,
+    write: fn(&F, &mut Out) -> io::Result<()>,
+    seed: &str,
+    count: &str,
+) -> io::Result<()> {
     let mut out = BufWriter::new(io::stdout().lock());
-    generate::frames(number(seed)?, number(count)?, |frames| {
-        frames.iter().try_for_each(|frame| frame.write_to(&mut out))
+    frames(number(seed)?, number(count)?, &mut |part| {
+        part.iter().try_for_each(|one| write(one, &mut out))
     })?;
     out.flush()
 }
 
-fn generate_machine(seed: &str, count: &str) -> io::Result<()> {
-    let mut out = BufWriter::new(io::stdout().lock());
-    trial::generate::frames(number(seed)?, number(count)?, |trials| {
-        trials.iter().try_for_each(|trial| trial.write_to(&mut out))
-    })?;
-    out.flush()
-}
-
-fn count_cases() -> io::Result<()> {
-    let mut counts = counts::Counts::new();
-    each(Frame::read_from, |frame| {
+fn count<F>(
+    read: fn(&mut Stream) -> io::Result<Option<F>>,
+    mut counts: impl Counts<F>,
+) -> io::Result<()> {
+    each(read, |frame| {
         counts.take(&frame);
         Ok(())
     })?;
-    say(&counts.table(), &counts.faults())
-}
-
-fn count_machine() -> io::Result<()> {
-    let mut counts = trial::counts::Counts::new();
-    each(Trial::read_from, |trial| {
-        counts.take(&trial);
-        Ok(())
-    })?;
-    say(&counts.table(), &counts.faults())
-}
-
-fn say(table: &str, faults: &[String]) -> io::Result<()> {
-    print!("{table}");
+    print!("{}", counts.table());
+    let faults = counts.faults();
     if faults.is_empty() {
         return Ok(());
     }

@@ -14,7 +14,7 @@ pub fn row(name: &str, count: u64, least: u64) -> Row {
     }
 }
 
-pub fn table(rows: &[Row], frames: u64) -> String {
+fn table(rows: &[Row], frames: u64) -> String {
     let mut table = format!("{:<34} {:>8} {:>8}\n", "frames", "count", "least");
     for Row { name, count, least } in rows {
         table += &format!("{name:<34} {count:>8} {least:>8}\n");
@@ -22,8 +22,30 @@ pub fn table(rows: &[Row], frames: u64) -> String {
     table + &format!("{:<34} {:>8}\n", "all frames", frames)
 }
 
+/// The counts of one stream's frames.
+pub trait Counts<F> {
+    fn take(&mut self, frame: &F);
+
+    /// Every count with its name and its minimum.
+    fn rows(&self) -> Vec<Row>;
+
+    fn frames(&self) -> u64;
+
+    /// Wrong answers.
+    fn wrong(&self) -> Vec<String>;
+
+    fn table(&self) -> String {
+        table(&self.rows(), self.frames())
+    }
+
+    /// Wrong answers and minima not met.
+    fn faults(&self) -> Vec<String> {
+        [self.wrong(), missing(&self.rows())].concat()
+    }
+}
+
 /// What is said of each count that is too low.
-pub fn missing(rows: &[Row]) -> Vec<String> {
+fn missing(rows: &[Row]) -> Vec<String> {
     let few = rows.iter().filter(|row| row.count < row.least);
     few.map(|Row { name, count, least }| format!("{name}: {count} frames, at least {least} wanted"))
         .collect()

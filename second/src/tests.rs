@@ -1,7 +1,9 @@
 //! Hand-made byte strings with their numbers, and what the frames must have in common.
 
 mod machine;
+mod question;
 mod states;
+mod walk;
 
 use crate::answer::answer;
 use crate::case::Case;
@@ -128,7 +130,7 @@ fn fields_are_all_different() {
 #[test]
 fn form_agrees_with_reading_back() {
     let mut all = Vec::new();
-    let kept = frames(7, 30000, |part| {
+    let kept = frames(7, 30000, &mut |part| {
         all.extend(part);
         Ok(())
     });

@@ -1,6 +1,6 @@
 //! Writing a case into a lent buffer.
 
-use crate::case::Case;
+use crate::case::{Case, Step};
 use crate::form::fits;
 use crate::refusal::{BUFFER_TOO_SHORT, READS_FROM_NO_BYTES};
 
@@ -37,11 +37,19 @@ pub fn encode(case: &Case) -> Vec<u8> {
             put(&mut file, 5, &[&[thread, least]]);
         }
     }
-    for step in case.steps.iter().take(case.count.into()) {
-        let fields = [step.thread, step.code, step.position, step.location];
-        put(&mut file, 6, &[&fields]);
-    }
+    let steps = case.steps.len().min(case.count.into());
+    file.extend(encode_steps(&case.steps[..steps]));
     file
+}
+
+/// The records of a run.
+pub fn encode_steps(run: &[Step]) -> Vec<u8> {
+    let mut records = Vec::new();
+    for step in run {
+        let fields = [step.thread, step.code, step.position, step.location];
+        put(&mut records, 6, &[&fields]);
+    }
+    records
 }
 
 fn encode_instructions(case: &Case, file: &mut Vec<u8>) {

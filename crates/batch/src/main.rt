@@ -1,12 +1,12 @@
 // Answers a stream of frames from standard input, a line each: how the frame's bytes read, and how the case
-// that comes of them is written; or how its run is judged, or a single step ruled. second/README.md has the
-// frames and the lines; the second judge answers the same stream.
+// that comes of them is written; how its run is judged, or a single step ruled; or what its question is
+// answered. second/README.md has the frames and the lines; the second judge answers the same stream.
 use crate::print::ROOM;
 use cases::reader;
 use cases::writer;
 use libc::STDIN_FILENO;
-use libc::STDOUT_FILENO;
 
+mod asked;
 mod change;
 mod numbers;
 mod print;
@@ -24,6 +24,9 @@ const INPUT: usize = 65536;
 
 // A frame of the machine begins with this number and its job; the other frames begin with a length.
 const MACHINE: u32 = 2147483648;
+
+// The job that asks the question; those before it judge.
+const QUESTION: u32 = 3;
 
 fn number_at(head: [u8; HEAD], at: usize) -> u32
     requires { ⌜ at + 4 ≤ 16 ⌝ }
@@ -45,11 +48,7 @@ fn answer(bytes: &[u8], field: usize, value: u32, room: usize)
     let w = cases::write(change::changed(c, field, value), &mut lent[..room]);
     print::number(writer::wrote_number(w) as usize);
     print::number(writer::wrote_length(w));
-    if room == 0 {
-        io::write_all(STDOUT_FILENO, b"-");
-    }
-    print::bytes(lent, room);
-    io::write_all(STDOUT_FILENO, b"\n");
+    print::buffer(lent, room);
 }
 
 // Answers for the first n bytes of a buffer. By value: what filled it is forgotten here, and that it is as long
@@ -94,13 +93,12 @@ fn machine_frame(head: [u8; HEAD], job: u32) -> bool {
     if io::read_full(STDIN_FILENO, &mut input[..n]) < n {
         return false;
     }
-    trial::answer(
-        job,
-        input,
-        n,
-        number_at(head, 8) as usize,
-        number_at(head, 12),
-    )
+    let third = number_at(head, 8) as usize;
+    let fourth = number_at(head, 12);
+    if job == QUESTION {
+        return asked::answer(input, n, third, fourth);
+    }
+    trial::answer(job, input, n, third, fourth)
 }
 
 // Answers one frame; false where the stream has ended.

@@ -12,7 +12,7 @@ fn glyph(digit: u8) -> u8
 }
 
 // The first `count` bytes in hex, two digits each.
-pub fn bytes(lent: [u8; ROOM], count: usize)
+fn bytes(lent: [u8; ROOM], count: usize)
     requires { ⌜ count ≤ 2048 ⌝ }
 {
     let mut text = [0u8; 4096];
@@ -24,6 +24,17 @@ pub fn bytes(lent: [u8; ROOM], count: usize)
         i = i + 1;
     }
     io::write_all(STDOUT_FILENO, &text[..2 * count]);
+}
+
+// Ends a line with those bytes, or with `-` where there are none.
+pub fn buffer(lent: [u8; ROOM], count: usize)
+    requires { ⌜ count ≤ 2048 ⌝ }
+{
+    if count == 0 {
+        io::write_all(STDOUT_FILENO, b"-");
+    }
+    bytes(lent, count);
+    io::write_all(STDOUT_FILENO, b"\n");
 }
 
 pub fn number(n: usize) {

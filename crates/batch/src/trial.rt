@@ -1,4 +1,5 @@
 // Frames of the machine: a run judged, or a single step given with a state in memory.
+use crate::INPUT;
 use crate::change;
 use crate::print;
 use crate::print::ROOM;
@@ -16,8 +17,6 @@ use machine::steps;
 use machine::work;
 use machine::work::Weighed;
 ghost use Prim.Native.Nat.{_≤_};
-
-const INPUT: usize = 65536;
 
 fn print_weight(w: Weighed) {
     let refused = work::weighed_number(w);
@@ -37,8 +36,7 @@ fn print_line(number: u8, place: usize, c: Case, weighed: State, out: State) {
     print_weight(machine::full_length(c));
     let mut raw = [0u8; ROOM];
     state::to_bytes(&mut raw, out);
-    print::bytes(raw, STATE_BYTES);
-    io::write_all(STDOUT_FILENO, b"\n");
+    print::buffer(raw, STATE_BYTES);
 }
 
 // Judges bytes.

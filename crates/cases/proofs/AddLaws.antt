@@ -1,11 +1,10 @@
 -- Each kind of record behind a sound draft: where it stands, and that the draft stays sound. Assumes nothing.
 use Prim.Native.Nat.{ℕ, _+_, _*_, _<_, _≤_}
 use mathlib.Core.Path.{_≡_, refl, _∙_}
-use mathlib.Core.Logic.{_≢_}
 use mathlib.Core.Bool.{false}
 use lib.ListN.{length, length-set}
-use lib.Dec.{eqb, leb, ltb}
-use borrow.Author.Tests.{ltb-false, eqb-false, eq-eqb, ne-eqb}
+use lib.Dec.{eqb, leb}
+use borrow.Author.Tests.{ltb-false, eq-eqb}
 use native.Mathlib.Omega.{arith}
 use Rattle.cases.specs.declared.case.Program.{Program}
 use Rattle.cases.specs.declared.case.Write.{Write}
@@ -17,30 +16,24 @@ use Rattle.cases.specs.declared.record.Header.{Header}
 use Rattle.cases.specs.declared.record.Record.{Record}
 use Rattle.cases.specs.declared.record.Record.the-variants.{Declare, First, Instruct, Want, Passed, Take}
 use Rattle.cases.specs.Sizes.{mostInstructions}
-use Rattle.cases.specs.Choice.{pick, both, refuse}
+use Rattle.cases.specs.Choice.{both}
 use Rattle.cases.specs.Checks.{misplaced, disordered, countOf, faultOf}
 use Rattle.cases.specs.Checks.{instructionOut, instructionLeft, passedOut, stepOut, stepLeft}
 use Rattle.cases.specs.Draft.{addOf, withProgram, withAsk, withRun}
 use Rattle.cases.specs.Draft.{withFirst, withInstruction, withWant, withPassed, withStep}
 use Rattle.cases.specs.Places.{fromFirsts, fromCode, fromWants, fromPassed, fromSteps}
 use Rattle.cases.specs.Places.{headerPlace, firstPlace, instructionPlace, wantPlace, passedPlace}
-use Rattle.cases.proofs.ChoiceLaws.{either-false, refuse-none}
+use Rattle.cases.proofs.ChoiceLaws.{refuse-none}
 use Rattle.cases.proofs.PlaceLaws.{place-first, place-code, place-want, place-passed, place-step}
 use Rattle.cases.proofs.PlaceLaws.{first-same, first-other, instruction-same, instruction-other}
 use Rattle.cases.proofs.PlaceLaws.{want-same, want-other, passed-same, passed-other}
 use Rattle.cases.proofs.PlaceLaws.{step-same, step-other, place-same}
 use Rattle.cases.proofs.CountLaws.{count-more, count-few, count-front}
 use Rattle.cases.proofs.FitLaws.{RecordFits, Grown}
+use Rattle.cases.proofs.DraftLaws.{placed-kind, in-turn}
 use Rattle.cases.proofs.DraftLaws.{first-placed, instruction-placed, want-placed}
 use Rattle.cases.proofs.DraftLaws.{passed-placed, step-placed}
 use Rattle.cases.proofs.SoundLaws.{ProgramSized, Sound, Added, added}
-
--- a record behind the first that is not misplaced: kinds don't go down, and it is not of kind 1
-placed-kind : (before kind : ℕ) → 1 ≤ before → misplaced before kind ≡ false → (before ≤ kind) × (kind ≢ 1)
-unfolding misplaced pick
-placed-kind before kind b h =
-    let e = either-false (eqb kind 1) (ltb kind before) (rw (ne-eqb before 0 (λ z. omega arith)) at h) in
-    (ltb-false kind before (e .1), eqb-false kind 1 (e .0))
 
 -- a record in order: its number is not below the next, where its kind is the draft's
 ordered : (d : Draft) (kind n : ℕ) → disordered d kind n ≡ false → d .kind ≡ kind → d .next ≤ n
@@ -59,11 +52,6 @@ module _ (d : Draft) (front : ℕ) (s : Sound d front) where
   sized : ProgramSized program
   sized = s .sized .of-program
 
-  -- a record that passed 4 comes at its kind's places
-  module _ (kind later : ℕ) (h : refuse (misplaced (d .kind) kind) 4 later ≡ 0) where
-    in-turn : d .kind ≤ kind
-    in-turn = placed-kind (d .kind) kind (s .fronts .begun) (refuse-none _ 3 _ h .0) .0
-
   -- the first content of a location
   pub add-first : (w : Write) → faultOf d (First w) ≡ 0 → Added d (First w)
   unfolding faultOf addOf withProgram withFirst headerPlace instructionPlace RecordFits
@@ -74,7 +62,7 @@ module _ (d : Draft) (front : ℕ) (s : Sound d front) where
       let low = first-placed d (sized .few-threads) (sized .few-locations) w h in
       added d front s (First w) (fromFirsts + w .location .0)
       (record {
-        reached = s .fronts .to-firsts (in-turn 2 _ h) (w .location .0) (ordered d 2 _ (in-order .0));
+        reached = s .fronts .to-firsts (in-turn d (First w) h) (w .location .0) (ordered d 2 _ (in-order .0));
         inside = omega arith;
         here =
             place-first _ _ (w .location .0) refl low
@@ -120,7 +108,7 @@ module _ (d : Draft) (front : ℕ) (s : Sound d front) where
       let few : countOf program t < mostInstructions = placed .1 in
       added d front s (Instruct t x) (fromCode + (t .0 * mostInstructions + countOf program t))
       (record {
-        reached = s .fronts .to-code (in-turn 3 _ h) (t .0) (ordered d 3 _ (in-order .0));
+        reached = s .fronts .to-code (in-turn d (Instruct t x) h) (t .0) (ordered d 3 _ (in-order .0));
         inside = omega (arith, placed .0);
         here =
             place-code _ _ (t .0 * mostInstructions + countOf program t) refl (omega (arith, placed .0))
@@ -164,7 +152,7 @@ module _ (d : Draft) (front : ℕ) (s : Sound d front) where
       let low = want-placed d (sized .few-threads) (sized .few-locations) w h in
       added d front s (Want w) (fromWants + w .location .0)
       (record {
-        reached = s .fronts .to-wants (in-turn 4 _ h) (w .location .0) (ordered d 4 _ (in-order .0));
+        reached = s .fronts .to-wants (in-turn d (Want w) h) (w .location .0) (ordered d 4 _ (in-order .0));
         inside = omega arith;
         here =
             place-want _ _ (w .location .0) refl low
@@ -203,7 +191,7 @@ module _ (d : Draft) (front : ℕ) (s : Sound d front) where
       let low = passed-placed d (sized .few-threads) (sized .few-locations) t n h in
       added d front s (Passed t n) (fromPassed + t .0)
       (record {
-        reached = s .fronts .to-passed (in-turn 5 _ h) (t .0) (ordered d 5 _ (in-order .0));
+        reached = s .fronts .to-passed (in-turn d (Passed t n) h) (t .0) (ordered d 5 _ (in-order .0));
         inside = omega arith;
         here =
             place-passed _ _ (t .0) refl low

@@ -2,7 +2,7 @@
 use Prim.Native.Nat.{ℕ, zero, suc, _+_, _-_, _*_, _/_, _%_, _<_, _≤_}
 use mathlib.Core.Path.{_≡_, refl, sym, ap, _∙_}
 use mathlib.Core.Logic.{_≢_}
-use mathlib.Core.List.{List, [], _∷_}
+use mathlib.Core.List.{List, [], _∷_, _++_}
 use mathlib.Core.Bool.{Bool, true, false, not}
 use lib.ListN.{length, getD, take, drop}
 use lib.Seq.{getD-drop}
@@ -15,9 +15,30 @@ use Rattle.cases.specs.Record.{payloadOf, payloadBytes, recordBytes, rec
 use Rattle.cases.specs.Record.{headerIn, writeIn, instructionIn, stepIn}
 use Rattle.cases.proofs.ChoiceLaws.{refuse-none}
 
--- what is left of bytes is bytes
+-- what is left of bytes is bytes; so are the first of them, and two lists of bytes joined
 pub bytes-drop : (n : ℕ) (t : List ℕ) → IsBytes t → IsBytes (drop n t)
 bytes-drop n t b i = rw (getD-drop n t i 0) (b (n + i))
+
+pub bytes-take : (n : ℕ) (t : List ℕ) → IsBytes t → IsBytes (take n t)
+bytes-take zero t b i = omega arith
+bytes-take (suc n) [] b i = omega arith
+bytes-take (suc n) (a ∷ t) b zero = b 0
+bytes-take (suc n) (a ∷ t) b (suc i) = bytes-take n t (λ j. b (suc j)) i
+
+pub bytes-join : (t u : List ℕ) → IsBytes t → IsBytes u → IsBytes (t ++ u)
+bytes-join [] u b c i = c i
+bytes-join (a ∷ t) u b c zero = b 0
+bytes-join (a ∷ t) u b c (suc i) = bytes-join t u (λ j. b (suc j)) c i
+
+-- two lists that start with the same n bytes have the same numbers there
+module _ (t u : List ℕ) (n : ℕ) (same : (i : ℕ) → i < n → getD u i 0 ≡ getD t i 0) where
+  pub half-same : (i : ℕ) → i + 1 < n → half u i ≡ half t i
+  unfolding half
+  half-same i h = rw (same i (omega arith), same (i + 1) h)
+
+  pub word-same : (i : ℕ) → i + 3 < n → wordAt u i ≡ wordAt t i
+  unfolding wordAt
+  word-same i h = rw (half-same i (omega arith), half-same (i + 2) (omega arith))
 
 -- Bytes joined to a number, and the number put into bytes again
 low : (a x : ℕ) → a < 256 → (a + 256 * x) % 256 ≡ a

@@ -1,10 +1,11 @@
--- Laws of `addOf`: a faultless record finds its place, and the case so far keeps within the most threads and
--- locations. Assumes nothing.
+-- Laws of `addOf`: a faultless record comes in turn and finds its place, and the case so far keeps within the
+-- most threads and locations. Assumes nothing.
 use Prim.Native.Nat.{ℕ, _<_, _≤_}
-use mathlib.Core.Path.{_≡_}
-use mathlib.Core.Bool.{Bool}
-use lib.Dec.{leb}
-use borrow.Author.Tests.{leb-false}
+use mathlib.Core.Path.{_≡_, refl}
+use mathlib.Core.Logic.{_≢_}
+use mathlib.Core.Bool.{Bool, true, false}
+use lib.Dec.{eqb, leb, ltb}
+use borrow.Author.Tests.{leb-false, ltb-false, eqb-true, eqb-false, ne-eqb}
 use native.Mathlib.Omega.{arith}
 use Rattle.cases.specs.declared.case.Thread.{Thread}
 use Rattle.cases.specs.declared.case.Write.{Write}
@@ -15,12 +16,64 @@ use Rattle.cases.specs.declared.record.Header.{Header}
 use Rattle.cases.specs.declared.record.Record.{Record}
 use Rattle.cases.specs.declared.record.Record.the-variants.{Declare, First, Instruct, Want, Passed, Take}
 use Rattle.cases.specs.Sizes.{mostThreads, mostInstructions, mostLocations, mostSteps}
-use Rattle.cases.specs.Choice.{either, refuse}
-use Rattle.cases.specs.Checks.{headerOut, instructionOut, passedOut, countOf, faultOf}
+use Rattle.cases.specs.Choice.{pick, either, refuse}
+use Rattle.cases.specs.Record.{kindOf}
+use Rattle.cases.specs.Checks.{misplaced, headerOut, instructionOut, passedOut, countOf, faultOf}
 use Rattle.cases.specs.Draft.{withSizes, withFirst, withInstruction, withProgram, withAsk, withRun}
 use Rattle.cases.specs.Draft.{addOf}
 use Rattle.cases.proofs.ChoiceLaws.{either-false, refuse-none}
 use Rattle.cases.proofs.FitLaws.{outside-low}
+
+-- a record behind the first that is not misplaced: kinds don't go down, and it is not of kind 1
+pub placed-kind : (before kind : ℕ) → 1 ≤ before → misplaced before kind ≡ false → (before ≤ kind) × (kind ≢ 1)
+unfolding misplaced pick
+placed-kind before kind b h =
+    let e = either-false (eqb kind 1) (ltb kind before) (rw (ne-eqb before 0 (λ z. omega arith)) at h) in
+    (ltb-false kind before (e .1), eqb-false kind 1 (e .0))
+
+-- any record that is not misplaced, the first too: kinds don't go down
+placed : (before kind : ℕ) → misplaced before kind ≡ false → before ≤ kind
+placed before kind h = go (eqb before 0) refl
+  where
+    go : (b : Bool) → eqb before 0 ≡ b → before ≤ kind
+    go true e = omega (arith, eqb-true before 0 e)
+    go false e = placed-kind before kind (omega (arith, eqb-false before 0 e)) h .0
+
+-- a faultless record: kinds don't go down, and a step is not the first
+pub in-turn : (d : Draft) (r : Record) → faultOf d r ≡ 0 → d .kind ≤ kindOf r
+unfolding faultOf
+in-turn d (Declare h) f = placed (d .kind) 1 (refuse-none _ 3 _ f .0)
+in-turn d (First w) f = placed (d .kind) 2 (refuse-none _ 3 _ f .0)
+in-turn d (Instruct t x) f = placed (d .kind) 3 (refuse-none _ 3 _ f .0)
+in-turn d (Want w) f = placed (d .kind) 4 (refuse-none _ 3 _ f .0)
+in-turn d (Passed t n) f = placed (d .kind) 5 (refuse-none _ 3 _ f .0)
+in-turn d (Take k) f = placed (d .kind) 6 (refuse-none _ 3 _ f .0)
+
+pub step-behind : (d : Draft) (k : Step) → faultOf d (Take k) ≡ 0 → d .kind ≢ 0
+unfolding faultOf misplaced pick
+step-behind d k f e =
+    let a = rw e at (refuse-none (misplaced (d .kind) 6) 3 _ f .0) in
+    let z : _≡_ {A = ℕ} 0 1 = cc in
+    omega arith
+
+-- what a record makes of the draft: its kind is the record's, and only a step changes the run
+pub add-kind : (d : Draft) (r : Record) → addOf d r .kind ≡ kindOf r
+unfolding addOf
+add-kind d (Declare h) = refl
+add-kind d (First w) = refl
+add-kind d (Instruct t x) = refl
+add-kind d (Want w) = refl
+add-kind d (Passed t n) = refl
+add-kind d (Take k) = refl
+
+pub add-run : (d : Draft) (r : Record) → kindOf r ≤ 5 → addOf d r .case .run ≡ d .case .run
+unfolding addOf withProgram withAsk
+add-run d (Declare h) low = refl
+add-run d (First w) low = refl
+add-run d (Instruct t x) low = refl
+add-run d (Want w) low = refl
+add-run d (Passed t n) low = refl
+add-run d (Take k) low = absurd (omega arith)
 
 -- a faultless record of the program has at most the most threads and locations
 header-sizes : (d : Draft) (h : Header) → faultOf d (Declare h) ≡ 0

@@ -13,7 +13,7 @@ use Rattle.cases.specs.declared.places.Place.the-variants.{Holds, Empty}
 use Rattle.cases.specs.Record.{recordBytes}
 use Rattle.cases.specs.Places.{places, placeOf, placeBytes, bytesAt, each, encodeOf}
 use Rattle.cases.proofs.EachLaws.{each-next, each-below}
-use Rattle.cases.proofs.PutLaws.{sets-append, sets-front}
+use Rattle.cases.proofs.ArrayLaws.{sets-append, sets-front}
 
 pub record Encoded (c : Case) (d : List ℕ) (k at : ℕ) (out : List ℕ) : Type 0 where
   pub ends : at ≡ length (each k (bytesAt c))

@@ -1,5 +1,5 @@
 -- The laws of cases. Other crates can name Promises, and the laws that every layer needs, of how definitions
--- choose and of what owning an array tells, alone.
+-- choose, of what owning an array tells and of bytes put into lent bytes, alone.
 pub mod Promises
 pub mod ChoiceLaws
 pub mod ArrayLaws
@@ -23,6 +23,10 @@ mod RoundTrip
 mod PrefixLaws
 mod RangeLaws
 mod BytewiseLaws
+-- reading in parts, and a case with other steps
+mod PartLaws
+mod RunLaws
+mod RerunLaws
 -- bytes put into lent bytes, and the writer
 mod PutLaws
 mod EncodeLaws

@@ -25,7 +25,7 @@ use Rattle.cases.proofs.ChoiceLaws.{pick-cases}
 use Rattle.cases.proofs.SoundLaws.{Sound}
 use Rattle.cases.proofs.AddLaws.{add-record}
 use Rattle.cases.proofs.LengthLaws.{encode-length}
-use Rattle.cases.proofs.BytesLaws.{open-whole}
+use Rattle.cases.proofs.BytesLaws.{half-same, word-same, open-whole}
 use Rattle.cases.proofs.ReadLaws.{recordIn, behind, read-cases}
 use Rattle.cases.proofs.BlankLaws.{blank-first, begun-longer, begun-sound}
 use Rattle.cases.proofs.RoundTrip.{longer-by, less-left}
@@ -64,12 +64,10 @@ module _ (t : List ℕ) (m : ℕ) (enough : longestRecord ≤ m) where
   byte-prefix i h = getD-take m t i 0 (omega arith)
 
   half-prefix : (i : ℕ) → i + 1 < longestRecord → half (take m t) i ≡ half t i
-  unfolding half
-  half-prefix i h = rw (byte-prefix i (omega arith), byte-prefix (i + 1) h)
+  half-prefix = half-same t (take m t) longestRecord byte-prefix
 
   word-prefix : (i : ℕ) → i + 3 < longestRecord → wordAt (take m t) i ≡ wordAt t i
-  unfolding wordAt
-  word-prefix i h = rw (half-prefix i (omega arith), half-prefix (i + 2) (omega arith))
+  word-prefix = word-same t (take m t) longestRecord byte-prefix
 
   size-prefix : sizeOf (take m t) ≡ sizeOf t
   unfolding sizeOf

@@ -8,15 +8,17 @@ use lib.ListN.{length, getD, take, drop}
 use lib.Seq.{take-at, drop-length}
 use borrow.Author.Tests.{eqb-true, eq-eqb}
 use native.Mathlib.Omega.{arith}
+use Rattle.cases.specs.declared.case.Step.{Step}
 use Rattle.cases.specs.declared.case.Case.{Case}
 use Rattle.cases.specs.declared.reader.Answer.the-variants.{Whole}
 use Rattle.cases.specs.declared.writer.Wrote.the-variants.{Stored, Untouched}
-use Rattle.cases.specs.Sizes.{longest, longestRecord}
+use Rattle.cases.specs.Sizes.{mostSteps, longest, longestRecord}
 use Rattle.cases.specs.Choice.{both}
 use Rattle.cases.specs.Bytes.{IsBytes}
-use Rattle.cases.specs.Draft.{emptyCase, blankDraft}
+use Rattle.cases.specs.Checks.{stepFault}
+use Rattle.cases.specs.Draft.{noStep, emptyCase, runWith, withRun, blankDraft}
 use Rattle.cases.specs.Reading.{numberOf, offsetOf, readFrom, readOf, unreadOf}
-use Rattle.cases.specs.Places.{encodeOf}
+use Rattle.cases.specs.Places.{encodeOf, stepsBytes}
 use Rattle.cases.specs.Ranges.{Ranged}
 use Rattle.cases.specs.Writing.{readsAs, readsBack, wroteOf, writtenOf}
 use Rattle.cases.proofs.ChoiceLaws.{both-true}
@@ -24,6 +26,8 @@ use Rattle.cases.proofs.RoundTrip.{read-all}
 use Rattle.cases.proofs.PrefixLaws.{read-prefix, fuel-same}
 use Rattle.cases.proofs.BytewiseLaws.{sound-bytes}
 use Rattle.cases.proofs.RangeLaws.{sound-ranged}
+use Rattle.cases.proofs.RunLaws.{steps-length, file-more}
+use Rattle.cases.proofs.RerunLaws.{run-steps, other-readable}
 use Rattle.cases.proofs.WriteLaws.{stored-is, untouched-is}
 use Rattle.cases.proofs.SameLaws.{case-is, case-self}
 
@@ -111,6 +115,25 @@ module _ (c : Case) (readable : readsBack c ≡ true) where
   -- and every number of it is in range
   pub readable-ranged : Ranged c
   readable-ranged = rw file-case at (read-ranged (encodeOf c) file-number)
+
+  -- its run is its steps, and nothing stands behind them
+  pub run-is : c .run ≡ runWith (take (c .run .count) (c .run .steps))
+  run-is = rw file-case at (run-steps (encodeOf c) file-bytes file-number)
+
+  -- with other steps that 5 and 8 have nothing against it passes the test too
+  pub other-run-reads-back : (ks : List Step) → length ks ≤ mostSteps
+      → ((i : ℕ) → i < length ks → stepFault (c .program) (getD ks i noStep) ≡ 0)
+      → readsBack (withRun c (runWith ks)) ≡ true
+  other-run-reads-back = rw file-case at (other-readable (encodeOf c) file-bytes file-number)
+
+-- the file of any case with the steps ks: the file without steps, and behind it the steps' records
+pub other-run-file : (c : Case) (ks : List Step) → length ks ≤ mostSteps
+    → encodeOf (withRun c (runWith ks)) ≡ encodeOf (withRun c (runWith [])) ++ stepsBytes ks
+other-run-file c ks few = file-more c ks [] (omega arith)
+
+-- eight bytes for each step
+pub steps-bytes-length : (ks : List Step) → length (stepsBytes ks) ≡ 8 * length ks
+steps-bytes-length ks = steps-length ks
 
 -- 32 refuses a case exactly when no byte string reads as it
 pub readable-exactly : (c : Case)

@@ -1,12 +1,11 @@
--- Laws of bytes put into lent bytes: a packed record byte by byte, and bytes behind bytes. Assumes nothing.
+-- Laws of bytes put into lent bytes: a packed record, byte by byte. Assumes nothing.
 --   d     the lent bytes before
 --   out   the lent bytes so far
-use Prim.Native.Nat.{ℕ, suc, _+_, _<_, _≤_}
+use Prim.Native.Nat.{ℕ, _+_, _<_, _≤_}
 use mathlib.Core.Path.{_≡_, refl, sym, ap}
-use mathlib.Core.List.{List, [], _∷_, _++_}
-use lib.ListN.{length, getD, set, drop, length-append}
+use mathlib.Core.List.{List}
+use lib.ListN.{length, getD, set, length-append}
 use lib.Seq.{take-at, sets, sets-eq, paste, paste-suc}
-use native.Mathlib.Nat.{add-zero, zero-add}
 use native.Mathlib.Numerals.{add-one}
 use native.Mathlib.Omega.{arith}
 use Rattle.cases.specs.declared.record.Packed.{Packed}
@@ -33,12 +32,3 @@ module _ (p : Packed) (bs : List ℕ) (packed : p ≡ packedOf bs) where
       → paste d at (p .bytes) (p .length) ≡ sets d at bs
   unfolding packedOf
   packed-put d at h = rw (packed, take-at bs _ (length bs) refl) (sym (sets-eq bs d at h))
-
--- sets: bytes put behind bytes; bytes put at the front
-pub sets-append : (d : List ℕ) (at n : ℕ) (a b : List ℕ) → n ≡ at + length a
-    → sets (sets d at a) n b ≡ sets d at (a ++ b)
-sets-append d at n [] b e = rw (e, add-zero) refl
-sets-append d at n (x ∷ a) b e = sets-append (set d at x) (suc at) n a b (omega arith)
-
-pub sets-front : (d bs : List ℕ) → length bs ≤ length d → sets d 0 bs ≡ bs ++ drop (length bs) d
-sets-front d bs h = simp zero-add at (sets-eq bs d 0 (omega arith))

@@ -1,11 +1,13 @@
 -- A case while it is read: the case so far, the kind of the record before (0: none), and the least number that
 -- may come next in that kind.
---   emptyCase   "the fixed empty one: one thread, one location, no further records"
---   addOf d r   the draft with the record r behind it
+--   emptyCase    "the fixed empty one: one thread, one location, no further records"
+--   runWith ks   a run of the steps ks, as a case holds it
+--   addOf d r    the draft with the record r behind it
 -- Assumes nothing.
-use Prim.Native.Nat.{ℕ, _+_, _*_}
+use Prim.Native.Nat.{ℕ, _+_, _-_, _*_}
+use mathlib.Core.List.{List, _++_}
 use mathlib.Core.Bool.{true, false}
-use lib.ListN.{replicate, set}
+use lib.ListN.{length, replicate, set}
 use Rattle.cases.specs.declared.case.Thread.{Thread}
 use Rattle.cases.specs.declared.case.Write.{Write}
 use Rattle.cases.specs.declared.case.Instruction.{Instruction}
@@ -90,6 +92,10 @@ withPassed a t n = record { wanted = a .wanted; want = a .want; passed = set (a 
 
 unfoldable pub withStep : Run → Step → Run
 withStep r k = record { count = r .count + 1; steps = set (r .steps) (r .count) k }
+
+-- a run of the steps ks, as a case holds it
+unfoldable pub runWith : List Step → Run
+runWith ks = record { count = length ks; steps = ks ++ replicate (mostSteps - length ks) noStep }
 
 unfoldable pub withProgram : Case → Program → Case
 withProgram c p = record { program = p; ask = c .ask; run = c .run }

@@ -4,12 +4,14 @@
 --   placeOf c k    what stands at place k of the case's file
 --   bytesAt c k    its bytes: none where it is empty
 --   encodeOf c     the case's file
+--   stepsBytes ks  the bytes of the steps ks: what stands at the end of the file of a case with that run
 -- Assumes nothing.
 use Prim.Native.Nat.{ℕ, zero, suc, _+_, _-_, _/_, _%_}
-use mathlib.Core.List.{List, [], _++_}
+use mathlib.Core.List.{List, [], _∷_, _++_}
 use mathlib.Core.Bool.{false}
 use lib.ListN.{getD}
 use lib.Dec.{eqb, leb, ltb}
+use Rattle.cases.specs.declared.case.Step.{Step}
 use Rattle.cases.specs.declared.case.Program.{Program}
 use Rattle.cases.specs.declared.case.Ask.{Ask}
 use Rattle.cases.specs.declared.case.Run.{Run}
@@ -93,3 +95,8 @@ each (suc n) f = each n f ++ f n
 
 unfoldable pub encodeOf : Case → List ℕ
 encodeOf c = each places (bytesAt c)
+
+-- the records of the steps ks, one behind the other
+unfoldable pub stepsBytes : List Step → List ℕ
+stepsBytes [] = []
+stepsBytes (k ∷ ks) = recordBytes (Take k) ++ stepsBytes ks

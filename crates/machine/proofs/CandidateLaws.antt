@@ -184,50 +184,59 @@ module _ (p : Program) where
   unfolding stepFault stepOut stepLeft beyond leftOver both either refuse
   persist-fault l h = rw (lt-leb _ _ h)
 
-  issues-fault : (k : Step) (t m : ℕ) → t + m ≤ p .threads → Listed k (issuesFrom t m) → stepFault p k ≡ 0
-  unfolding issuesFrom Listed
-  issues-fault k t zero h e = absurd e
-  issues-fault k t (suc m) h (inl e) = ap (stepFault p) e ∙ issue-fault t (omega arith)
-  issues-fault k t (suc m) h (inr e) = issues-fault k (suc t) m (omega arith) e
+  -- what holds of every issue of a thread, move of one and persist of a location that there is, holds of every
+  -- candidate
+  module _ (P : Step → Type 0) (issue : (t : ℕ) → t < p .threads → P (issueStep t))
+      (move : (t i : ℕ) → t < p .threads → i < mostInstructions → P (moveStep t i))
+      (persist : (l : ℕ) → l < p .locations → P (persistStep l)) where
+    issues-all : (k : Step) (t m : ℕ) → t + m ≤ p .threads → Listed k (issuesFrom t m) → P k
+    unfolding issuesFrom Listed
+    issues-all k t zero h e = absurd e
+    issues-all k t (suc m) h (inl e) = subst P (sym e) (issue t (omega arith))
+    issues-all k t (suc m) h (inr e) = issues-all k (suc t) m (omega arith) e
 
-  positions-fault : (k : Step) (t i m : ℕ) → t < p .threads → i + m ≤ mostInstructions
-      → Listed k (movesAt t i m)
-      → stepFault p k ≡ 0
-  unfolding movesAt Listed
-  positions-fault k t i zero h g e = absurd e
-  positions-fault k t i (suc m) h g (inl e) = ap (stepFault p) e ∙ move-fault t i h (omega arith)
-  positions-fault k t i (suc m) h g (inr e) = positions-fault k t (suc i) m h (omega arith) e
+    positions-all : (k : Step) (t i m : ℕ) → t < p .threads → i + m ≤ mostInstructions
+        → Listed k (movesAt t i m)
+        → P k
+    unfolding movesAt Listed
+    positions-all k t i zero h g e = absurd e
+    positions-all k t i (suc m) h g (inl e) = subst P (sym e) (move t i h (omega arith))
+    positions-all k t i (suc m) h g (inr e) = positions-all k t (suc i) m h (omega arith) e
 
-  moves-fault : (k : Step) (t m : ℕ) → t + m ≤ p .threads → Listed k (movesFrom t m) → stepFault p k ≡ 0
-  unfolding movesFrom
-  moves-fault k t zero h e = absurd (unfold Listed in e)
-  moves-fault k t (suc m) h e =
-      go (listed-either k (movesAt t 0 mostInstructions) (movesFrom (suc t) m) e) (moves-fault k (suc t) m)
-    where
-      go : Listed k (movesAt t 0 mostInstructions) ⊎ Listed k (movesFrom (suc t) m)
-          → (suc t + m ≤ p .threads → Listed k (movesFrom (suc t) m) → stepFault p k ≡ 0) → stepFault p k ≡ 0
-      go (inl a) ih = positions-fault k t 0 mostInstructions (omega arith) (omega arith) a
-      go (inr a) ih = ih (omega arith) a
+    moves-all : (k : Step) (t m : ℕ) → t + m ≤ p .threads → Listed k (movesFrom t m) → P k
+    unfolding movesFrom
+    moves-all k t zero h e = absurd (unfold Listed in e)
+    moves-all k t (suc m) h e =
+        go (listed-either k (movesAt t 0 mostInstructions) (movesFrom (suc t) m) e) (moves-all k (suc t) m)
+      where
+        go : Listed k (movesAt t 0 mostInstructions) ⊎ Listed k (movesFrom (suc t) m)
+            → (suc t + m ≤ p .threads → Listed k (movesFrom (suc t) m) → P k)
+            → P k
+        go (inl a) ih = positions-all k t 0 mostInstructions (omega arith) (omega arith) a
+        go (inr a) ih = ih (omega arith) a
 
-  persists-fault : (k : Step) (l m : ℕ) → l + m ≤ p .locations → Listed k (persistsFrom l m) → stepFault p k ≡ 0
-  unfolding persistsFrom Listed
-  persists-fault k l zero h e = absurd e
-  persists-fault k l (suc m) h (inl e) = ap (stepFault p) e ∙ persist-fault l (omega arith)
-  persists-fault k l (suc m) h (inr e) = persists-fault k (suc l) m (omega arith) e
+    persists-all : (k : Step) (l m : ℕ) → l + m ≤ p .locations → Listed k (persistsFrom l m) → P k
+    unfolding persistsFrom Listed
+    persists-all k l zero h e = absurd e
+    persists-all k l (suc m) h (inl e) = subst P (sym e) (persist l (omega arith))
+    persists-all k l (suc m) h (inr e) = persists-all k (suc l) m (omega arith) e
+
+    pub candidates-all : (k : Step) → Listed k (candidates p) → P k
+    unfolding candidates
+    candidates-all k h = go (listed-either k (issuesFrom 0 (p .threads) ++ movesFrom 0 (p .threads)) _ h)
+      where
+        to : Listed k (issuesFrom 0 (p .threads)) ⊎ Listed k (movesFrom 0 (p .threads)) → P k
+        to (inl a) = issues-all k 0 (p .threads) (omega arith) a
+        to (inr a) = moves-all k 0 (p .threads) (omega arith) a
+
+        go : Listed k (issuesFrom 0 (p .threads) ++ movesFrom 0 (p .threads))
+            ⊎ Listed k (persistsFrom 0 (p .locations))
+            → P k
+        go (inl a) = to (listed-either k (issuesFrom 0 (p .threads)) _ a)
+        go (inr a) = persists-all k 0 (p .locations) (omega arith) a
 
   pub candidate-fault : (k : Step) → Listed k (candidates p) → stepFault p k ≡ 0
-  unfolding candidates
-  candidate-fault k h = go (listed-either k (issuesFrom 0 (p .threads) ++ movesFrom 0 (p .threads)) _ h)
-    where
-      to : Listed k (issuesFrom 0 (p .threads)) ⊎ Listed k (movesFrom 0 (p .threads)) → stepFault p k ≡ 0
-      to (inl a) = issues-fault k 0 (p .threads) (omega arith) a
-      to (inr a) = moves-fault k 0 (p .threads) (omega arith) a
-
-      go : Listed k (issuesFrom 0 (p .threads) ++ movesFrom 0 (p .threads)) ⊎ Listed k
-          (persistsFrom 0 (p .locations))
-          → stepFault p k ≡ 0
-      go (inl a) = to (listed-either k (issuesFrom 0 (p .threads)) _ a)
-      go (inr a) = persists-fault k 0 (p .locations) (omega arith) a
+  candidate-fault = candidates-all (λ k. stepFault p k ≡ 0) issue-fault move-fault persist-fault
 
 -- the list of next steps holds exactly the legal ones
 module _ (p : Program) (s : State) (k : Step) where

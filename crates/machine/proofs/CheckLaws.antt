@@ -1,6 +1,6 @@
 -- Laws of the test of a state's fit, for each place of the code that makes it: loops through the entries of a
 -- buffer, the marks of a queue, the threads or the locations; loops that sum; chains of tests. Assumes nothing.
-use Prim.Native.Nat.{ℕ, zero, suc, _+_, _*_, _-_, _≤_, _<_}
+use Prim.Native.Nat.{ℕ, zero, suc, _+_, _*_, _≤_, _<_}
 use mathlib.Core.Path.{_≡_, refl}
 use mathlib.Core.Logic.{_⊎_, inl, inr}
 use mathlib.Core.Bool.{Bool, true, false}
@@ -20,7 +20,7 @@ use Rattle.machine.specs.declared.cells.Waiting.{Waiting}
 use Rattle.machine.specs.Sizes.{room}
 use Rattle.machine.specs.View.{part, marksIn, queueLen, blankWaiting, buffer, bufferLen, issuedOf}
 use Rattle.machine.specs.Rules.{countAt}
-use Rattle.machine.specs.Fit.{sumTo, anyFrom, strays, anyStrays, anyForeign, unissued, due}
+use Rattle.machine.specs.Fit.{sumTo, strays, anyStrays, anyForeign, unissued, due}
 use Rattle.machine.specs.Fit.{threadMisfits, queueMisfits}
 use Rattle.machine.proofs.PartLaws.{getD-part, part-next, part-end}
 use Rattle.machine.proofs.SumLaws.{sum-most}
@@ -88,33 +88,6 @@ module _ {k : ℕ} {xs : List ℕ} {base n i : ℕ} (o : ForeignSoFar k xs base 
   pub foreign-end : n ≤ i → false ≡ anyForeign k (part base n xs)
   unfolding anyForeign
   foreign-end h = rw (part-end base n i xs h) at (o .rest)
-
--- a loop has asked the first i of n: those still to ask say what all say
-pub record AskedSoFar (f : ℕ → Bool) (n i : ℕ) : Type 0 where
-  pub far : i ≤ n
-  pub rest : anyFrom i (n - i) f ≡ anyFrom 0 n f
-
-pub any-start : (f : ℕ → Bool) (n : ℕ) → AskedSoFar f n 0
-any-start f n = record { far = omega arith; rest = let e : n - 0 ≡ n = omega arith in rw e }
-
--- one of which it is false; one of which it is true; all are asked
-module _ {f : ℕ → Bool} {n i : ℕ} (o : AskedSoFar f n i) where
-  module _ (h : i < n) where
-    any-at : either (f i) (anyFrom (i + 1) (n - (i + 1)) f) ≡ anyFrom 0 n f
-    unfolding anyFrom
-    any-at = let e : n - i ≡ suc (n - suc i) = omega arith in rw add-one (rw e at (o .rest))
-
-    pub any-next : f i ≡ false → AskedSoFar f n (i + 1)
-    unfolding either
-    any-next e = record { far = omega arith; rest = rw e at any-at }
-
-    pub any-here : f i ≡ true → true ≡ anyFrom 0 n f
-    unfolding either
-    any-here e = rw e at any-at
-
-  pub any-end : n ≤ i → false ≡ anyFrom 0 n f
-  unfolding anyFrom
-  any-end h = let e : n - i ≡ 0 = omega arith in rw e at (o .rest)
 
 -- a loop has summed the first i of n, each at most m
 pub record SummedSoFar (f : ℕ → ℕ) (n m total i : ℕ) : Type 0 where

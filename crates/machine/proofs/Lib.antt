@@ -1,5 +1,7 @@
--- The laws of the machine. Other crates can name Promises alone.
+-- The laws of the machine. Other crates can name Promises, and the laws of the loops that ask whether something
+-- is true of one of n numbers, alone.
 pub mod Promises
+pub mod AnyLaws
 -- lists in places, and the state's parts
 mod PartLaws
 mod SlotLaws
@@ -28,6 +30,7 @@ mod NextLaws
 mod OfferLaws
 mod CandidateLaws
 mod OrderLaws
+mod RankLaws
 -- runs
 mod JudgeLaws
 mod RunLaws

@@ -4,41 +4,43 @@ use Prim.Native.Nat.{ℕ, zero, suc, _+_, _*_, _-_, _≤_, _<_}
 use mathlib.Core.Path.{_≡_, refl, sym, ap, _∙_}
 use mathlib.Core.Logic.{_≢_}
 use mathlib.Core.Bool.{Bool, true, false}
-use mathlib.Core.List.{List, [], _∷_, _++_, append-assoc, append-nil}
+use mathlib.Core.List.{List, [], _∷_, _++_, append-assoc, append-nil, map, map-append}
 use native.Mathlib.Omega.{arith}
 use native.Mathlib.Numerals.{add-one}
-use borrow.Author.Tests.{ne-eqb, le-leb}
+use borrow.Author.Tests.{eq-eqb, ne-eqb, le-leb}
 use lib.Dec.{eqb}
-use lib.ListN.{length, getD, set, replicate, length-append}
+use lib.ListN.{length, getD, set, replicate, length-append, length-map}
 use Rattle.cases.specs.declared.case.Step.{Step}
 use Rattle.cases.specs.declared.case.Program.{Program}
 use Rattle.cases.specs.Choice.{pick, refuse}
 use Rattle.cases.specs.Sizes.{mostInstructions}
-use Rattle.cases.specs.Draft.{noStep}
-use Rattle.cases.proofs.ChoiceLaws.{pick-false, pick-cases}
-use Rattle.machine.specs.declared.cells.State.{State}
+use Rattle.cases.proofs.ChoiceLaws.{pick-true, pick-false, pick-cases}
 use Rattle.machine.specs.declared.cells.Waiting.{Waiting}
 use Rattle.machine.specs.declared.next.Next.{Next}
 use Rattle.machine.specs.Sizes.{mostCandidates}
-use Rattle.machine.specs.Rules.{moveRule, ruleIn, ruleOf}
+use Rattle.machine.specs.Rules.{moveRule, ruleIn}
 use Rattle.machine.specs.Fit.{ProgramFits}
 use Rattle.machine.specs.Next.{issueStep, moveStep, persistStep, issuesFrom, movesAt, movesFrom}
-use Rattle.machine.specs.Next.{persistsFrom, candidates, allowed, legalSteps, listed, nextSteps}
-use Rattle.machine.specs.Offer.{offered, offeredAll, issueRuleAt, moveRuleAt, persistRuleAt}
+use Rattle.machine.specs.Next.{persistsFrom, candidates, allowed, rankOf, listed, nextIn}
+use Rattle.machine.specs.Offer.{nextWith, offered, offeredAll, issueRuleAt, moveRuleAt, persistRuleAt}
 
 -- one more on the list
-push-pad : (m : ℕ) (xs : List Step) (k : Step)
-    → set (xs ++ replicate (suc m) noStep) (length xs) k ≡ (xs ++ (k ∷ [])) ++ replicate m noStep
-push-pad m [] k = refl
-push-pad m (x ∷ xs) k = ap (λ r. x ∷ r) (push-pad m xs k)
+push-pad : (m : ℕ) (xs : List ℕ) (r : ℕ)
+    → set (xs ++ replicate (suc m) 0) (length xs) r ≡ (xs ++ (r ∷ [])) ++ replicate m 0
+push-pad m [] r = refl
+push-pad m (x ∷ xs) r = ap (λ z. x ∷ z) (push-pad m xs r)
 
 push-listed : (n : ℕ) (xs : List Step) (k : Step) → length xs < n
-    → set (xs ++ replicate (n - length xs) noStep) (length xs) k
-    ≡ (xs ++ (k ∷ [])) ++ replicate (n - length (xs ++ (k ∷ []))) noStep
+    → set (map rankOf xs ++ replicate (n - length xs) 0) (length xs) (rankOf k)
+    ≡ map rankOf (xs ++ (k ∷ [])) ++ replicate (n - length (xs ++ (k ∷ []))) 0
 push-listed n xs k h =
     let a = length-append xs (k ∷ []) in
     let e : n - length xs ≡ suc (n - length (xs ++ (k ∷ []))) = omega arith in
-    rw e (push-pad (n - length (xs ++ (k ∷ []))) xs k)
+    let l : length xs ≡ length (map rankOf xs) = sym (length-map xs rankOf) in
+    ap (λ m. set (map rankOf xs ++ replicate m 0) (length xs) (rankOf k)) e
+    ∙ ap (λ m. set (map rankOf xs ++ replicate (suc (n - length (xs ++ (k ∷ [])))) 0) m (rankOf k)) l
+    ∙ push-pad (n - length (xs ++ (k ∷ []))) (map rankOf xs) (rankOf k)
+    ∙ ap (λ z. z ++ replicate (n - length (xs ++ (k ∷ []))) 0) (sym (map-append rankOf xs (k ∷ [])))
 
 pub offered-listed : (broken : ℕ) (k : Step) (xs : List Step) → length xs < mostCandidates
     → offered broken k (listed xs) ≡ listed (xs ++ pick (eqb broken 0) (k ∷ []) [])
@@ -49,14 +51,14 @@ offered-listed broken k xs h = go (eqb broken 0)
     pushed =
         record {
           count = length xs + 1;
-          steps = set (xs ++ replicate (mostCandidates - length xs) noStep) (length xs) k;
+          ranks = set (map rankOf xs ++ replicate (mostCandidates - length xs) 0) (length xs) (rankOf k);
         }
 
     go : (b : Bool) → pick b pushed (listed xs) ≡ listed (xs ++ pick b (k ∷ []) [])
     go true =
         let e = push-listed mostCandidates xs k h in
         let n : length xs + 1 ≡ length (xs ++ (k ∷ [])) = sym (length-append xs (k ∷ [])) in
-        λ i. record { count = n i; steps = e i }
+        λ i. record { count = n i; ranks = e i }
     go false = rw append-nil
 
 pub offered-all-listed : (rule : Step → ℕ) (ks xs : List Step) → length xs + length ks ≤ mostCandidates
@@ -140,9 +142,15 @@ module _ (rule : Step → ℕ) (i most : ℕ) (n : Next) where
   unfolding movesAt offeredAll
   positions-next t h = let e : most - i ≡ suc (most - (i + 1)) = omega arith in rw (e, add-one)
 
-offered-none : (broken : ℕ) (k : Step) (n : Next) → broken ≢ 0 → offered broken k n ≡ n
+-- a step that a rule stands against leaves the list as it is, another one stands behind it
+pub offered-none : (broken : ℕ) (k : Step) (n : Next) → broken ≢ 0 → offered broken k n ≡ n
 unfolding offered
 offered-none broken k n h = pick-false _ _ _ (ne-eqb _ _ h)
+
+pub offered-some : (broken : ℕ) (k : Step) (count : ℕ) (ranks : List ℕ) (r : ℕ) → broken ≡ 0 → r ≡ rankOf k
+    → nextWith (count + 1) (set ranks count r) ≡ offered broken k (nextWith count ranks)
+unfolding offered
+offered-some broken k count ranks r h e = rw e (sym (pick-true _ _ _ (eq-eqb _ _ h)))
 
 -- behind a buffer's entries there is nothing to move
 no-entry : (buffers : List Waiting) (waiting marks lengths : List ℕ) (t i : ℕ) → getD waiting t 0 ≤ i
@@ -161,24 +169,27 @@ positions-end buffers waiting marks lengths t (suc m) i n h =
     ∙ positions-end buffers waiting marks lengths t m (suc i) n (omega arith)
 
 -- The rule of a step by its code is the rule over the parts it looks at
-module _ (p : Program) (s : State) where
+module _ (p : Program) (buffers : List Waiting) (issued waiting marks lengths : List ℕ) where
+  abbrev by : Step → ℕ
+  by = ruleIn p buffers issued waiting marks lengths
+
   issues-same : (t m : ℕ) (n : Next)
-      → offeredAll (issueRuleAt p (s .issued) (s .waiting) (s .marks) (s .lengths)) (issuesFrom t m) n
-      ≡ offeredAll (ruleOf p s) (issuesFrom t m) n
-  unfolding issuesFrom offeredAll issueRuleAt ruleOf ruleIn pick
+      → offeredAll (issueRuleAt p issued waiting marks lengths) (issuesFrom t m) n
+      ≡ offeredAll by (issuesFrom t m) n
+  unfolding issuesFrom offeredAll issueRuleAt ruleIn pick
   issues-same t zero n = refl
   issues-same t (suc m) n = issues-same (suc t) m _
 
   positions-same : (t i m : ℕ) (n : Next)
-      → offeredAll (moveRuleAt (s .buffers) (s .waiting) (s .marks) (s .lengths)) (movesAt t i m) n
-      ≡ offeredAll (ruleOf p s) (movesAt t i m) n
-  unfolding movesAt offeredAll moveRuleAt ruleOf ruleIn pick
+      → offeredAll (moveRuleAt buffers waiting marks lengths) (movesAt t i m) n
+      ≡ offeredAll by (movesAt t i m) n
+  unfolding movesAt offeredAll moveRuleAt ruleIn pick
   positions-same t i zero n = refl
   positions-same t i (suc m) n = positions-same t (suc i) m _
 
   moves-same : (t m : ℕ) (n : Next)
-      → offeredAll (moveRuleAt (s .buffers) (s .waiting) (s .marks) (s .lengths)) (movesFrom t m) n
-      ≡ offeredAll (ruleOf p s) (movesFrom t m) n
+      → offeredAll (moveRuleAt buffers waiting marks lengths) (movesFrom t m) n
+      ≡ offeredAll by (movesFrom t m) n
   unfolding movesFrom
   moves-same t zero n = unfold offeredAll in refl
   moves-same t (suc m) n =
@@ -187,9 +198,9 @@ module _ (p : Program) (s : State) where
       (moves-same (suc t) m _ ∙ sym (offered-append _ (movesAt t 0 mostInstructions) (movesFrom (suc t) m) n))
 
   persists-same : (l m : ℕ) (n : Next)
-      → offeredAll (persistRuleAt (s .lengths)) (persistsFrom l m) n
-      ≡ offeredAll (ruleOf p s) (persistsFrom l m) n
-  unfolding persistsFrom offeredAll persistRuleAt ruleOf ruleIn pick
+      → offeredAll (persistRuleAt lengths) (persistsFrom l m) n
+      ≡ offeredAll by (persistsFrom l m) n
+  unfolding persistsFrom offeredAll persistRuleAt ruleIn pick
   persists-same l zero n = refl
   persists-same l (suc m) n = persists-same (suc l) m _
 
@@ -219,7 +230,7 @@ length-persists l zero = refl
 length-persists l (suc n) = ap suc (length-persists (suc l) n)
 
 module _ (p : Program) (g : ProgramFits p) where
-  few-candidates : length (candidates p) ≤ mostCandidates
+  pub few-candidates : length (candidates p) ≤ mostCandidates
   unfolding candidates
   few-candidates =
       let a = length-append (issuesFrom 0 (p .threads) ++ movesFrom 0 (p .threads))
@@ -233,19 +244,30 @@ module _ (p : Program) (g : ProgramFits p) where
       omega arith
 
   -- issues, then moves, then persists, offered to the empty list
-  pub next-made : (s : State)
-      → offeredAll (persistRuleAt (s .lengths)) (persistsFrom 0 (p .locations))
-      (offeredAll (moveRuleAt (s .buffers) (s .waiting) (s .marks) (s .lengths)) (movesFrom 0 (p .threads))
-      (offeredAll (issueRuleAt p (s .issued) (s .waiting) (s .marks) (s .lengths)) (issuesFrom 0 (p .threads))
-      (listed [])))
-      ≡ nextSteps p s
-  unfolding nextSteps legalSteps
-  next-made s =
+  pub next-made : (buffers : List Waiting) (issued waiting marks lengths : List ℕ) (issues moves all : Next)
+      → issues
+      ≡ offeredAll (issueRuleAt p issued waiting marks lengths) (issuesFrom 0 (p .threads))
+      (nextWith 0 (replicate mostCandidates 0))
+      → moves ≡ offeredAll (moveRuleAt buffers waiting marks lengths) (movesFrom 0 (p .threads)) issues
+      → all ≡ offeredAll (persistRuleAt lengths) (persistsFrom 0 (p .locations)) moves
+      → all ≡ nextIn p buffers issued waiting marks lengths
+  unfolding nextIn listed
+  next-made buffers issued waiting marks lengths issues moves all a b c =
       let few : 0 + length (candidates p) ≤ mostCandidates = let f = few-candidates in omega arith in
-      let made = offered-all-listed (ruleOf p s) (candidates p) [] few in
-      rw (issues-same p s 0 (p .threads), moves-same p s 0 (p .threads), persists-same p s 0 (p .locations))
-      (sym (offered-append (ruleOf p s) (issuesFrom 0 (p .threads) ++ movesFrom 0 (p .threads))
+      let made = offered-all-listed rule (candidates p) [] few in
+      rw (
+        c,
+        b,
+        a,
+        issues-same p buffers issued waiting marks lengths 0 (p .threads),
+        moves-same p buffers issued waiting marks lengths 0 (p .threads),
+        persists-same p buffers issued waiting marks lengths 0 (p .locations),
+      )
+      (sym (offered-append rule (issuesFrom 0 (p .threads) ++ movesFrom 0 (p .threads))
       (persistsFrom 0 (p .locations)) (listed [])
-      ∙ ap (offeredAll (ruleOf p s) (persistsFrom 0 (p .locations)))
-      (offered-append (ruleOf p s) (issuesFrom 0 (p .threads)) (movesFrom 0 (p .threads)) (listed [])))
+      ∙ ap (offeredAll rule (persistsFrom 0 (p .locations)))
+      (offered-append rule (issuesFrom 0 (p .threads)) (movesFrom 0 (p .threads)) (listed [])))
       ∙ (unfold candidates in made))
+    where
+      rule : Step → ℕ
+      rule = ruleIn p buffers issued waiting marks lengths

@@ -3,21 +3,22 @@
 -- and one for the end. Assumes nothing.
 use Prim.Native.Nat.{ℕ, _+_, _*_, _-_, _≤_, _<_}
 use mathlib.Core.Path.{_≡_, sym, _∙_}
-use mathlib.Core.List.{List, []}
+use mathlib.Core.List.{List}
 use native.Mathlib.Omega.{arith}
+use borrow.Author.Tests.{le-leb, lt-leb}
 use lib.ListN.{getD}
 use Rattle.cases.specs.declared.case.Step.{Step}
 use Rattle.cases.specs.declared.case.Program.{Program}
+use Rattle.cases.specs.Choice.{refuse}
 use Rattle.cases.specs.Sizes.{mostThreads, mostInstructions, mostLocations}
-use Rattle.machine.specs.declared.cells.State.{State}
 use Rattle.machine.specs.declared.cells.Waiting.{Waiting}
 use Rattle.machine.specs.declared.next.Next.{Next}
 use Rattle.machine.specs.Sizes.{mostCandidates}
 use Rattle.machine.specs.View.{bufferIn}
-use Rattle.machine.specs.Rules.{entryAt}
-use Rattle.machine.specs.Fit.{Named, Fits}
+use Rattle.machine.specs.Rules.{countAt, instructionAt, operationRule, issueRule, entryAt}
+use Rattle.machine.specs.Fit.{Named, ProgramFits}
 use Rattle.machine.specs.Next.{issueStep, moveStep, persistStep, issuesFrom, movesAt, movesFrom}
-use Rattle.machine.specs.Next.{persistsFrom, listed}
+use Rattle.machine.specs.Next.{persistsFrom}
 use Rattle.machine.specs.Offer.{offered, offeredAll, issueRuleAt, moveRuleAt, Movable}
 use Rattle.machine.proofs.NextLaws.{count-offered, count-offered-all, length-issues, length-positions}
 use Rattle.machine.proofs.NextLaws.{length-moves, issues-next, issues-end, positions-next}
@@ -105,6 +106,18 @@ module _ {rule : Step → ℕ} {most i : ℕ} {n start : Next} where
       → n ≡ offeredAll rule (persistsFrom 0 most) start
   persist-end o h = sym (persists-end rule i most n h) ∙ o .rest
 
+-- the rule against a thread's issue: no instruction is left, or its operation decides
+module _ (p : Program) (issued waiting marks lengths : List ℕ) (t : ℕ) where
+  pub issue-none : countAt p t ≤ getD issued t 0 → 21 ≡ issueRuleAt p issued waiting marks lengths (issueStep t)
+  unfolding issueRuleAt issueRule refuse
+  issue-none h = rw (le-leb _ _ h)
+
+  pub issue-some : (broken : ℕ) → getD issued t 0 < countAt p t
+      → broken ≡ operationRule (instructionAt p t (getD issued t 0) .operation) waiting marks lengths t
+      → broken ≡ issueRuleAt p issued waiting marks lengths (issueStep t)
+  unfolding issueRuleAt issueRule refuse
+  issue-some broken h e = rw (lt-leb _ _ h) e
+
 -- behind a buffer's entries there is nothing to move
 pub position-end : (buffers : List Waiting) (waiting marks lengths : List ℕ) (t : ℕ) {most i : ℕ}
     {n start : Next} → OfferedSoFar (moveRuleAt buffers waiting marks lengths) (movesAt t) 1 most i n start
@@ -131,37 +144,20 @@ pub movable-at : (buffers : List Waiting) (waiting : List ℕ) → Movable buffe
 unfolding Movable
 movable-at buffers waiting m t h = m t h
 
--- before each of the three loops there is room for the steps that it offers
-module _ (p : Program) (s : State) (f : Fits p s) where
-  module _ (first : Next) (none : first ≡ listed []) where
-    none-counted : first .count ≡ 0
-    unfolding listed
-    none-counted = rw none
+-- before each of the last two loops there is room for the steps that it offers
+module _ (p : Program) (g : ProgramFits p) (start issues : Next) (none : start .count ≡ 0)
+    (rule : Step → ℕ) (e : issues ≡ offeredAll rule (issuesFrom 0 (p .threads)) start) where
+  issues-counted : issues .count ≤ mostThreads
+  issues-counted = let a = issues-few _ _ _ _ e in let w = g .few-threads in omega arith
 
-    pub issues-room : first .count + mostThreads ≤ mostCandidates
-    issues-room = let z = none-counted in omega arith
+  pub moves-room : issues .count + mostThreads * mostInstructions ≤ mostCandidates
+  moves-room = let a = issues-counted in omega arith
 
-    module _ (issues : Next)
-        (e : issues
-        ≡ offeredAll (issueRuleAt p (s .issued) (s .waiting) (s .marks) (s .lengths))
-        (issuesFrom 0 (p .threads)) first) where
-      issues-counted : issues .count ≤ mostThreads
-      issues-counted =
-          let z = none-counted in
-          let a = issues-few _ _ _ _ e in
-          let w = f .program .few-threads in
-          omega arith
-
-      pub moves-room : issues .count + mostThreads * mostInstructions ≤ mostCandidates
-      moves-room = let a = issues-counted in omega arith
-
-      pub persists-room : (moves : Next)
-          → moves
-          ≡ offeredAll (moveRuleAt (s .buffers) (s .waiting) (s .marks) (s .lengths))
-          (movesFrom 0 (p .threads)) issues
-          → moves .count + mostLocations ≤ mostCandidates
-      persists-room moves g =
-          let a = issues-counted in
-          let b = moves-few _ _ _ _ g in
-          let w = f .program .few-threads in
-          omega arith
+  pub persists-room : (rule : Step → ℕ) (moves : Next)
+      → moves ≡ offeredAll rule (movesFrom 0 (p .threads)) issues
+      → moves .count + mostLocations ≤ mostCandidates
+  persists-room rule moves f =
+      let a = issues-counted in
+      let b = moves-few _ _ _ _ f in
+      let w = g .few-threads in
+      omega arith

@@ -1,12 +1,11 @@
 -- What the machine promises to the layers above: all that they may cite. Each law is stated in full. Assumes
 -- nothing.
-use Prim.Native.Nat.{ℕ, _+_, _≤_}
+use Prim.Native.Nat.{ℕ, _+_, _<_, _≤_}
 use mathlib.Core.Path.{_≡_, refl, sym, _∙_}
 use mathlib.Core.Logic.{_⊎_, _≢_, _↔_}
-use mathlib.Core.List.{List}
+use mathlib.Core.List.{List, [], _∷_, map}
 use mathlib.Core.Bool.{true, false}
-use lib.ListN.{length, getD, take}
-use lib.Seq.{take-at}
+use lib.ListN.{length, getD, take, drop}
 use borrow.Author.Tests.{eq-eqb, ne-eqb}
 use Rattle.cases.specs.declared.case.Step.{Step}
 use Rattle.cases.specs.declared.case.Program.{Program}
@@ -18,28 +17,46 @@ use Rattle.cases.specs.Checks.{stepFault}
 use Rattle.cases.specs.Draft.{noStep, withAsk}
 use Rattle.cases.specs.Reading.{numberOf, offsetOf, readOf}
 use Rattle.cases.specs.Writing.{readsBack}
-use Rattle.cases.proofs.Promises.{readable-ranged, read-reads-back}
+use Rattle.cases.proofs.Promises.{read-ranged, readable-ranged, read-reads-back}
 use Rattle.cases.proofs.ChoiceLaws.{pick-true, pick-false, pick-cases, true-not, false-not}
 use Rattle.machine.specs.declared.cells.State.{State}
 use Rattle.machine.specs.declared.steps.Stepped.{Stepped}
 use Rattle.machine.specs.declared.runs.Verdict.the-variants.{Legal, Illegal}
 use Rattle.machine.specs.Rules.{ruleOf, nextOf, startOf}
-use Rattle.machine.specs.Fit.{misfits, Sized, ProgramFits, Fits}
+use Rattle.machine.specs.Fit.{misfits, Sized, ProgramFits, Fits, Shallow}
 use Rattle.machine.specs.Work.{work, fullLength, cost}
 use Rattle.machine.specs.Judge.{Leads, Faultless, StopsAt, rulingNo, told, steppedOf, stepOf}
 use Rattle.machine.specs.Judge.{judgeFrom, runOf}
 use Rattle.machine.specs.Judge.{judgeRun, stopped, judgeOf, judgeBytes}
-use Rattle.machine.specs.Next.{legalSteps, listed, nextSteps, Rising, Listed}
+use Rattle.machine.specs.Next.{legalSteps, stepAt, nextSteps, Rising, Listed}
+use Rattle.machine.specs.Offer.{Movable}
+use Rattle.machine.specs.Sizes.{mostSlots, mostCandidates}
 use Rattle.machine.proofs.StartLaws as StartLaws
 use Rattle.machine.proofs.RangeLaws.{fault-none}
 use Rattle.machine.proofs.StepLaws as StepLaws
 use Rattle.machine.proofs.RunLaws as RunLaws
 use Rattle.machine.proofs.OrderLaws as OrderLaws
+use Rattle.machine.proofs.RankLaws as RankLaws
+use Rattle.machine.proofs.ReadyLaws as ReadyLaws
 use Rattle.machine.proofs.RuleLaws as RuleLaws
 use Rattle.machine.proofs.FitLaws as FitLaws
 use Rattle.machine.proofs.CandidateLaws as CandidateLaws
 use Rattle.machine.proofs.JudgeLaws.{leads-or-stops, says-legal, says-illegal, legal-says, illegal-says}
 use Rattle.machine.proofs.JudgeLaws.{says-leads, says-stops, state-is}
+
+-- the program of a case that is handed out with 0 is one that the machine can run
+pub read-fits : (s : List ℕ) → numberOf (readOf s .answer) ≡ 0 → ProgramFits (readOf s .case .program)
+read-fits s h = StartLaws.ranged-fits (readOf s .case) (read-ranged s h)
+
+-- A program that the machine can run
+module _ (p : Program) (fits : ProgramFits p) where
+  -- its start fits it
+  pub begin-fits : Fits p (startOf p)
+  begin-fits = StartLaws.start-fits p fits
+
+  -- "The sum at the start is the program's full length, at most 96."
+  pub full-length-low : fullLength p ≤ mostSteps
+  full-length-low = StartLaws.full-most p fits
 
 -- A case that passes the test for 32
 module _ (c : Case) (readable : readsBack c ≡ true) where
@@ -49,11 +66,11 @@ module _ (c : Case) (readable : readsBack c ≡ true) where
 
   -- its start fits it
   pub start-fits : Fits (c .program) (startOf (c .program))
-  start-fits = StartLaws.start-fits (c .program) program-fits
+  start-fits = begin-fits (c .program) program-fits
 
   -- "The sum at the start is the program's full length, at most 96."
   pub full-length-most : fullLength (c .program) ≤ mostSteps
-  full-length-most = StartLaws.full-most (c .program) program-fits
+  full-length-most = full-length-low (c .program) program-fits
 
   judge-is : judgeOf c ≡ judgeFrom (c .program) 0 (startOf (c .program)) (runOf c)
   unfolding judgeOf judgeRun
@@ -160,9 +177,25 @@ module _ (p : Program) (s : State) (fit : Fits p s) where
   pub next-rising : Rising 0 (legalSteps p s)
   next-rising = OrderLaws.legal-rising p s (fit .program)
 
-  pub next-steps-are : take (nextSteps p s .count) (nextSteps p s .steps) ≡ legalSteps p s
-  unfolding nextSteps listed
-  next-steps-are = take-at _ _ _ refl
+  pub next-steps-are : map stepAt (take (nextSteps p s .count) (nextSteps p s .ranks)) ≡ legalSteps p s
+  next-steps-are = RankLaws.next-steps-are p s (fit .program)
+
+  -- the code's way through it: step i is the one of rank i, and the others stand behind it
+  pub next-step-here : (i : ℕ) → i < nextSteps p s .count
+      → drop i (legalSteps p s)
+      ≡ stepAt (getD (nextSteps p s .ranks) i 0) ∷ drop (i + 1) (legalSteps p s)
+  next-step-here = RankLaws.next-step-here p s (fit .program)
+
+  pub next-steps-few : nextSteps p s .count ≤ mostCandidates
+  next-steps-few = RankLaws.next-steps-few p s (fit .program)
+
+  pub next-steps-end : drop (nextSteps p s .count) (legalSteps p s) ≡ []
+  next-steps-end = RankLaws.next-steps-end p s
+
+  -- and what the code that lists them asks for
+  pub next-asks : ProgramFits p × Movable (s .buffers) (s .waiting) × Shallow (s .lengths)
+      × (length (s .marks) ≡ mostSlots)
+  next-asks = (fit .program, ReadyLaws.movable p s fit, ReadyLaws.shallow p s fit, fit .sized .marks-long)
 
 -- the test for 33 and the facts that proofs use are one: of a state whose arrays are as long as their types say
 pub fits-exactly : (p : Program) (s : State) → ProgramFits p → Sized s → (misfits p s ≡ false) ↔ Fits p s

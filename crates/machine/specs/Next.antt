@@ -2,24 +2,25 @@
 -- position, persist by location".
 --   candidates p     every step that such a program can have, in that order
 --   legalSteps p s   those that are legal in s
---   nextSteps p s    the same as an array with its count
+--   rankOf, stepAt   a step's rank in that order, and the step of a rank
+--   nextSteps p s    the legal ones, as an array of their ranks with its count
 --   Rising, Listed   how the theorems say "in that order, once" and "on the list"
 -- Assumes nothing.
-use Prim.Native.Nat.{ℕ, zero, suc, _+_, _*_, _-_, _≤_}
+use Prim.Native.Nat.{ℕ, zero, suc, _+_, _*_, _-_, _/_, _%_, _≤_}
 use mathlib.Core.Path.{_≡_}
 use mathlib.Core.Logic.{_⊎_}
-use mathlib.Core.List.{List, [], _∷_, _++_}
+use mathlib.Core.List.{List, [], _∷_, _++_, map}
 use lib.ListN.{length, replicate}
-use lib.Dec.{eqb}
+use lib.Dec.{eqb, ltb}
 use Rattle.cases.specs.declared.case.Step.{Step}
 use Rattle.cases.specs.declared.case.Program.{Program}
 use Rattle.cases.specs.Choice.{pick}
-use Rattle.cases.specs.Sizes.{mostInstructions, mostLocations, mostCode}
-use Rattle.cases.specs.Draft.{noStep}
+use Rattle.cases.specs.Sizes.{mostInstructions}
 use Rattle.machine.specs.declared.cells.State.{State}
+use Rattle.machine.specs.declared.cells.Waiting.{Waiting}
 use Rattle.machine.specs.declared.next.Next.{Next}
-use Rattle.machine.specs.Sizes.{mostCandidates}
-use Rattle.machine.specs.Rules.{ruleOf}
+use Rattle.machine.specs.Sizes.{mostCandidates, kindRanks}
+use Rattle.machine.specs.Rules.{ruleIn, ruleOf}
 
 abbrev pub issueStep : ℕ → Step
 issueStep t = record { thread = record { 0 = t }; code = 0; position = 0; location = record { 0 = 0 } }
@@ -59,15 +60,28 @@ allowed rule (k ∷ ks) = pick (eqb (rule k) 0) (k ∷ allowed rule ks) (allowed
 unfoldable pub legalSteps : Program → State → List Step
 legalSteps p s = allowed (ruleOf p s) (candidates p)
 
+-- a step's rank in that order; the step of a rank
+unfoldable pub rankOf : Step → ℕ
+rankOf k = k .code * kindRanks + k .thread .0 * mostInstructions + k .position + k .location .0
+
+unfoldable pub stepAt : ℕ → Step
+stepAt r =
+    pick (ltb r kindRanks) (issueStep (r / mostInstructions))
+    (pick (ltb r (2 * kindRanks))
+    (moveStep ((r - kindRanks) / mostInstructions) ((r - kindRanks) % mostInstructions))
+    (persistStep (r - 2 * kindRanks)))
+
 unfoldable pub listed : List Step → Next
-listed ks = record { count = length ks; steps = ks ++ replicate (mostCandidates - length ks) noStep }
+listed ks =
+    record { count = length ks; ranks = map rankOf ks ++ replicate (mostCandidates - length ks) 0 }
+
+-- over the parts of the state that the rules look at, and of a state
+unfoldable pub nextIn : Program → List Waiting → List ℕ → List ℕ → List ℕ → List ℕ → Next
+nextIn p buffers issued waiting marks lengths =
+    listed (allowed (ruleIn p buffers issued waiting marks lengths) (candidates p))
 
 unfoldable pub nextSteps : Program → State → Next
-nextSteps p s = listed (legalSteps p s)
-
--- a step's rank in that order
-unfoldable pub rankOf : Step → ℕ
-rankOf k = k .code * (mostCode + mostLocations) + k .thread .0 * mostInstructions + k .position + k .location .0
+nextSteps p s = nextIn p (s .buffers) (s .issued) (s .waiting) (s .marks) (s .lengths)
 
 -- each step's rank is above the one before, the first one's at least n
 unfoldable pub Rising : ℕ → List Step → Type 0

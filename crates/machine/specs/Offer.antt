@@ -1,5 +1,6 @@
 -- How the list of next steps is made, a step more at a time; Next says what it holds, and doesn't use this
 -- page.
+--   nextWith c r           the first c of the ranks r, as such a list
 --   offered rule k n       the list n, with the step k behind it where no rule stands against it
 --   offeredAll rule ks n   the same for each of the steps ks
 --   ..RuleAt               the rule of a step, over the parts of the state that it looks at
@@ -17,10 +18,14 @@ use Rattle.machine.specs.declared.next.Next.{Next}
 use Rattle.machine.specs.View.{bufferIn}
 use Rattle.machine.specs.Rules.{issueRule, moveRule, persistRule, entryAt}
 use Rattle.machine.specs.Fit.{Named}
+use Rattle.machine.specs.Next.{rankOf}
+
+abbrev pub nextWith : ℕ → List ℕ → Next
+nextWith count ranks = record { count = count; ranks = ranks }
 
 unfoldable pub offered : ℕ → Step → Next → Next
 offered broken k n =
-    pick (eqb broken 0) (record { count = n .count + 1; steps = set (n .steps) (n .count) k }) n
+    pick (eqb broken 0) (record { count = n .count + 1; ranks = set (n .ranks) (n .count) (rankOf k) }) n
 
 unfoldable pub offeredAll : (Step → ℕ) → List Step → Next → Next
 offeredAll rule [] n = n

@@ -4,6 +4,7 @@
 --   mostSlots       all queues' slots, one queue's behind the other's
 --   mostPlaces      all threads' registers, one thread's behind the other's
 --   mostCandidates  the steps that a state can have next
+--   kindRanks       the ranks that a kind of step takes up in the order of steps
 -- Assumes nothing.
 use Prim.Native.Nat.{ℕ, _+_, _*_}
 use Rattle.cases.specs.Sizes.{mostThreads, mostLocations, mostRegisters, mostCode}
@@ -19,3 +20,6 @@ mostPlaces = mostThreads * mostRegisters
 
 abbrev pub mostCandidates : ℕ
 mostCandidates = mostThreads + mostCode + mostLocations
+
+abbrev pub kindRanks : ℕ
+kindRanks = mostCode + mostLocations

@@ -53,7 +53,7 @@ fn barrier_rule<'a>(
     0
 }
 
-fn operation_rule<'a>(
+pub(crate) fn operation_rule<'a>(
     op: u8,
     waiting: &'a [u8; THREADS],
     marks: &'a [u8; SLOTS],

@@ -1,63 +1,84 @@
 // The legal next steps of a state, in 01's order: issue by thread, move by thread then position, persist by
-// location. One call for each state of a walk; the state's number arrays are lent.
-use crate::cells::State;
+// location. One call for each state of a walk: the state's number arrays are lent, and the list is an array of
+// ranks, filled in place, since a list of steps handed on by value is copied at each offer.
 use crate::cells::Waiting;
 use crate::issue;
 use crate::moves;
 use crate::sizes::CANDIDATES;
+use crate::sizes::RANKS;
 use crate::sizes::SLOTS;
 use cases::case::Location;
 use cases::case::Program;
 use cases::case::Step;
 use cases::case::Thread;
 use cases::sizes::CODE;
+use cases::sizes::INSTRUCTIONS;
 use cases::sizes::LOCATIONS;
 use cases::sizes::THREADS;
 ghost use mathlib.Core.Path.{_≡_};
-ghost use mathlib.Core.List.{[]};
 ghost use lib.ListN.{length};
 ghost use Prim.Native.Nat.{_+_, _*_, _<_, _≤_};
 ghost use Rattle.cases.specs.Sizes.{mostThreads, mostInstructions, mostLocations};
 ghost use Rattle.machine.specs.Sizes.{mostSlots, mostCandidates};
-ghost use Rattle.machine.specs.Fit.{Fits, ProgramFits, Shallow};
-ghost use Rattle.machine.specs.Next.{issuesFrom, movesAt, movesFrom, persistsFrom, listed, nextSteps};
-ghost use Rattle.machine.specs.Offer.{offered, offeredAll, issueRuleAt, moveRuleAt, persistRuleAt};
-ghost use Rattle.machine.specs.Offer.{Movable};
+ghost use Rattle.machine.specs.Fit.{ProgramFits, Shallow};
+ghost use Rattle.machine.specs.Next.{issuesFrom, movesAt, movesFrom, persistsFrom};
+ghost use Rattle.machine.specs.Next.{rankOf, stepAt, nextIn};
+ghost use Rattle.machine.specs.Offer.{nextWith, offered, offeredAll, Movable};
+ghost use Rattle.machine.specs.Offer.{issueRuleAt, moveRuleAt, persistRuleAt};
 
-// The first `count` steps are legal next steps; the others are blank.
+// The first `count` ranks are those of the legal next steps; the others are 0.
 pub struct Next {
     pub count: u8,
-    pub steps: [Step; CANDIDATES],
+    pub ranks: [u8; CANDIDATES],
 }
 
-fn no_steps() -> Next
-    ensures { λ r. ⌜ r ≡ listed [] ⌝ }
+// A step's place in the order.
+fn rank(k: Step) -> u8
+    requires { ⌜ rankOf k < 256 ⌝ }
+    ensures { λ r. ⌜ r ≡ rankOf k ⌝ }
 {
-    let still = Step {
+    k.code * (RANKS as u8) + k.thread.0 * (INSTRUCTIONS as u8) + k.position + k.location.0
+}
+
+// The step of a rank.
+pub fn step_at(r: u8) -> Step
+    ensures { λ k. ⌜ k ≡ stepAt r ⌝ }
+{
+    let n = r as usize;
+    if n < RANKS {
+        return Step {
+            thread: Thread((n / INSTRUCTIONS) as u8),
+            code: 0,
+            position: 0,
+            location: Location(0),
+        };
+    }
+    if n < 2 * RANKS {
+        return Step {
+            thread: Thread(((n - RANKS) / INSTRUCTIONS) as u8),
+            code: 1,
+            position: ((n - RANKS) % INSTRUCTIONS) as u8,
+            location: Location(0),
+        };
+    }
+    Step {
         thread: Thread(0),
-        code: 0,
+        code: 2,
         position: 0,
-        location: Location(0),
-    };
-    Next {
-        count: 0,
-        steps: [still; CANDIDATES],
+        location: Location((n - 2 * RANKS) as u8),
     }
 }
 
-// A step more, where no rule stands against it.
-fn offer(next: Next, broken: u8, k: Step) -> Next
-    requires { ⌜ next .count < mostCandidates ⌝ }
-    ensures { λ r. ⌜ r ≡ offered broken k next ⌝ }
+// A step more, where no rule stands against it; says how many there are now.
+fn offer(ranks: &mut [u8; CANDIDATES], count: u8, broken: u8, k: Step) -> u8
+    requires { ⌜ (count < mostCandidates) × (rankOf k < 256) ⌝ }
+    ensures { λ r. ⌜ nextWith r (now (ranks .exit)) ≡ offered broken k (nextWith count (now (ranks .entry))) ⌝ }
 {
     if broken != 0 {
-        return next;
+        return count;
     }
-    let mut n = next;
-    let count = n.count;
-    n.steps[count as usize] = k;
-    n.count = count + 1;
-    n
+    ranks[count as usize] = rank(k);
+    count + 1
 }
 
 fn offer_issues<'a>(
@@ -66,19 +87,29 @@ fn offer_issues<'a>(
     waiting: &'a [u8; THREADS],
     marks: &'a [u8; SLOTS],
     lengths: &'a [u8; LOCATIONS],
-    next: Next,
-) -> Next
+    ranks: &mut [u8; CANDIDATES],
+    count: u8,
+) -> u8
     requires { ⌜ ProgramFits p × Shallow (now lengths) × (length (now marks) ≡ mostSlots)
-        × (next .count + mostThreads ≤ mostCandidates) ⌝ }
-    ensures { λ r. ⌜ r ≡ offeredAll
+        × (count + mostThreads ≤ mostCandidates) ⌝ }
+    ensures { λ r. ⌜ nextWith r (now (ranks .exit)) ≡ offeredAll
         (issueRuleAt p (now (issued .entry)) (now (waiting .entry)) (now (marks .entry)) (now (lengths .entry)))
-        (issuesFrom 0 (p .threads)) next ⌝ }
+        (issuesFrom 0 (p .threads)) (nextWith count (now (ranks .entry))) ⌝ }
 {
-    let mut n = next;
+    // once for all threads: what is handed on by value is copied each time
+    let q = p;
+    let mut n = count;
     let mut t: u8 = 0;
-    while t < p.threads {
-        let broken = issue::issue_rule(p, issued, waiting, marks, lengths, Thread(t));
+    while t < q.threads {
+        let at = t as usize;
+        let i = issued[at];
+        let mut broken: u8 = 21;
+        if i < q.counts[at] {
+            let x = q.code[at * INSTRUCTIONS + (i as usize)];
+            broken = issue::operation_rule(x.operation, waiting, marks, lengths, Thread(t));
+        }
         n = offer(
+            ranks,
             n,
             broken,
             Step {
@@ -100,20 +131,22 @@ fn offer_moves_of<'a>(
     waiting: &'a [u8; THREADS],
     marks: &'a [u8; SLOTS],
     lengths: &'a [u8; LOCATIONS],
-    next: Next,
-) -> Next
+    ranks: &mut [u8; CANDIDATES],
+    count: u8,
+) -> u8
     requires { ⌜ (t .0 < mostThreads) × Movable buffers (now waiting) × Shallow (now lengths)
-        × (length (now marks) ≡ mostSlots) × (next .count + mostInstructions ≤ mostCandidates) ⌝ }
-    ensures { λ r. ⌜ r ≡ offeredAll
+        × (length (now marks) ≡ mostSlots) × (count + mostInstructions ≤ mostCandidates) ⌝ }
+    ensures { λ r. ⌜ nextWith r (now (ranks .exit)) ≡ offeredAll
         (moveRuleAt buffers (now (waiting .entry)) (now (marks .entry)) (now (lengths .entry)))
-        (movesAt (t .0) 0 mostInstructions) next ⌝ }
+        (movesAt (t .0) 0 mostInstructions) (nextWith count (now (ranks .entry))) ⌝ }
 {
-    let count = waiting[t.0 as usize];
-    let mut n = next;
+    let many = waiting[t.0 as usize];
+    let mut n = count;
     let mut i: u8 = 0;
-    while i < count {
+    while i < many {
         let broken = moves::move_rule(buffers, waiting, marks, lengths, t, i);
         n = offer(
+            ranks,
             n,
             broken,
             Step {
@@ -134,32 +167,41 @@ fn offer_moves<'a>(
     waiting: &'a [u8; THREADS],
     marks: &'a [u8; SLOTS],
     lengths: &'a [u8; LOCATIONS],
-    next: Next,
-) -> Next
+    ranks: &mut [u8; CANDIDATES],
+    count: u8,
+) -> u8
     requires { ⌜ (threads ≤ mostThreads) × Movable buffers (now waiting) × Shallow (now lengths)
-        × (length (now marks) ≡ mostSlots) × (next .count + mostThreads * mostInstructions ≤ mostCandidates) ⌝ }
-    ensures { λ r. ⌜ r ≡ offeredAll
+        × (length (now marks) ≡ mostSlots) × (count + mostThreads * mostInstructions ≤ mostCandidates) ⌝ }
+    ensures { λ r. ⌜ nextWith r (now (ranks .exit)) ≡ offeredAll
         (moveRuleAt buffers (now (waiting .entry)) (now (marks .entry)) (now (lengths .entry)))
-        (movesFrom 0 threads) next ⌝ }
+        (movesFrom 0 threads) (nextWith count (now (ranks .entry))) ⌝ }
 {
-    let mut n = next;
+    let mut n = count;
     let mut t: u8 = 0;
     while t < threads {
-        n = offer_moves_of(Thread(t), buffers, waiting, marks, lengths, n);
+        n = offer_moves_of(Thread(t), buffers, waiting, marks, lengths, ranks, n);
         t += 1;
     }
     n
 }
 
-fn offer_persists<'a>(locations: u8, lengths: &'a [u8; LOCATIONS], next: Next) -> Next
-    requires { ⌜ (locations ≤ mostLocations) × (next .count + mostLocations ≤ mostCandidates) ⌝ }
-    ensures { λ r. ⌜ r ≡ offeredAll (persistRuleAt (now (lengths .entry))) (persistsFrom 0 locations) next ⌝ }
+fn offer_persists<'a>(
+    locations: u8,
+    lengths: &'a [u8; LOCATIONS],
+    ranks: &mut [u8; CANDIDATES],
+    count: u8,
+) -> u8
+    requires { ⌜ (locations ≤ mostLocations) × (count + mostLocations ≤ mostCandidates) ⌝ }
+    ensures { λ r. ⌜ nextWith r (now (ranks .exit)) ≡ offeredAll
+        (persistRuleAt (now (lengths .entry))) (persistsFrom 0 locations)
+        (nextWith count (now (ranks .entry))) ⌝ }
 {
-    let mut n = next;
+    let mut n = count;
     let mut l: u8 = 0;
     while l < locations {
         let broken = moves::persist_rule(lengths, Location(l));
         n = offer(
+            ranks,
             n,
             broken,
             Step {
@@ -174,14 +216,35 @@ fn offer_persists<'a>(locations: u8, lengths: &'a [u8; LOCATIONS], next: Next) -
     n
 }
 
-// The legal next steps, for the layer above.
-pub fn next_steps(p: Program, s: State) -> Next
-    requires { ⌜ Fits p s ⌝ }
-    ensures { λ r. ⌜ r ≡ nextSteps p s ⌝ }
+// The legal next steps, for the layer above, which lends the parts of its state that the rules look at.
+pub fn next_steps<'a>(
+    p: Program,
+    buffers: [Waiting; CODE],
+    issued: &'a [u8; THREADS],
+    waiting: &'a [u8; THREADS],
+    marks: &'a [u8; SLOTS],
+    lengths: &'a [u8; LOCATIONS],
+) -> Next
+    requires { ⌜ ProgramFits p × Movable buffers (now waiting) × Shallow (now lengths)
+        × (length (now marks) ≡ mostSlots) ⌝ }
+    ensures { λ r. ⌜ r
+        ≡ nextIn p buffers (now (issued .entry)) (now (waiting .entry)) (now (marks .entry))
+        (now (lengths .entry)) ⌝ }
 {
-    let u = s;
-    let b = u.buffers;
-    let issues = offer_issues(p, &u.issued, &u.waiting, &u.marks, &u.lengths, no_steps());
-    let moves = offer_moves(p.threads, b, &u.waiting, &u.marks, &u.lengths, issues);
-    offer_persists(p.locations, &u.lengths, moves)
+    let mut ranks = [0u8; CANDIDATES];
+    let issues = offer_issues(p, issued, waiting, marks, lengths, &mut ranks, 0);
+    let moves = offer_moves(
+        p.threads,
+        buffers,
+        waiting,
+        marks,
+        lengths,
+        &mut ranks,
+        issues,
+    );
+    let count = offer_persists(p.locations, lengths, &mut ranks, moves);
+    Next {
+        count: count,
+        ranks: ranks,
+    }
 }

@@ -15,3 +15,6 @@ pub const PLACES: usize = THREADS * REGISTERS;
 
 // The steps that a state can have next.
 pub const CANDIDATES: usize = THREADS + CODE + LOCATIONS;
+
+// The ranks that a kind of step takes up in the order of steps.
+pub const RANKS: usize = CODE + LOCATIONS;

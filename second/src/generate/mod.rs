@@ -18,6 +18,9 @@ use std::io;
 /// Some frames; what they are follows from the numbers drawn.
 pub type Part<F> = fn(&mut Random) -> Vec<F>;
 
+/// Whoever takes the parts.
+pub type Take<'a, F> = &'a mut dyn FnMut(Vec<F>) -> io::Result<()>;
+
 /// Made once, whatever the number of frames asked for.
 const ONCE: [Part<Frame>; 12] = [
     valid::all,
@@ -38,11 +41,7 @@ const ONCE: [Part<Frame>; 12] = [
 const AGAIN: [Part<Frame>; 4] = [valid::some, damage::some, faults::some, changes::some];
 
 /// Hands out at least `count` frames, part by part.
-pub fn frames(
-    seed: u64,
-    count: u64,
-    take: impl FnMut(Vec<Frame>) -> io::Result<()>,
-) -> io::Result<()> {
+pub fn frames(seed: u64, count: u64, take: Take<Frame>) -> io::Result<()> {
     hand_out(&ONCE, &AGAIN, seed, count, take)
 }
 
@@ -52,7 +51,7 @@ pub fn hand_out<F>(
     again: &[Part<F>],
     seed: u64,
     count: u64,
-    mut take: impl FnMut(Vec<F>) -> io::Result<()>,
+    take: Take<F>,
 ) -> io::Result<()> {
     let mut random = Random::new(seed);
     let mut made = 0;

@@ -5,61 +5,47 @@ use crate::generate::random::Random;
 use crate::generate::valid::ROW;
 use crate::machine::judge::{judge, judge_bytes, single_step, Verdict, LEGAL};
 use crate::machine::state::{Entry, Held, State};
+use crate::machine::steps::{issue, persist, shift};
 use crate::machine::work::{full_length, work_left};
 use crate::reading::read;
-use crate::trial::generate::runs::{issue, persist, runs_for_tests, shift};
+use crate::trial::generate::runs::runs_for_tests;
 
-const X: u8 = 0;
-const Y: u8 = 1;
+pub const X: u8 = 0;
+pub const Y: u8 = 1;
 
-fn store(location: u8, word: u32) -> Instruction {
-    Instruction {
-        operation: 1,
-        location,
-        register: 0,
-        word,
-    }
+pub fn store(location: u8, word: u32) -> Instruction {
+    Instruction::new(1, location, 0, word)
 }
 
 /// Of operations 2, 3, 5 and 6; those without a register have 0.
 fn at(operation: u8, location: u8, register: u8) -> Instruction {
-    Instruction {
-        operation,
-        location,
-        register,
-        word: 0,
-    }
+    Instruction::new(operation, location, register, 0)
 }
 
-fn load(location: u8, register: u8) -> Instruction {
+pub fn load(location: u8, register: u8) -> Instruction {
     at(3, location, register)
 }
 
 fn exchange(location: u8, register: u8, word: u32) -> Instruction {
-    Instruction {
-        operation: 4,
-        location,
-        register,
-        word,
-    }
+    Instruction::new(4, location, register, word)
 }
 
-fn flush(location: u8) -> Instruction {
+pub fn flush(location: u8) -> Instruction {
     at(5, location, 0)
 }
 
-fn flush_opt(location: u8) -> Instruction {
+pub fn flush_opt(location: u8) -> Instruction {
     at(6, location, 0)
 }
 
-const SFENCE: Instruction = Instruction {
+pub const SFENCE: Instruction = Instruction {
     operation: 7,
     location: 0,
     register: 0,
     word: 0,
 };
 
-const MFENCE: Instruction = Instruction {
+pub const MFENCE: Instruction = Instruction {
     operation: 8,
     ..SFENCE
 };

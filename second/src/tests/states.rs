@@ -7,21 +7,16 @@ use crate::generate::valid::ROW;
 use crate::machine::fit::fits;
 use crate::machine::judge::{single_step, LEGAL};
 use crate::machine::state::{Entry, Held, State};
+use crate::machine::steps::{issue, persist, shift};
 use crate::machine::work::work_left;
 use crate::reading::read;
 use crate::trial::answer::answer;
 use crate::trial::frame::{Job, Trial};
-use crate::trial::generate::runs::{issue, persist, shift};
 use crate::trial::raw::{decode, encode, ENTRIES_AT, STATE_BYTES};
 
 /// A store, one thread, two locations.
 fn small() -> Case {
-    program(&[&[Instruction {
-        operation: 1,
-        location: 1,
-        register: 0,
-        word: 7,
-    }]])
+    program(&[&[Instruction::new(1, 1, 0, 7)]])
 }
 
 #[test]

@@ -9,7 +9,7 @@ use crate::form;
 use crate::frame::FIELDS_END;
 use crate::machine::fit::CLAUSES;
 use crate::machine::judge::LEGAL;
-use crate::tally::{self, row, Row};
+use crate::tally::{row, Counts, Row};
 
 /// Every number that is answered, and the least number of frames in which it is.
 const NUMBERS: [(u8, u64); 21] = [
@@ -38,7 +38,7 @@ const NUMBERS: [(u8, u64); 21] = [
 
 const RULES: std::ops::RangeInclusive<u8> = 21..=29;
 
-pub struct Counts {
+pub struct TrialCounts {
     frames: u64,
     /// By number: all frames, runs, and single steps.
     numbers: [[u64; 3]; 256],
@@ -51,9 +51,9 @@ pub struct Counts {
     faults: Vec<String>,
 }
 
-impl Counts {
-    pub fn new() -> Counts {
-        Counts {
+impl TrialCounts {
+    pub fn new() -> TrialCounts {
+        TrialCounts {
             frames: 0,
             numbers: [[0; 3]; 256],
             clauses: [0; CLAUSES.len()],
@@ -63,17 +63,6 @@ impl Counts {
             indexes: [false; MOST_STEPS],
             faults: Vec::new(),
         }
-    }
-
-    pub fn take(&mut self, trial: &Trial) {
-        let answer = answer(trial);
-        self.frames += 1;
-        self.take_number(&answer);
-        self.take_clause(&answer);
-        for (sort, count) in SORTS.iter().zip(&mut self.sorts) {
-            *count += u64::from((sort.is)(trial, &answer));
-        }
-        self.check(trial, &answer);
     }
 
     fn take_number(&mut self, answer: &Answer) {
@@ -138,6 +127,19 @@ impl Counts {
                 .push(format!("frame {frame}: no work for a case as read"));
         }
     }
+}
+
+impl Counts<Trial> for TrialCounts {
+    fn take(&mut self, trial: &Trial) {
+        let answer = answer(trial);
+        self.frames += 1;
+        self.take_number(&answer);
+        self.take_clause(&answer);
+        for (sort, count) in SORTS.iter().zip(&mut self.sorts) {
+            *count += u64::from((sort.is)(trial, &answer));
+        }
+        self.check(trial, &answer);
+    }
 
     fn rows(&self) -> Vec<Row> {
         let mut rows = Vec::new();
@@ -166,14 +168,12 @@ impl Counts {
         rows
     }
 
-    pub fn table(&self) -> String {
-        tally::table(&self.rows(), self.frames)
+    fn frames(&self) -> u64 {
+        self.frames
     }
 
-    /// Wrong answers and minima not met.
-    pub fn faults(&self) -> Vec<String> {
-        let missing = tally::missing(&self.rows());
-        [self.faults.clone(), missing].concat()
+    fn wrong(&self) -> Vec<String> {
+        self.faults.clone()
     }
 }
 

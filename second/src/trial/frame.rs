@@ -7,7 +7,7 @@ use std::io::{self, Read, Write};
 
 pub const MOST_INPUT: u32 = 2048;
 /// What a frame's first number has above its job: no frame of the other stream begins with so high a number.
-const MACHINE: u32 = 1 << 31;
+pub const MACHINE: u32 = 1 << 31;
 
 #[derive(Clone, Debug, PartialEq, Eq)]
 pub enum Job {

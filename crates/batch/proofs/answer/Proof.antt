@@ -56,20 +56,8 @@ wrote-length-requires c κs = search needs
 number-requires-6 : tie.Need-number-requires-6
 number-requires-6 c κs = search needs
 
-slice-aggregate-write-all : tie.Need-slice-aggregate-write-all
-slice-aggregate-write-all c = search needs
-
-write-all-requires : tie.Need-write-all-requires
-write-all-requires c κs = search needs
-
-bytes-requires : tie.Need-bytes-requires
-bytes-requires c κs = search needs
-
-slice-aggregate-write-all-2 : tie.Need-slice-aggregate-write-all-2
-slice-aggregate-write-all-2 c = search needs
-
-write-all-requires-2 : tie.Need-write-all-requires-2
-write-all-requires-2 c κs = search needs
+buffer-requires : tie.Need-buffer-requires
+buffer-requires c κs = search needs
 
 returns : tie.Need-returns
 returns c = search needs
@@ -95,9 +83,5 @@ answer-spec =
     number-requires-5
     wrote-length-requires
     number-requires-6
-    slice-aggregate-write-all
-    write-all-requires
-    bytes-requires
-    slice-aggregate-write-all-2
-    write-all-requires-2
+    buffer-requires
     returns)

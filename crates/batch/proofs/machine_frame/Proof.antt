@@ -32,8 +32,8 @@ returns-2 c = search needs
 number-at-requires-2 : tie.Need-number-at-requires-2
 number-at-requires-2 c κs = search needs
 
-cast-answer : tie.Need-cast-answer
-cast-answer c = search needs
+cast-third : tie.Need-cast-third
+cast-third c = search needs
 
 number-at-requires-3 : tie.Need-number-at-requires-3
 number-at-requires-3 c κs = search needs
@@ -43,6 +43,12 @@ answer-requires c κs = search needs
 
 returns-3 : tie.Need-returns-3
 returns-3 c = search needs
+
+answer-requires-2 : tie.Need-answer-requires-2
+answer-requires-2 c κs = search needs
+
+returns-4 : tie.Need-returns-4
+returns-4 c = search needs
 
 pub machine-frame-spec : {M : Type 1} → statement M
 machine-frame-spec =
@@ -57,7 +63,9 @@ machine-frame-spec =
     read-full-requires
     returns-2
     number-at-requires-2
-    cast-answer
+    cast-third
     number-at-requires-3
     answer-requires
-    returns-3)
+    returns-3
+    answer-requires-2
+    returns-4)

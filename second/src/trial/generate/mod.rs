@@ -5,7 +5,7 @@ mod misfits;
 mod moves;
 mod near;
 mod orders;
-mod programs;
+pub mod programs;
 pub mod runs;
 mod scene;
 mod script;
@@ -14,7 +14,7 @@ mod steps;
 
 use super::frame::Trial;
 use crate::generate::random::Random;
-use crate::generate::{hand_out, Part};
+use crate::generate::{hand_out, Part, Take};
 use std::io;
 
 /// Made once, whatever the number of frames asked for.
@@ -46,11 +46,7 @@ const AGAIN: [Part<Trial>; 8] = [
 ];
 
 /// Hands out at least `count` frames, part by part.
-pub fn frames(
-    seed: u64,
-    count: u64,
-    take: impl FnMut(Vec<Trial>) -> io::Result<()>,
-) -> io::Result<()> {
+pub fn frames(seed: u64, count: u64, take: Take<Trial>) -> io::Result<()> {
     hand_out(&ONCE, &AGAIN, seed, count, take)
 }
 

@@ -1,11 +1,11 @@
 //! Moves on states in memory that fit, by construction.
 
 use super::programs::word;
-use super::runs::shift;
 use super::scene::*;
 use crate::case::Step;
 use crate::generate::random::Random;
 use crate::machine::state::Entry;
+use crate::machine::steps::shift;
 
 fn move_by(scene: Scene, position: usize) -> (Scene, Step) {
     let step = shift(scene.thread as u8, position as u8);

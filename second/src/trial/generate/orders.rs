@@ -1,12 +1,13 @@
 //! Two numbers at once on a single step: the order 32, 33, 5, 8, rules.
 
 use super::misfits;
-use super::runs::{self, all_steps, any_step, issue, persist, shift, steps_with};
+use super::runs::{self, any_step, steps_with};
 use super::scene::{Scene, ANY};
 use super::{programs, scripts, steps};
 use crate::case::Step;
 use crate::generate::random::Random;
 use crate::machine::rules::{ISSUE, MOVE};
+use crate::machine::steps::{all_steps, issue, persist, shift};
 use crate::trial::frame::{Job, Trial};
 use crate::trial::marks::marked;
 use crate::trial::raw::STATE_BYTES;

@@ -13,7 +13,7 @@ pub const LONG: [u8; 3] = [1, 2, 6];
 /// Mostly three steps each.
 const LONGISH: [u8; 12] = [1, 1, 1, 2, 2, 6, 6, 6, 4, 5, 7, 3];
 /// Markers and what they stop.
-const FENCED: [u8; 9] = [6, 6, 6, 7, 8, 4, 5, 1, 5];
+pub const FENCED: [u8; 9] = [6, 6, 6, 7, 8, 4, 5, 1, 5];
 
 pub fn word(random: &mut Random) -> u32 {
     let any = random.below(1 << 32) as u32;

@@ -1,11 +1,12 @@
 //! Runs step by step with the machine: legal ones of every length, and ones that a rule ends.
 
 use super::programs::*;
-use crate::case::{Case, Step, MOST_STEPS, POSITIONS};
+use crate::case::{Case, Step, MOST_STEPS};
 use crate::generate::random::Random;
 use crate::machine::judge::{single_step, LEGAL};
-use crate::machine::rules::{check, ISSUE, MOVE, PERSIST};
+use crate::machine::rules::check;
 use crate::machine::state::State;
+use crate::machine::steps::all_steps;
 use crate::trial::frame::{Job, Trial};
 use crate::trial::marks::marked;
 use crate::writing::encode;
@@ -25,42 +26,6 @@ const TASTES: [Taste; 6] = [
     // Flush-opts go early, writes late.
     |step| if step.position > 0 { 0 } else { 1 + step.code },
 ];
-
-pub fn issue(thread: u8) -> Step {
-    Step {
-        thread,
-        code: ISSUE,
-        ..Step::default()
-    }
-}
-
-pub fn shift(thread: u8, position: u8) -> Step {
-    Step {
-        thread,
-        code: MOVE,
-        position,
-        ..Step::default()
-    }
-}
-
-pub fn persist(location: u8) -> Step {
-    Step {
-        code: PERSIST,
-        location,
-        ..Step::default()
-    }
-}
-
-/// Every step in range.
-pub fn all_steps(case: &Case) -> Vec<Step> {
-    let threads = 0..case.threads;
-    let mut steps: Vec<Step> = threads.clone().map(issue).collect();
-    for thread in threads {
-        steps.extend((0..POSITIONS).map(|position| shift(thread, position)));
-    }
-    steps.extend((0..case.locations).map(persist));
-    steps
-}
 
 pub fn any_step(random: &mut Random, case: &Case) -> Step {
     random.pick(&all_steps(case))

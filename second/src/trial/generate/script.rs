@@ -2,9 +2,9 @@
 //! machine is not asked.
 
 use super::programs::*;
-use super::runs::{issue, persist, shift};
 use crate::case::{Case, Instruction, Step, MOST_INSTRUCTIONS};
 use crate::generate::random::Random;
+use crate::machine::steps::{issue, persist, shift};
 
 pub struct Script {
     pub case: Case,

@@ -9,6 +9,7 @@ use crate::case::Step;
 use crate::generate::random::Random;
 use crate::machine::judge::LEGAL;
 use crate::machine::state::Entry;
+use crate::machine::steps::{issue, persist};
 use crate::trial::frame::Trial;
 use crate::trial::marks::FITS;
 

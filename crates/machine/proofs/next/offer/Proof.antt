@@ -1,29 +1,24 @@
 -- `offer` meets its contract. Assumes nothing.
-use Rattle.machine.specs.Offer.{offered}
-use Rattle.cases.proofs.ChoiceLaws.{choices}
+use mathlib.Core.Path.{sym}
+use Rattle.machine.proofs.NextLaws.{offered-none, offered-some}
 use borrow.Author.Needs.{needs}
 use Rattle.machine.proofs.next.offer.Statement.{statement}
 use Rattle.machine.proofs.next.offer.Tie as tie
 
 returns : tie.Need-returns
-unfolding offered
-returns c = search choices
+returns c = sym (offered-none _ _ _ (c .if1 .taken))
 
-cast-k : tie.Need-cast-k
-cast-k c = search needs
+rank-requires : tie.Need-rank-requires
+rank-requires c κs = search needs
 
-mul-k : tie.Need-mul-k
-mul-k c = search needs
+element-write-ranks : tie.Need-element-write-ranks
+element-write-ranks c = search needs
 
-element-set-from-k : tie.Need-element-set-from-k
-element-set-from-k c = search needs
-
-add-n : tie.Need-add-n
-add-n c = search needs
+add-result : tie.Need-add-result
+add-result c = search needs
 
 returns-2 : tie.Need-returns-2
-unfolding offered
-returns-2 c = search choices
+returns-2 c = offered-some _ _ _ _ _ (c .before .if1 .left) (c .rank .ensures)
 
 pub offer-spec : {M : Type 1} → statement M
-offer-spec = tie.close (tie.spec returns cast-k mul-k element-set-from-k add-n returns-2)
+offer-spec = tie.close (tie.spec returns rank-requires element-write-ranks add-result returns-2)

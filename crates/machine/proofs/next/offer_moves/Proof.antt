@@ -3,7 +3,7 @@ use Prim.Native.Nat.{_-_}
 use native.Mathlib.Omega.{arith}
 use Rattle.cases.specs.Sizes.{mostInstructions}
 use Rattle.machine.specs.Next.{movesFrom}
-use Rattle.machine.specs.Offer.{moveRuleAt}
+use Rattle.machine.specs.Offer.{nextWith, moveRuleAt}
 use Rattle.machine.proofs.OfferLaws.{OfferedSoFar, offers-start, offers-room, thread-next, thread-end}
 use borrow.Author.Needs.{needs}
 use Rattle.machine.proofs.next.offer_moves.Statement.{statement}
@@ -11,19 +11,20 @@ use Rattle.machine.proofs.next.offer_moves.Tie as tie
 
 -- the moves from thread t on, offered to the list so far, give what all of them give to the list at the start
 abbrev Inv-loop : tie.InvT-loop
-Inv-loop threads buffers waiting marks lengths n₀ t₀ n t =
-    OfferedSoFar (moveRuleAt buffers waiting marks lengths) movesFrom mostInstructions threads t n n₀
+Inv-loop threads buffers waiting marks lengths ranks₀ count n₀ t₀ ranks n t =
+    OfferedSoFar (moveRuleAt buffers waiting marks lengths) movesFrom mostInstructions threads t
+    (nextWith n ranks) (nextWith n₀ ranks₀)
 
 abbrev μ-loop : tie.MeasureT-loop
-μ-loop threads buffers waiting marks lengths n₀ t₀ n t = threads - t
+μ-loop threads buffers waiting marks lengths ranks₀ count n₀ t₀ ranks n t = threads - t
 
 loop-holds : tie.Need-loop-holds Inv-loop μ-loop
 loop-holds c = offers-start _ _ _ _ _ (omega arith)
 
 offer-moves-of-requires : tie.Need-offer-moves-of-requires Inv-loop μ-loop
 offer-moves-of-requires c κs =
-    let g = c .before .before .pre in
-    (omega arith, g .1, g .2, g .3, offers-room (c .before .loop .inv) (omega arith))
+    let g = c .before .before .before .pre in
+    (omega arith, g .1, g .2, g .3, offers-room (c .before .before .loop .inv) (omega arith))
 
 add-t : tie.Need-add-t Inv-loop μ-loop
 add-t c = search needs
@@ -32,7 +33,7 @@ loop-less : tie.Need-loop-less Inv-loop μ-loop
 loop-less c = search needs
 
 loop-again : tie.Need-loop-again Inv-loop μ-loop
-loop-again c = thread-next (c .before .before .loop .inv) (omega arith) _ (c .offer-moves-of .ensures)
+loop-again c = thread-next (c .before .before .before .loop .inv) (omega arith) _ (c .offer-moves-of .ensures)
 
 returns : tie.Need-returns Inv-loop μ-loop
 returns c = thread-end (c .before .loop .inv) (omega arith)

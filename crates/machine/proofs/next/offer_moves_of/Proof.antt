@@ -2,8 +2,8 @@
 use Prim.Native.Nat.{_-_, _≤_}
 use native.Mathlib.Omega.{arith}
 use Rattle.cases.specs.Sizes.{mostInstructions}
-use Rattle.machine.specs.Next.{movesAt}
-use Rattle.machine.specs.Offer.{moveRuleAt}
+use Rattle.machine.specs.Next.{movesAt, rankOf}
+use Rattle.machine.specs.Offer.{nextWith, moveRuleAt}
 use Rattle.machine.proofs.OfferLaws.{OfferedSoFar, offers-start, offers-low, movable-at}
 use Rattle.machine.proofs.OfferLaws.{position-next, position-end}
 use borrow.Author.Needs.{needs}
@@ -13,18 +13,19 @@ use Rattle.machine.proofs.next.offer_moves_of.Tie as tie
 -- the buffer is within its depth; the thread's moves from position i on, offered to the list so far, give what
 -- all of them give to the list at the start
 abbrev Inv-loop : tie.InvT-loop
-Inv-loop t buffers waiting marks lengths count n₀ i₀ n i =
-    (count ≤ mostInstructions)
-    × OfferedSoFar (moveRuleAt buffers waiting marks lengths) (movesAt (t .0)) 1 mostInstructions i n n₀
+Inv-loop t buffers waiting marks lengths ranks₀ count many n₀ i₀ ranks n i =
+    (many ≤ mostInstructions)
+    × OfferedSoFar (moveRuleAt buffers waiting marks lengths) (movesAt (t .0)) 1 mostInstructions i
+    (nextWith n ranks) (nextWith n₀ ranks₀)
 
 abbrev μ-loop : tie.MeasureT-loop
-μ-loop t buffers waiting marks lengths count n₀ i₀ n i = count - i
+μ-loop t buffers waiting marks lengths ranks₀ count many n₀ i₀ ranks n i = many - i
 
-cast-count : tie.Need-cast-count Inv-loop μ-loop
-cast-count c = search needs
+cast-many : tie.Need-cast-many Inv-loop μ-loop
+cast-many c = search needs
 
-element-copy-out-count : tie.Need-element-copy-out-count Inv-loop μ-loop
-element-copy-out-count c = search needs
+element-copy-out-many : tie.Need-element-copy-out-many Inv-loop μ-loop
+element-copy-out-many c = search needs
 
 loop-holds : tie.Need-loop-holds Inv-loop μ-loop
 loop-holds c =
@@ -38,7 +39,8 @@ move-rule-requires c κs =
     (g .0, m .0, m .1, g .2, g .3)
 
 offer-requires : tie.Need-offer-requires Inv-loop μ-loop
-offer-requires c κs = offers-low (c .before .before .loop .inv .1) (omega arith)
+unfolding rankOf
+offer-requires c κs = (offers-low (c .before .before .before .loop .inv .1) (omega arith), omega arith)
 
 add-i : tie.Need-add-i Inv-loop μ-loop
 add-i c = search needs
@@ -49,8 +51,8 @@ loop-less c = search needs
 loop-again : tie.Need-loop-again Inv-loop μ-loop
 unfolding moveRuleAt
 loop-again c =
-    let l = c .before .before .before .loop in
-    let e = c .before .move-rule .ensures in
+    let l = c .before .before .before .before .loop in
+    let e = c .before .before .move-rule .ensures in
     (l .inv .0, position-next _ (l .inv .1) (omega arith) _ e _ (c .offer .ensures))
 
 returns : tie.Need-returns Inv-loop μ-loop
@@ -62,8 +64,8 @@ offer-moves-of-spec =
     (tie.spec
     Inv-loop
     μ-loop
-    cast-count
-    element-copy-out-count
+    cast-many
+    element-copy-out-many
     loop-holds
     move-rule-requires
     offer-requires

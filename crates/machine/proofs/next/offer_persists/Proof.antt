@@ -1,8 +1,8 @@
 -- `offer_persists` meets its contract. Assumes nothing.
 use Prim.Native.Nat.{_-_}
 use native.Mathlib.Omega.{arith}
-use Rattle.machine.specs.Next.{persistsFrom}
-use Rattle.machine.specs.Offer.{persistRuleAt}
+use Rattle.machine.specs.Next.{persistsFrom, rankOf}
+use Rattle.machine.specs.Offer.{nextWith, persistRuleAt}
 use Rattle.machine.proofs.OfferLaws.{OfferedSoFar, offers-start, offers-low, persist-next, persist-end}
 use borrow.Author.Needs.{needs}
 use Rattle.machine.proofs.next.offer_persists.Statement.{statement}
@@ -11,10 +11,11 @@ use Rattle.machine.proofs.next.offer_persists.Tie as tie
 -- the persists from location l on, offered to the list so far, give what all of them give to the list at the
 -- start
 abbrev Inv-loop : tie.InvT-loop
-Inv-loop locations lengths n₀ l₀ n l = OfferedSoFar (persistRuleAt lengths) persistsFrom 1 locations l n n₀
+Inv-loop locations lengths ranks₀ count n₀ l₀ ranks n l =
+    OfferedSoFar (persistRuleAt lengths) persistsFrom 1 locations l (nextWith n ranks) (nextWith n₀ ranks₀)
 
 abbrev μ-loop : tie.MeasureT-loop
-μ-loop locations lengths n₀ l₀ n l = locations - l
+μ-loop locations lengths ranks₀ count n₀ l₀ ranks n l = locations - l
 
 loop-holds : tie.Need-loop-holds Inv-loop μ-loop
 loop-holds c = offers-start _ _ _ _ _ (omega arith)
@@ -23,7 +24,8 @@ persist-rule-requires : tie.Need-persist-rule-requires Inv-loop μ-loop
 persist-rule-requires c κs = search needs
 
 offer-requires : tie.Need-offer-requires Inv-loop μ-loop
-offer-requires c κs = offers-low (c .before .before .loop .inv) (omega arith)
+unfolding rankOf
+offer-requires c κs = (offers-low (c .before .before .before .loop .inv) (omega arith), omega arith)
 
 add-l : tie.Need-add-l Inv-loop μ-loop
 add-l c = search needs
@@ -34,8 +36,8 @@ loop-less c = search needs
 loop-again : tie.Need-loop-again Inv-loop μ-loop
 unfolding persistRuleAt
 loop-again c =
-    let l = c .before .before .before .loop in
-    persist-next (l .inv) (omega arith) _ (c .before .persist-rule .ensures) _ (c .offer .ensures)
+    let l = c .before .before .before .before .loop in
+    persist-next (l .inv) (omega arith) _ (c .before .before .persist-rule .ensures) _ (c .offer .ensures)
 
 returns : tie.Need-returns Inv-loop μ-loop
 returns c = persist-end (c .before .loop .inv) (omega arith)

@@ -1,0 +1,194 @@
+-- The question's code: 31, then what the walk leaves. Assumes nothing.
+use Prim.Native.Nat.{ℕ, _+_, _*_, _<_, _≤_}
+use mathlib.Core.Path.{_≡_, refl, sym, ap, subst, _∙_}
+use mathlib.Core.Logic.{_≢_, inl}
+use mathlib.Core.Bool.{Bool}
+use mathlib.Core.List.{List, _∷_, _++_}
+use lib.ListN.{length, drop}
+use borrow.Author.Tests.{lt-ltb, le-ltb, eq-eqb, ne-eqb}
+use native.Mathlib.Omega.{arith}
+use Rattle.cases.specs.declared.case.Step.{Step}
+use Rattle.cases.specs.declared.case.Program.{Program}
+use Rattle.cases.specs.declared.case.Ask.{Ask}
+use Rattle.cases.specs.declared.reader.Reading.{Reading}
+use Rattle.cases.specs.Sizes.{mostSteps}
+use Rattle.cases.specs.Reading.{numberOf, offsetOf, readOf}
+use Rattle.cases.specs.Places.{stepsBytes}
+use Rattle.cases.proofs.ChoiceLaws.{pick-true, pick-false}
+use Rattle.cases.proofs.ArrayLaws.{sets-front}
+use Rattle.cases.proofs.Promises.{steps-bytes-length}
+use Rattle.machine.specs.declared.cells.State.{State}
+use Rattle.machine.specs.Rules.{startOf}
+use Rattle.machine.specs.Fit.{ProgramFits, Fits}
+use Rattle.machine.specs.Work.{work, fullLength}
+use Rattle.machine.proofs.Promises.{begin-fits, full-length-low, read-fits}
+use Rattle.search.specs.declared.walk.Walked.{Walked}
+use Rattle.search.specs.declared.walk.Walked.the-variants.{Found, Finished, Stopped}
+use Rattle.search.specs.declared.ask.Outcome.{Outcome}
+use Rattle.search.specs.declared.ask.Outcome.the-variants.{Reached, Unreachable, Undecided, Refused}
+use Rattle.search.specs.Walk.{Visit, On, walkOf}
+use Rattle.search.specs.Question.{reaches, reached, FirstThat, walkFrom, askOf, toldOf, short, answerOf}
+use Rattle.search.specs.Question.{questionOf, shownBy, shownIn, shownOf}
+use Rattle.search.specs.Seek.{Sought, hit, done, spent, seek, walkedOf, storedOf}
+use Rattle.search.proofs.ListLaws.{on-right}
+use Rattle.search.proofs.PtsoLaws.{walk-short}
+use Rattle.search.proofs.SeekLaws.{comesTo, seek-decides}
+use Rattle.search.proofs.BudgetLaws.{reached-is}
+
+-- the first that reaches is on the list
+pub first-on : {S K : Type 0} (test : S → Bool) (vs before : List (Visit S K)) (v : Visit S K)
+    → FirstThat test vs before v → On v vs
+unfolding On
+first-on test vs before v f =
+    subst (On v) (sym (f .stands)) (on-right v before (v ∷ f .after) (inl refl))
+
+-- the walk may begin at the start
+module _ (p : Program) (fits : ProgramFits p) (s : State) (s-is : s ≡ startOf p) where
+  pub begun-fits : Fits p s
+  begun-fits = rw s-is (begin-fits p fits)
+
+  pub begun-few : work p s ≤ mostSteps
+  unfolding fullLength
+  begun-few = rw s-is (full-length-low p fits)
+
+module _ (p : Program) (fits : ProgramFits p) (a : Ask) (b : ℕ) where
+  -- a run that reaches is no longer than the full length
+  pub reached-short : (run : List Step) → askOf p a b ≡ reached run → length run ≤ fullLength p
+  unfolding askOf walkFrom fullLength
+  reached-short run e =
+      let r = reached-is (reaches a) b (walkOf p (startOf p)) run e in
+      let on = first-on (reaches a) (walkOf p (startOf p)) (r .0) (r .1) (r .2) in
+      let w = walk-short p (startOf p) (begin-fits p fits) (r .1 .run) (r .1 .end) on in
+      let l = ap length (r .4) in
+      omega arith
+
+  sought-is : (x : Sought Step) → seek (reaches a) b (walkOf p (startOf p)) ≡ x → askOf p a b ≡ comesTo x
+  unfolding askOf walkFrom
+  sought-is x e = sym (seek-decides (reaches a) b (walkOf p (startOf p))) ∙ ap comesTo e
+
+  -- as the code has them: s is the start, w its work
+  module _ (s : State) (s-is : s ≡ startOf p) (w : ℕ) (w-is : w ≡ work p s) (out : List ℕ) where
+    full-is : fullLength p ≡ w
+    unfolding fullLength
+    full-is = sym (w-is ∙ ap (work p) s-is)
+
+    -- the buffer is too short
+    pub answer-short : length out < 8 * w
+        → (Refused 31 0 ≡ answerOf p a (length out) b) × (out ≡ shownIn p a b out)
+    unfolding answerOf shownIn short
+    answer-short h =
+        let e = full-is in
+        let t = lt-ltb (length out) (8 * fullLength p) (omega arith) in
+        (sym (pick-true _ _ _ t), sym (pick-true _ _ _ t))
+
+    -- it is not: what the walk leaves
+    module _ (h : 8 * w ≤ length out) (r : Walked) (last : List ℕ)
+        (left : (r ≡ walkedOf 0 (seek (reaches a) b (walkOf p s)))
+        × (last ≡ storedOf 0 (seek (reaches a) b (walkOf p s)) out)) where
+      abbrev sought : Sought Step
+      sought = seek (reaches a) b (walkOf p s)
+
+      abbrev Answers : Outcome → Type 0
+      Answers o = (o ≡ answerOf p a (length out) b) × (last ≡ shownIn p a b out)
+
+      answer-as : (o : Outcome) → o ≡ toldOf (askOf p a b) → last ≡ shownBy (askOf p a b) out → Answers o
+      unfolding answerOf shownIn short
+      answer-as o e f =
+          let g = full-is in
+          let t = le-ltb (length out) (8 * fullLength p) (omega arith) in
+          (e ∙ sym (pick-false _ _ _ t), f ∙ sym (pick-false _ _ _ t))
+
+      asked : (x : Sought Step) → sought ≡ x → askOf p a b ≡ comesTo x
+      asked x e = sought-is x (ap (λ u. seek (reaches a) b (walkOf p u)) (sym s-is) ∙ e)
+
+      told : (x : Sought Step) → sought ≡ x → r ≡ walkedOf 0 x
+      told x e = left .0 ∙ ap (walkedOf 0) e
+
+      stored : (x : Sought Step) → sought ≡ x → last ≡ storedOf 0 x out
+      stored x e = left .1 ∙ ap (λ y. storedOf 0 y out) e
+
+      pub answer-found : (n : ℕ) → r ≡ Found n → Answers (Reached n)
+      unfolding walkedOf storedOf toldOf shownBy
+      answer-found n e = go sought refl
+        where
+          go : (x : Sought Step) → sought ≡ x → Answers (Reached n)
+          go (hit run) f =
+              let says = sym e ∙ told (hit run) f in
+              let whole : n ≡ 0 + length run = cc in
+              let same : n ≡ length run = omega arith in
+              let ask = asked (hit run) f in
+              let few = reached-short run ask in
+              let long = steps-bytes-length run in
+              let g = full-is in
+              answer-as (Reached n) (ap Reached same ∙ ap toldOf (sym ask))
+              (stored (hit run) f
+              ∙ sets-front out (stepsBytes run) (omega arith)
+              ∙ ap (λ m. stepsBytes run ++ drop m out) long
+              ∙ ap (λ d. shownBy d out) (sym ask))
+          go (done m) f =
+              let says = sym e ∙ told (done m) f in
+              absurd (let z : _≡_ {A = ℕ} 0 1 = cc in omega arith)
+          go spent f =
+              let says = sym e ∙ told spent f in
+              absurd (let z : _≡_ {A = ℕ} 0 1 = cc in omega arith)
+
+      pub answer-finished : (m : ℕ) → r ≡ Finished m → Answers Unreachable
+      unfolding walkedOf storedOf toldOf shownBy
+      answer-finished m e = go sought refl
+        where
+          go : (x : Sought Step) → sought ≡ x → Answers Unreachable
+          go (hit run) f =
+              let says = sym e ∙ told (hit run) f in
+              absurd (let z : _≡_ {A = ℕ} 0 1 = cc in omega arith)
+          go (done m) f =
+              let ask = asked (done m) f in
+              answer-as Unreachable (ap toldOf (sym ask))
+              (stored (done m) f ∙ ap (λ d. shownBy d out) (sym ask))
+          go spent f =
+              let says = sym e ∙ told spent f in
+              absurd (let z : _≡_ {A = ℕ} 0 1 = cc in omega arith)
+
+      pub answer-stopped : r ≡ Stopped → Answers Undecided
+      unfolding walkedOf storedOf toldOf shownBy
+      answer-stopped e = go sought refl
+        where
+          go : (x : Sought Step) → sought ≡ x → Answers Undecided
+          go (hit run) f =
+              let says = sym e ∙ told (hit run) f in
+              absurd (let z : _≡_ {A = ℕ} 0 1 = cc in omega arith)
+          go (done m) f =
+              let says = sym e ∙ told (done m) f in
+              absurd (let z : _≡_ {A = ℕ} 0 1 = cc in omega arith)
+          go spent f =
+              let ask = asked spent f in
+              answer-as Undecided (ap toldOf (sym ask)) (stored spent f ∙ ap (λ d. shownBy d out) (sym ask))
+
+-- the bytes s read as r, with the number n: reading is refused, or gives a case
+module _ (s : List ℕ) (r : Reading) (r-is : r ≡ readOf s) (n : ℕ) (n-is : n ≡ numberOf (r .answer)) where
+  number-is : n ≡ numberOf (readOf s .answer)
+  number-is = n-is ∙ ap (λ (x : Reading). numberOf (x .answer)) r-is
+
+  pub question-refused : (at : ℕ) → at ≡ offsetOf (r .answer) → n ≢ 0 → (b : ℕ) (out : List ℕ)
+      → (Refused n at ≡ questionOf s (length out) b) × (out ≡ shownOf s b out)
+  unfolding questionOf shownOf
+  question-refused at e h b out =
+      let t = ne-eqb (numberOf (readOf s .answer)) 0 (λ z. h (number-is ∙ z)) in
+      let offset = e ∙ ap (λ (x : Reading). offsetOf (x .answer)) r-is in
+      let same : Refused n at ≡ Refused (numberOf (readOf s .answer)) (offsetOf (readOf s .answer)) =
+      λ i. Refused (number-is i) (offset i) in
+      (same ∙ sym (pick-false _ _ _ t), sym (pick-false _ _ _ t))
+
+  module _ (h : n ≡ 0) where
+    pub question-fits : ProgramFits (r .case .program)
+    question-fits = rw r-is (read-fits s (sym number-is ∙ h))
+
+    pub question-read : (b : ℕ) (out : List ℕ) (o : Outcome) (last : List ℕ)
+        → (o ≡ answerOf (r .case .program) (r .case .ask) (length out) b)
+        × (last ≡ shownIn (r .case .program) (r .case .ask) b out)
+        → (o ≡ questionOf s (length out) b) × (last ≡ shownOf s b out)
+    unfolding questionOf shownOf
+    question-read b out o last e =
+        let t = eq-eqb (numberOf (readOf s .answer)) 0 (sym number-is ∙ h) in
+        let same = ap (λ (x : Reading). answerOf (x .case .program) (x .case .ask) (length out) b) r-is in
+        let shown = ap (λ (x : Reading). shownIn (x .case .program) (x .case .ask) b out) r-is in
+        (e .0 ∙ same ∙ sym (pick-true _ _ _ t), e .1 ∙ shown ∙ sym (pick-true _ _ _ t))

@@ -1,0 +1,18 @@
+-- The laws of the search. Other crates can name Promises alone.
+pub mod Promises
+-- the walk over any machine: what it lists, in which order; the machine of document 01 is one
+mod ListLaws
+mod WalkLaws
+mod OrderLaws
+mod PtsoLaws
+-- the budget: how it is counted down, and what that comes to
+mod SeekLaws
+mod BudgetLaws
+-- the code: records in the lent bytes, the walk's turns
+mod StoreLaws
+mod TurnLaws
+mod AskLaws
+-- what it is to reach, and the run that is shown
+mod ReachLaws
+mod ShownLaws
+mod QuestionLaws

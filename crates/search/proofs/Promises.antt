@@ -1,0 +1,184 @@
+-- What the search promises: all that others may cite. Each law is stated in full. Assumes nothing.
+use Prim.Native.Nat.{ℕ, _*_, _<_, _≤_}
+use mathlib.Core.Path.{_≡_, ap, subst, _∙_}
+use mathlib.Core.Logic.{_≢_, _↔_}
+use mathlib.Core.Bool.{true, false}
+use mathlib.Core.List.{List, _∷_, _++_}
+use lib.ListN.{length, getD, take, drop}
+use Rattle.cases.specs.declared.case.Step.{Step}
+use Rattle.cases.specs.declared.case.Program.{Program}
+use Rattle.cases.specs.declared.case.Ask.{Ask}
+use Rattle.cases.specs.declared.case.Case.{Case}
+use Rattle.cases.specs.Sizes.{mostThreads, mostLocations, longest}
+use Rattle.cases.specs.Draft.{runWith, withRun}
+use Rattle.cases.specs.Reading.{numberOf, offsetOf, readOf}
+use Rattle.cases.specs.Places.{stepsBytes}
+use Rattle.cases.specs.Writing.{readsBack}
+use Rattle.machine.specs.declared.cells.State.{State}
+use Rattle.machine.specs.declared.runs.Verdict.the-variants.{Legal}
+use Rattle.machine.specs.View.{wordOf, issuedOf}
+use Rattle.machine.specs.Rules.{startOf}
+use Rattle.machine.specs.Fit.{ProgramFits}
+use Rattle.machine.specs.Work.{fullLength}
+use Rattle.machine.specs.Judge.{Leads, Faultless, judgeOf}
+use Rattle.machine.specs.Next.{rankOf}
+use Rattle.machine.proofs.Promises.{begin-fits}
+use Rattle.search.specs.declared.ask.Outcome.the-variants.{Reached, Unreachable, Undecided, Refused}
+use Rattle.search.specs.Walk.{Visit, here, On, InOrder}
+use Rattle.search.specs.Question.{reaches, reached, unreachable, undecided, None, FirstThat, walkFrom}
+use Rattle.search.specs.Question.{askOf, outcomeNo, outcomePlace, questionOf, shownOf}
+use Rattle.search.proofs.PtsoLaws as PtsoLaws
+use Rattle.search.proofs.OrderLaws as OrderLaws
+use Rattle.search.proofs.BudgetLaws as BudgetLaws
+use Rattle.search.proofs.ReachLaws as ReachLaws
+use Rattle.search.proofs.ShownLaws as ShownLaws
+use Rattle.search.proofs.QuestionLaws as QuestionLaws
+
+-- The walk of a program that the machine can run
+module _ (p : Program) (fits : ProgramFits p) where
+  -- "The walk lists all legal runs": exactly these, of steps that 5 and 8 have nothing against, with their end
+  pub walk-exact : (ks : List Step) (u : State)
+      → On (record { run = ks; end = u }) (walkFrom p) ↔ (Faultless p ks × Leads p (startOf p) ks u)
+  unfolding walkFrom
+  walk-exact ks u = (
+    PtsoLaws.walk-leads p (startOf p) (begin-fits p fits) ks u,
+    (λ h. PtsoLaws.leads-walk p (startOf p) (begin-fits p fits) ks u (h .0) (h .1)),
+  )
+
+  -- "the empty run first; each run is followed by everything that starts with it, next steps in the order issue
+  -- by thread, move by thread then position, persist by location": each run comes before all that stand behind
+  -- it in the list, by that order
+  pub walk-in-order : InOrder rankOf (walkFrom p)
+  unfolding walkFrom
+  walk-in-order = PtsoLaws.walk-ordered p (startOf p) (begin-fits p fits)
+
+  pub walk-first : (rest : List (Visit State Step)) × (walkFrom p ≡ here (startOf p) ∷ rest)
+  walk-first = QuestionLaws.walk-first p
+
+  -- each once: of two places of the list, the runs differ
+  pub walk-once : (xs ys : List (Visit State Step)) → walkFrom p ≡ xs ++ ys
+      → (v w : Visit State Step) → On v xs → On w ys → v .run ≢ w .run
+  walk-once xs ys e = OrderLaws.order-once rankOf xs ys (subst (InOrder rankOf) e walk-in-order)
+
+  -- "It never goes deeper than the full length"
+  pub walk-deep : (ks : List Step) (u : State) → On (record { run = ks; end = u }) (walkFrom p)
+      → length ks ≤ fullLength p
+  walk-deep = QuestionLaws.walk-deep p fits
+
+-- "A run reaches the question if the persistent words match every want and every passed count is met."
+pub reaches-exactly : (a : Ask) (s : State)
+    → (reaches a s ≡ true)
+    ↔ (((l : ℕ) → l < mostLocations → getD (a .wanted) l false ≡ true → wordOf s l ≡ getD (a .want) l 0)
+    × ((t : ℕ) → t < mostThreads → getD (a .passed) t 0 ≤ issuedOf s t))
+reaches-exactly a s = (ReachLaws.reaches-is a s, (λ h. ReachLaws.is-reaches a s (h .0) (h .1)))
+
+-- "A budget B covers the first B runs." What it decides, over a program and what is asked
+module _ (p : Program) (a : Ask) (b : ℕ) where
+  -- reached, with a run, exactly when that run is the walk's first that reaches, and stands among the first B
+  pub reached-exactly : (run : List Step)
+      → (askOf p a b ≡ reached run)
+      ↔ ((before : List (Visit State Step))
+      × (v : Visit State Step)
+      × FirstThat (reaches a) (walkFrom p) before v
+      × (length before < b)
+      × (v .run ≡ run))
+  unfolding askOf
+  reached-exactly run = (
+    BudgetLaws.reached-is (reaches a) b (walkFrom p) run,
+    (λ h. BudgetLaws.is-reached (reaches a) b (walkFrom p) (h .0) (h .1) (h .2) (h .3) ∙ ap reached (h .4)),
+  )
+
+  -- unreachable exactly when the budget covers the whole walk and no run reaches
+  pub unreachable-exactly :
+      (askOf p a b ≡ unreachable) ↔ ((length (walkFrom p) ≤ b) × None (reaches a) (walkFrom p))
+  unfolding askOf
+  unreachable-exactly = (
+    BudgetLaws.unreachable-is (reaches a) b (walkFrom p),
+    (λ h. BudgetLaws.is-unreachable (reaches a) b (walkFrom p) (h .0) (h .1)),
+  )
+
+  -- undecided exactly when it does not, and none of the runs that it covers reaches
+  pub undecided-exactly :
+      (askOf p a b ≡ undecided) ↔ ((b < length (walkFrom p)) × None (reaches a) (take b (walkFrom p)))
+  unfolding askOf
+  undecided-exactly = (
+    BudgetLaws.undecided-is (reaches a) b (walkFrom p),
+    (λ h. BudgetLaws.is-undecided (reaches a) b (walkFrom p) (h .0) (h .1)),
+  )
+
+-- a budget of just the runs before the first that reaches decides nothing: one less than that run's place
+pub one-less-undecided : (p : Program) (a : Ask) (before : List (Visit State Step)) (v : Visit State Step)
+    → FirstThat (reaches a) (walkFrom p) before v
+    → askOf p a (length before) ≡ undecided
+unfolding askOf
+one-less-undecided p a before v = BudgetLaws.one-less (reaches a) (walkFrom p) before v
+
+-- What is answered for bytes, and what the lent bytes hold afterwards
+module _ (s : List ℕ) (b : ℕ) (out : List ℕ) where
+  -- "The question tests reading first"
+  pub question-unread : numberOf (readOf s .answer) ≢ 0
+      → questionOf s (length out) b ≡ Refused (numberOf (readOf s .answer)) (offsetOf (readOf s .answer))
+  question-unread = QuestionLaws.question-unread s (length out) b
+
+  module _ (read : numberOf (readOf s .answer) ≡ 0) where
+    -- "then 31 (shorter than 8 bytes times the program's full length, below)"
+    pub question-short : length out < 8 * fullLength (readOf s .case .program)
+        → questionOf s (length out) b ≡ Refused 31 0
+    question-short = QuestionLaws.question-short s (length out) b read
+
+    -- then 100, 101 or 102, by what the budget decides
+    module _ (room : 8 * fullLength (readOf s .case .program) ≤ length out) where
+      pub question-reached : (n : ℕ)
+          → (questionOf s (length out) b ≡ Reached n)
+          ↔ ((run : List Step)
+          × (askOf (readOf s .case .program) (readOf s .case .ask) b ≡ reached run)
+          × (n ≡ length run))
+      question-reached = QuestionLaws.question-reached s (length out) b read room
+
+      pub question-unreachable :
+          (questionOf s (length out) b ≡ Unreachable)
+          ↔ (askOf (readOf s .case .program) (readOf s .case .ask) b ≡ unreachable)
+      question-unreachable = QuestionLaws.question-unreachable s (length out) b read room
+
+      pub question-undecided :
+          (questionOf s (length out) b ≡ Undecided)
+          ↔ (askOf (readOf s .case .program) (readOf s .case .ask) b ≡ undecided)
+      question-undecided = QuestionLaws.question-undecided s (length out) b read room
+
+      -- "the first such run, as kind 6 records in the lent buffer": from the front, and nothing behind is
+      -- touched
+      pub shown-run : (run : List Step) → askOf (readOf s .case .program) (readOf s .case .ask) b ≡ reached run
+          → shownOf s b out ≡ stepsBytes run ++ drop (8 * length run) out
+      shown-run = QuestionLaws.shown-run s b out read room
+
+  -- "Refusals, and the answers 101 and 102, store nothing."
+  pub only-reached-stores : outcomeNo (questionOf s (length out) b) ≢ 100 → shownOf s b out ≡ out
+  only-reached-stores = QuestionLaws.only-reached-stores s b out
+
+-- "Kind 6 records in the input are not looked at": cases with the same program and the same ask answer alike
+pub steps-not-looked-at : (s t : List ℕ)
+    → numberOf (readOf s .answer) ≡ 0
+    → numberOf (readOf t .answer) ≡ 0
+    → readOf s .case .program ≡ readOf t .case .program
+    → readOf s .case .ask ≡ readOf t .case .ask
+    → (b : ℕ) (out : List ℕ)
+    → (questionOf s (length out) b ≡ questionOf t (length out) b) × (shownOf s b out ≡ shownOf t b out)
+steps-not-looked-at = QuestionLaws.steps-not-looked-at
+
+-- "with a run it would itself pass": put into the case as its steps, the run gets 103 from the judge, with a
+-- state that matches every want and meets every passed count
+module _ (c : Case) (readable : readsBack c ≡ true) (b : ℕ) (run : List Step)
+    (asked : askOf (c .program) (c .ask) b ≡ reached run) where
+  pub reached-readable : readsBack (withRun c (runWith run)) ≡ true
+  reached-readable = ShownLaws.shown-readable c readable b run asked
+
+  pub reached-passes : judgeOf (withRun c (runWith run)) .verdict ≡ Legal (length run)
+  reached-passes = ShownLaws.shown-legal c readable b run asked
+
+  pub reached-reaches : reaches (c .ask) (judgeOf (withRun c (runWith run)) .state) ≡ true
+  reached-reaches = ShownLaws.shown-reaches c readable b run asked
+
+-- the number and its place are low: they can be packed
+pub question-low : (s : List ℕ) (room b : ℕ)
+    → (outcomeNo (questionOf s room b) < 256) × (outcomePlace (questionOf s room b) ≤ longest)
+question-low = QuestionLaws.question-low

@@ -1,0 +1,90 @@
+-- The run that is shown: it passes the judge, and ends where the question is reached. Assumes nothing.
+use Prim.Native.Nat.{ℕ, zero, suc, _-_, _<_, _≤_}
+use mathlib.Core.Path.{_≡_, refl, sym, ap, subst, _∙_}
+use mathlib.Core.Bool.{true}
+use mathlib.Core.List.{List, [], _∷_}
+use lib.ListN.{length, getD, replicate}
+use lib.Seq.{take-at}
+use native.Mathlib.Omega.{arith}
+use Rattle.cases.specs.declared.case.Step.{Step}
+use Rattle.cases.specs.declared.case.Program.{Program}
+use Rattle.cases.specs.declared.case.Case.{Case}
+use Rattle.cases.specs.Sizes.{mostSteps}
+use Rattle.cases.specs.Checks.{stepFault}
+use Rattle.cases.specs.Draft.{noStep, runWith, withRun}
+use Rattle.cases.specs.Writing.{readsBack}
+use Rattle.cases.proofs.Promises.{other-run-reads-back}
+use Rattle.machine.specs.declared.cells.State.{State}
+use Rattle.machine.specs.declared.runs.Verdict.the-variants.{Legal}
+use Rattle.machine.specs.Rules.{startOf}
+use Rattle.machine.specs.Judge.{Leads, Faultless, judgeOf, runOf}
+use Rattle.machine.proofs.Promises.{program-fits, begin-fits, full-length-most, judge-legal, judge-legal-state}
+use Rattle.search.specs.Walk.{walkOf}
+use Rattle.search.specs.Question.{reaches, reached, walkFrom, askOf}
+use Rattle.search.proofs.PtsoLaws.{walk-leads}
+use Rattle.search.proofs.BudgetLaws.{reached-is}
+use Rattle.search.proofs.AskLaws.{first-on, reached-short}
+
+faultless-at : (p : Program) (ks : List Step) → Faultless p ks → (i : ℕ) → i < length ks
+    → stepFault p (getD ks i noStep) ≡ 0
+unfolding Faultless
+faultless-at p [] f i h = absurd (omega arith)
+faultless-at p (k ∷ ks) f zero h = f .0
+faultless-at p (k ∷ ks) f (suc i) h = faultless-at p ks (f .1) i (omega arith)
+
+-- where the run leads
+pub reached-leads : (c : Case) → readsBack c ≡ true → (b : ℕ) (run : List Step)
+    → askOf (c .program) (c .ask) b ≡ reached run
+    → (u : State)
+    × Faultless (c .program) run
+    × Leads (c .program) (startOf (c .program)) run u
+    × (reaches (c .ask) u ≡ true)
+unfolding askOf walkFrom
+reached-leads c h b run q =
+    let fits = begin-fits (c .program) (program-fits c h) in
+    let r = reached-is (reaches (c .ask)) b (walkOf (c .program) (startOf (c .program))) run q in
+    let v = r .1 in
+    let on = first-on (reaches (c .ask)) (walkOf (c .program) (startOf (c .program))) (r .0) v (r .2) in
+    let l = walk-leads (c .program) (startOf (c .program)) fits (v .run) (v .end) on in (
+      v .end,
+      subst (Faultless (c .program)) (r .4) (l .0),
+      subst (λ ks. Leads (c .program) (startOf (c .program)) ks (v .end)) (r .4) (l .1),
+      r .2 .passes,
+    )
+
+-- a case that passes the test for 32, and a run that the question shows of it
+module _ (c : Case) (h : readsBack c ≡ true) (b : ℕ) (run : List Step)
+    (q : askOf (c .program) (c .ask) b ≡ reached run) where
+  abbrev shown : Case
+  shown = withRun c (runWith run)
+
+  few : length run ≤ mostSteps
+  few =
+      let a = reached-short (c .program) (program-fits c h) (c .ask) b run q in
+      let f = full-length-most c h in
+      omega arith
+
+  pub shown-readable : readsBack shown ≡ true
+  shown-readable =
+      let l = reached-leads c h b run q in
+      other-run-reads-back c h run few (faultless-at (c .program) run (l .1))
+
+  shown-run : runOf shown ≡ run
+  unfolding withRun runWith
+  shown-run = take-at run (replicate (mostSteps - length run) noStep) (length run) refl
+
+  leads : (u : State) → Leads (c .program) (startOf (c .program)) run u
+      → Leads (shown .program) (startOf (shown .program)) (runOf shown) u
+  unfolding withRun
+  leads u l = subst (λ ks. Leads (c .program) (startOf (c .program)) ks u) (sym shown-run) l
+
+  pub shown-legal : judgeOf shown .verdict ≡ Legal (length run)
+  shown-legal =
+      let l = reached-leads c h b run q in
+      judge-legal shown shown-readable .1 (l .0, leads (l .0) (l .2))
+      ∙ ap (λ (ks : List Step). Legal (length ks)) shown-run
+
+  pub shown-reaches : reaches (c .ask) (judgeOf shown .state) ≡ true
+  shown-reaches =
+      let l = reached-leads c h b run q in
+      ap (reaches (c .ask)) (judge-legal-state shown shown-readable (l .0) (leads (l .0) (l .2))) ∙ l .3

@@ -1,0 +1,244 @@
+-- The walk's code, at each way out and at each turn of its loop.
+--   restOf p s ks   what is still to walk below the state s: everything that starts with one of the steps ks
+--   Walking         what the loop keeps
+-- Assumes nothing.
+use Prim.Native.Nat.{ℕ, zero, suc, _+_, _*_, _-_, _<_, _≤_}
+use mathlib.Core.Path.{_≡_, refl, sym, ap, subst, _∙_}
+use mathlib.Core.Logic.{_≢_, inl}
+use mathlib.Core.Bool.{true, false}
+use mathlib.Core.List.{List, [], _∷_, map}
+use lib.ListN.{length, getD, drop}
+use lib.Seq.{sets, length-sets}
+use native.Mathlib.Omega.{arith}
+use Rattle.cases.specs.declared.case.Step.{Step}
+use Rattle.cases.specs.declared.case.Program.{Program}
+use Rattle.cases.specs.declared.case.Ask.{Ask}
+use Rattle.cases.specs.declared.record.Record.the-variants.{Take}
+use Rattle.cases.specs.Checks.{stepFault}
+use Rattle.cases.specs.Record.{recordBytes}
+use Rattle.cases.specs.Places.{stepsBytes}
+use Rattle.machine.specs.declared.cells.State.{State}
+use Rattle.machine.specs.declared.next.Next.{Next}
+use Rattle.machine.specs.Rules.{ruleOf, nextOf}
+use Rattle.machine.specs.Fit.{Fits}
+use Rattle.machine.specs.Work.{work}
+use Rattle.machine.specs.Next.{legalSteps, stepAt, nextIn, nextSteps}
+use Rattle.machine.specs.Sizes.{mostCandidates}
+use Rattle.machine.proofs.Promises.{step-fits, step-work, next-step-here, next-steps-end, next-steps-few}
+use Rattle.search.specs.declared.walk.Walked.{Walked}
+use Rattle.search.specs.declared.walk.Walked.the-variants.{Found, Finished, Stopped}
+use Rattle.search.specs.Walk.{Visit, under, starting, walk, On, ptso, walkOf}
+use Rattle.search.specs.Question.{reachesIn, reaches}
+use Rattle.search.specs.Seek.{Sought, hit, done, spent, seek, walkedOf, storedOf}
+use Rattle.search.proofs.ListLaws.{on-drop}
+use Rattle.search.proofs.SeekLaws.{onward, behindStep, seek-append, seek-under}
+use Rattle.search.proofs.PtsoLaws.{next-is}
+use Rattle.search.proofs.StoreLaws.{step-before, length-stored}
+
+abbrev pub restOf : Program → State → List Step → List (Visit State Step)
+restOf p s ks = starting (ptso p) (walk (ptso p) (work p s)) s ks
+
+-- what the walk at a depth leaves, as the code has it: its answer and the lent bytes
+pub record Left (p : Program) (a : Ask) (s : State) (b depth : ℕ) (before : List ℕ) (r : Walked) (out : List ℕ)
+    : Type 0 where
+  pub told : r ≡ walkedOf depth (seek (reaches a) b (walkOf p s))
+  pub stored : out ≡ storedOf depth (seek (reaches a) b (walkOf p s)) before
+
+module _ (p : Program) (a : Ask) (s : State) (b depth : ℕ) (out : List ℕ) where
+  -- by what is sought
+  left-as : (x : Sought Step) → seek (reaches a) b (walkOf p s) ≡ x → (r : Walked) (last : List ℕ)
+      → r ≡ walkedOf depth x
+      → last ≡ storedOf depth x out
+      → Left p a s b depth out r last
+  left-as x e r last f g =
+      record {
+        told = f ∙ ap (walkedOf depth) (sym e);
+        stored = g ∙ ap (λ y. storedOf depth y out) (sym e);
+      }
+
+  -- no budget is left; the state reaches
+  pub left-spent : b ≡ 0 → Left p a s b depth out Stopped out
+  unfolding walkOf walk seek walkedOf storedOf
+  left-spent e = left-as spent (ap (λ c. seek (reaches a) c (walkOf p s)) e) Stopped out refl refl
+
+  pub left-here : b ≢ 0 → reachesIn (a .wanted) (a .want) (a .passed) (s .words) (s .issued) ≡ true
+      → Left p a s b depth out (Found depth) out
+  unfolding walkOf walk seek walkedOf storedOf stepsBytes reaches
+  left-here n t =
+      left-as (hit []) (go b n) (Found depth) out (ap Found (omega arith)) refl
+    where
+      go : (c : ℕ) → c ≢ 0 → seek (reaches a) c (walkOf p s) ≡ hit []
+      go zero n = absurd (n refl)
+      go (suc c) n = rw (t, seek)
+
+-- `next` lists the next steps; those from place i on are still to be walked, with so much of the budget left,
+-- and nothing is stored yet
+pub record Walking (p : Program) (a : Ask) (s : State) (b : ℕ) (next : Next) (before out : List ℕ) (left i : ℕ)
+    : Type 0 where
+  pub fit : Fits p s
+  pub list : next ≡ nextSteps p s
+  pub within : i ≤ next .count
+  pub kept : out ≡ before
+  pub same : seek (reaches a) left (restOf p s (drop i (legalSteps p s))) ≡ seek (reaches a) b (walkOf p s)
+
+pub walking-start : (p : Program) (a : Ask) (s : State) (b : ℕ) (next : Next) (out : List ℕ) → Fits p s → b ≢ 0
+    → reachesIn (a .wanted) (a .want) (a .passed) (s .words) (s .issued) ≡ false
+    → next ≡ nextIn p (s .buffers) (s .issued) (s .waiting) (s .marks) (s .lengths)
+    → Walking p a s b next out out (b - 1) 0
+unfolding walkOf walk seek nextSteps ptso reaches
+walking-start p a s b next out f n t e =
+    record { fit = f; list = e; within = omega arith; kept = refl; same = go b n }
+  where
+    go : (c : ℕ) → c ≢ 0
+        → seek (reaches a) (c - 1) (restOf p s (legalSteps p s)) ≡ seek (reaches a) c (walkOf p s)
+    go zero n = absurd (n refl)
+    go (suc c) n = let e : suc c - 1 ≡ c = omega arith in rw (e, t, seek)
+
+module _ {p : Program} {a : Ask} {s : State} {b : ℕ} {next : Next} {before out : List ℕ} {left i : ℕ}
+    (o : Walking p a s b next before out left i) where
+  -- there are no more next steps than places for them
+  pub walking-few : next .count ≤ mostCandidates
+  walking-few = let e = ap (λ (x : Next). x .count) (o .list) in omega (arith, next-steps-few p s (o .fit))
+
+  -- the loop ends
+  pub walking-end : (depth : ℕ) → next .count ≤ i → Left p a s b depth before (Finished left) out
+  unfolding starting seek walkedOf storedOf
+  walking-end depth h =
+      let w = o .within in
+      let e : i ≡ nextSteps p s .count = (omega arith) ∙ ap (λ (x : Next). x .count) (o .list) in
+      let none = ap (λ n. drop n (legalSteps p s)) e ∙ next-steps-end p s (o .fit) in
+      let all = sym (o .same) ∙ ap (λ ks. seek (reaches a) left (restOf p s ks)) none in
+      left-as p a s b depth before (done left) all (Finished left) out refl (o .kept)
+
+  -- a turn: k is the step of the rank at place i, and z the state behind it
+  module _ (h : i < next .count) (k : Step) (k-is : k ≡ stepAt (getD (next .ranks) i 0)) where
+    front : drop i (legalSteps p s) ≡ k ∷ drop (i + 1) (legalSteps p s)
+    front =
+        let e = ap (λ (x : Next). x .count) (o .list) in
+        let f = ap (λ (x : Next). stepAt (getD (x .ranks) i 0)) (o .list) in
+        next-step-here p s (o .fit) i (omega arith)
+        ∙ ap (λ j. j ∷ drop (i + 1) (legalSteps p s)) (sym (k-is ∙ f))
+
+    legal : On k (legalSteps p s)
+    unfolding On
+    legal = on-drop k i (legalSteps p s) (subst (On k) (sym front) (inl refl))
+
+    -- it is legal, so that the state behind it fits and has less work left
+    pub turn-legal : (stepFault p k ≡ 0) × (ruleOf p s k ≡ 0)
+    turn-legal = next-is p s (o .fit) k legal
+
+    module _ (z : State) (z-is : z ≡ nextOf p s k) where
+      pub turn-fits : Fits p z
+      turn-fits = rw z-is (step-fits p s (o .fit) k (turn-legal .0) (turn-legal .1))
+
+      pub turn-work : work p z + 1 ≡ work p s
+      turn-work = rw z-is (step-work p s (o .fit) k (turn-legal .0) (turn-legal .1))
+
+      -- what the walk below z finds decides, or the walk goes on with what is left of the budget
+      turn-seek : seek (reaches a) b (walkOf p s)
+          ≡ onward (behindStep k (seek (reaches a) left (walkOf p z)))
+          (λ n. seek (reaches a) n (restOf p s (drop (i + 1) (legalSteps p s))))
+      unfolding starting walkOf ptso
+      turn-seek =
+          let w : work p s ≡ suc (work p z) = (let e = turn-work in omega arith) in
+          let below = ap (λ n. walk (ptso p) n (nextOf p s k)) w
+          ∙ ap (λ x. walk (ptso p) (suc (work p z)) x) (sym z-is) in
+          sym (o .same)
+          ∙ ap (λ ks. seek (reaches a) left (restOf p s ks)) front
+          ∙ seek-append (reaches a) left (map (under k) (walk (ptso p) (work p s) (nextOf p s k)))
+          (restOf p s (drop (i + 1) (legalSteps p s)))
+          ∙ ap (λ x. onward x (λ n. seek (reaches a) n (restOf p s (drop (i + 1) (legalSteps p s)))))
+          (seek-under (reaches a) left k (walk (ptso p) (work p s) (nextOf p s k))
+          ∙ ap (λ vs. behindStep k (seek (reaches a) left vs)) below)
+
+      module _ (depth : ℕ) (r : Walked) (last : List ℕ)
+          (below : (r ≡ walkedOf (depth + 1) (seek (reaches a) left (walkOf p z)))
+          × (last ≡ storedOf (depth + 1) (seek (reaches a) left (walkOf p z)) out)) where
+        abbrev sought : Sought Step
+        sought = seek (reaches a) left (walkOf p z)
+
+        on-from : Sought Step → Sought Step
+        on-from x =
+            onward (behindStep k x) (λ n. seek (reaches a) n (restOf p s (drop (i + 1) (legalSteps p s))))
+
+        -- the lent bytes are as many as before, so that there is room for the step's record
+        pub turn-length : length last ≡ length out
+        turn-length = ap length (below .1) ∙ length-stored (depth + 1) sought out
+
+        pub turn-put : (at : ℕ) (final : List ℕ) → final ≡ sets last at (recordBytes (Take k))
+            → length final ≡ length before
+        turn-put at final e =
+            ap length e ∙ length-sets last at (recordBytes (Take k)) ∙ turn-length ∙ ap length (o .kept)
+
+        pub turn-room : 8 * (depth + work p s) ≤ length out → 8 * depth + 8 ≤ length last
+        turn-room h =
+            let e = turn-length in
+            let w = turn-work in
+            omega arith
+
+        -- a run was found below: the step goes before it
+        pub turn-found : (n : ℕ) → r ≡ Found n
+            → Left p a s b depth before (Found n) (sets last (8 * depth) (recordBytes (Take k)))
+        unfolding walkedOf storedOf on-from
+        turn-found n e = go sought refl
+          where
+            go : (x : Sought Step) → sought ≡ x
+                → Left p a s b depth before (Found n) (sets last (8 * depth) (recordBytes (Take k)))
+            go (hit run) f =
+                let told = sym e ∙ below .0 ∙ ap (walkedOf (depth + 1)) f in
+                let same : n ≡ depth + 1 + length run = cc in
+                let bytes = below .1 ∙ ap (λ y. storedOf (depth + 1) y out) f in
+                left-as p a s b depth before (hit (k ∷ run)) (turn-seek ∙ ap on-from f) (Found n) _
+                (ap Found (omega arith))
+                (ap (λ y. sets y (8 * depth) (recordBytes (Take k))) bytes
+                ∙ step-before out depth k run
+                ∙ ap (λ y. sets y (8 * depth) (stepsBytes (k ∷ run))) (o .kept))
+            go (done m) f =
+                let told = sym e ∙ below .0 ∙ ap (walkedOf (depth + 1)) f in
+                absurd (let z : _≡_ {A = ℕ} 0 1 = cc in omega arith)
+            go spent f =
+                let told = sym e ∙ below .0 ∙ ap (walkedOf (depth + 1)) f in
+                absurd (let z : _≡_ {A = ℕ} 0 1 = cc in omega arith)
+
+        -- the budget was used up below
+        pub turn-stopped : r ≡ Stopped → Left p a s b depth before Stopped last
+        unfolding walkedOf storedOf on-from
+        turn-stopped e = go sought refl
+          where
+            go : (x : Sought Step) → sought ≡ x → Left p a s b depth before Stopped last
+            go (hit run) f =
+                let told = sym e ∙ below .0 ∙ ap (walkedOf (depth + 1)) f in
+                absurd (let z : _≡_ {A = ℕ} 0 1 = cc in omega arith)
+            go (done m) f =
+                let told = sym e ∙ below .0 ∙ ap (walkedOf (depth + 1)) f in
+                absurd (let z : _≡_ {A = ℕ} 0 1 = cc in omega arith)
+            go spent f =
+                let bytes = below .1 ∙ ap (λ y. storedOf (depth + 1) y out) f in
+                left-as p a s b depth before spent (turn-seek ∙ ap on-from f) Stopped last refl
+                (bytes ∙ o .kept)
+
+        -- none was found below: the loop goes on with what is left of the budget
+        pub turn-finished : (rest : ℕ) → r ≡ Finished rest → Walking p a s b next before last rest (i + 1)
+        unfolding walkedOf storedOf on-from
+        turn-finished rest e = go sought refl
+          where
+            go : (x : Sought Step) → sought ≡ x → Walking p a s b next before last rest (i + 1)
+            go (hit run) f =
+                let told = sym e ∙ below .0 ∙ ap (walkedOf (depth + 1)) f in
+                absurd (let z : _≡_ {A = ℕ} 0 1 = cc in omega arith)
+            go (done m) f =
+                let told = sym e ∙ below .0 ∙ ap (walkedOf (depth + 1)) f in
+                let same : rest ≡ m = cc in
+                let bytes = below .1 ∙ ap (λ y. storedOf (depth + 1) y out) f in
+                record {
+                  fit = o .fit;
+                  list = o .list;
+                  within = omega arith;
+                  kept = bytes ∙ o .kept;
+                  same =
+                      ap (λ n. seek (reaches a) n (restOf p s (drop (i + 1) (legalSteps p s)))) same
+                      ∙ sym (turn-seek ∙ ap on-from f);
+                }
+            go spent f =
+                let told = sym e ∙ below .0 ∙ ap (walkedOf (depth + 1)) f in
+                absurd (let z : _≡_ {A = ℕ} 0 1 = cc in omega arith)

@@ -1,0 +1,37 @@
+-- How the code goes through the walk, counting the budget down; Question says what it comes to, and doesn't use
+-- this page.
+--   seek test b vs      the first of the runs vs that passes the test, at a budget b
+--   walkedOf d x        what the walk at depth d answers
+--   storedOf d x out    what it leaves in the lent bytes: the run's records behind those of the first d steps
+-- Assumes nothing.
+use Prim.Native.Nat.{ℕ, zero, suc, _+_, _*_}
+use mathlib.Core.Bool.{Bool, true, false}
+use mathlib.Core.List.{List, [], _∷_}
+use lib.ListN.{length}
+use lib.Seq.{sets}
+use Rattle.cases.specs.declared.case.Step.{Step}
+use Rattle.cases.specs.Places.{stepsBytes}
+use Rattle.search.specs.declared.walk.Walked.{Walked}
+use Rattle.search.specs.declared.walk.Walked.the-variants.{Found, Finished, Stopped}
+use Rattle.search.specs.Walk.{Visit}
+
+-- a run that passes; none does, and so much of the budget is left; the budget is used up
+pub data Sought (K : Type 0) : Type 0 where
+  hit : List K → Sought K
+  done : ℕ → Sought K
+  spent : Sought K
+
+unfoldable pub seek : {S K : Type 0} → (S → Bool) → ℕ → List (Visit S K) → Sought K
+seek test b [] = done b
+seek test zero (v ∷ vs) = spent
+seek test (suc b) (v ∷ vs) = elim (test (v .end)) [ true ↦ hit (v .run) | false ↦ seek test b vs ]
+
+unfoldable pub walkedOf : ℕ → Sought Step → Walked
+walkedOf d (hit run) = Found (d + length run)
+walkedOf d (done b) = Finished b
+walkedOf d spent = Stopped
+
+unfoldable pub storedOf : ℕ → Sought Step → List ℕ → List ℕ
+storedOf d (hit run) out = sets out (8 * d) (stepsBytes run)
+storedOf d (done b) out = out
+storedOf d spent out = out

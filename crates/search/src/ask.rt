@@ -1,0 +1,76 @@
+// The question: can a power cut leave a given memory, with given instructions issued?
+use crate::walk;
+use crate::walk::Walked;
+use cases::case::Ask;
+use cases::case::Program;
+use cases::reader;
+use machine::steps;
+use machine::work;
+ghost use mathlib.Core.Path.{_≡_};
+ghost use lib.ListN.{length};
+ghost use Rattle.machine.specs.Fit.{ProgramFits};
+ghost use Rattle.search.specs.Question.{outcomeNo, outcomePlace, answerOf, shownIn, questionOf, shownOf};
+
+// Reached with the number of steps of the run that is shown; refused with the number and the offset.
+pub enum Outcome {
+    Reached(usize),
+    Unreachable,
+    Undecided,
+    Refused(u8, usize),
+}
+
+// 100, 101, 102, or the refusal's number.
+pub fn outcome_number(o: Outcome) -> u8
+    ensures { λ r. ⌜ r ≡ outcomeNo o ⌝ }
+{
+    match o {
+        Outcome::Reached(_) => 100,
+        Outcome::Unreachable => 101,
+        Outcome::Undecided => 102,
+        Outcome::Refused(number, _) => number,
+    }
+}
+
+// The number of steps, the offset, or 0.
+pub fn outcome_place(o: Outcome) -> usize
+    ensures { λ r. ⌜ r ≡ outcomePlace o ⌝ }
+{
+    match o {
+        Outcome::Reached(count) => count,
+        Outcome::Unreachable => 0,
+        Outcome::Undecided => 0,
+        Outcome::Refused(_, offset) => offset,
+    }
+}
+
+// The question of a program that the machine can run: 31, then the walk.
+fn ask(p: Program, a: Ask, run: &mut [u8], budget: u32) -> Outcome
+    requires { ⌜ ProgramFits p ⌝ }
+    ensures { λ r. ⌜ (r ≡ answerOf p a (length (now (run .entry))) budget)
+        × (now (run .exit) ≡ shownIn p a budget (now (run .entry))) ⌝ }
+{
+    let s = steps::start_of(p);
+    if run.len() < 8 * work::work_in(p, s) {
+        return Outcome::Refused(31, 0);
+    }
+    match walk::walk(p, a, s, budget, 0, run) {
+        Walked::Found(count) => Outcome::Reached(count),
+        Walked::Finished(_) => Outcome::Unreachable,
+        Walked::Stopped => Outcome::Undecided,
+    }
+}
+
+// The question of a case as bytes: reading first. Kind 6 records are read, and not looked at.
+pub fn question(bytes: &[u8], run: &mut [u8], budget: u32) -> Outcome
+    ensures { λ r. ⌜ (r ≡ questionOf (now (bytes .entry)) (length (now (run .entry))) budget)
+        × (now (run .exit) ≡ shownOf (now (bytes .entry)) budget (now (run .entry))) ⌝ }
+{
+    let reading = cases::read(bytes);
+    let answer = reading.answer;
+    let number = reader::number(answer);
+    if number != 0 {
+        return Outcome::Refused(number, reader::offset(answer));
+    }
+    let c = reading.case;
+    ask(c.program, c.ask, run, budget)
+}
