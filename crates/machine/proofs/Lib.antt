@@ -34,3 +34,4 @@ mod RankLaws
 -- runs
 mod JudgeLaws
 mod RunLaws
+mod PlaceLaws

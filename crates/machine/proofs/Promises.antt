@@ -11,7 +11,7 @@ use Rattle.cases.specs.declared.case.Step.{Step}
 use Rattle.cases.specs.declared.case.Program.{Program}
 use Rattle.cases.specs.declared.case.Ask.{Ask}
 use Rattle.cases.specs.declared.case.Case.{Case}
-use Rattle.cases.specs.Sizes.{mostSteps}
+use Rattle.cases.specs.Sizes.{mostSteps, longest}
 use Rattle.cases.specs.Bytes.{IsBytes}
 use Rattle.cases.specs.Checks.{stepFault}
 use Rattle.cases.specs.Draft.{noStep, withAsk}
@@ -26,7 +26,7 @@ use Rattle.machine.specs.Rules.{ruleOf, nextOf, startOf}
 use Rattle.machine.specs.Fit.{misfits, Sized, ProgramFits, Fits, Shallow}
 use Rattle.machine.specs.Work.{work, fullLength, cost}
 use Rattle.machine.specs.Judge.{Leads, Faultless, StopsAt, rulingNo, told, steppedOf, stepOf}
-use Rattle.machine.specs.Judge.{judgeFrom, runOf}
+use Rattle.machine.specs.Judge.{verdictNo, verdictPlace, judgeFrom, runOf}
 use Rattle.machine.specs.Judge.{judgeRun, stopped, judgeOf, judgeBytes}
 use Rattle.machine.specs.Next.{legalSteps, stepAt, nextSteps, Rising, Listed}
 use Rattle.machine.specs.Offer.{Movable}
@@ -41,6 +41,7 @@ use Rattle.machine.proofs.ReadyLaws as ReadyLaws
 use Rattle.machine.proofs.RuleLaws as RuleLaws
 use Rattle.machine.proofs.FitLaws as FitLaws
 use Rattle.machine.proofs.CandidateLaws as CandidateLaws
+use Rattle.machine.proofs.PlaceLaws as PlaceLaws
 use Rattle.machine.proofs.JudgeLaws.{leads-or-stops, says-legal, says-illegal, legal-says, illegal-says}
 use Rattle.machine.proofs.JudgeLaws.{says-leads, says-stops, state-is}
 
@@ -141,6 +142,10 @@ module _ (s : List ℕ) where
   unfolding judgeBytes judgeOf
   judge-read b h =
       pick-true _ _ _ (eq-eqb _ _ h) ∙ sym (pick-false _ _ _ (true-not _ (read-reads-back s b h)))
+
+  -- the number and the place are low enough to be packed: a refusal's, a rule's, or those of a legal run
+  pub verdict-low : (verdictNo (judgeBytes s .verdict) < 256) × (verdictPlace (judgeBytes s .verdict) ≤ longest)
+  verdict-low = PlaceLaws.verdict-low s
 
 -- "It doesn't look at kinds 4 and 5."
 pub ask-not-looked-at : (c : Case) (a : Ask) → judgeRun (withAsk c a) ≡ judgeRun c

@@ -1,5 +1,5 @@
 -- The question's code: 31, then what the walk leaves. Assumes nothing.
-use Prim.Native.Nat.{ℕ, _+_, _*_, _<_, _≤_}
+use Prim.Native.Nat.{ℕ, _*_, _<_, _≤_}
 use mathlib.Core.Path.{_≡_, refl, sym, ap, subst, _∙_}
 use mathlib.Core.Logic.{_≢_, inl}
 use mathlib.Core.Bool.{Bool}
@@ -33,6 +33,7 @@ use Rattle.search.specs.Seek.{Sought, hit, done, spent, seek, walkedOf, 
 use Rattle.search.proofs.ListLaws.{on-right}
 use Rattle.search.proofs.PtsoLaws.{walk-short}
 use Rattle.search.proofs.SeekLaws.{comesTo, seek-decides}
+use Rattle.search.proofs.SeekLaws.{walked-found, walked-finished, walked-stopped}
 use Rattle.search.proofs.BudgetLaws.{reached-is}
 
 -- the first that reaches is on the list
@@ -101,67 +102,39 @@ module _ (p : Program) (fits : ProgramFits p) (a : Ask) (b : ℕ) where
       asked : (x : Sought Step) → sought ≡ x → askOf p a b ≡ comesTo x
       asked x e = sought-is x (ap (λ u. seek (reaches a) b (walkOf p u)) (sym s-is) ∙ e)
 
-      told : (x : Sought Step) → sought ≡ x → r ≡ walkedOf 0 x
-      told x e = left .0 ∙ ap (walkedOf 0) e
-
       stored : (x : Sought Step) → sought ≡ x → last ≡ storedOf 0 x out
       stored x e = left .1 ∙ ap (λ y. storedOf 0 y out) e
 
       pub answer-found : (n : ℕ) → r ≡ Found n → Answers (Reached n)
-      unfolding walkedOf storedOf toldOf shownBy
-      answer-found n e = go sought refl
-        where
-          go : (x : Sought Step) → sought ≡ x → Answers (Reached n)
-          go (hit run) f =
-              let says = sym e ∙ told (hit run) f in
-              let whole : n ≡ 0 + length run = cc in
-              let same : n ≡ length run = omega arith in
-              let ask = asked (hit run) f in
-              let few = reached-short run ask in
-              let long = steps-bytes-length run in
-              let g = full-is in
-              answer-as (Reached n) (ap Reached same ∙ ap toldOf (sym ask))
-              (stored (hit run) f
-              ∙ sets-front out (stepsBytes run) (omega arith)
-              ∙ ap (λ m. stepsBytes run ++ drop m out) long
-              ∙ ap (λ d. shownBy d out) (sym ask))
-          go (done m) f =
-              let says = sym e ∙ told (done m) f in
-              absurd (let z : _≡_ {A = ℕ} 0 1 = cc in omega arith)
-          go spent f =
-              let says = sym e ∙ told spent f in
-              absurd (let z : _≡_ {A = ℕ} 0 1 = cc in omega arith)
+      unfolding storedOf toldOf shownBy
+      answer-found n e =
+          let w = walked-found 0 sought n (sym (left .0) ∙ e) in
+          let run = w .0 in
+          let whole = w .2 in
+          let same : n ≡ length run = omega arith in
+          let ask = asked (hit run) (w .1) in
+          let few = reached-short run ask in
+          let long = steps-bytes-length run in
+          let g = full-is in
+          answer-as (Reached n) (ap Reached same ∙ ap toldOf (sym ask))
+          (stored (hit run) (w .1)
+          ∙ sets-front out (stepsBytes run) (omega arith)
+          ∙ ap (λ m. stepsBytes run ++ drop m out) long
+          ∙ ap (λ d. shownBy d out) (sym ask))
 
       pub answer-finished : (m : ℕ) → r ≡ Finished m → Answers Unreachable
-      unfolding walkedOf storedOf toldOf shownBy
-      answer-finished m e = go sought refl
-        where
-          go : (x : Sought Step) → sought ≡ x → Answers Unreachable
-          go (hit run) f =
-              let says = sym e ∙ told (hit run) f in
-              absurd (let z : _≡_ {A = ℕ} 0 1 = cc in omega arith)
-          go (done m) f =
-              let ask = asked (done m) f in
-              answer-as Unreachable (ap toldOf (sym ask))
-              (stored (done m) f ∙ ap (λ d. shownBy d out) (sym ask))
-          go spent f =
-              let says = sym e ∙ told spent f in
-              absurd (let z : _≡_ {A = ℕ} 0 1 = cc in omega arith)
+      unfolding storedOf toldOf shownBy
+      answer-finished m e =
+          let w = walked-finished 0 sought m (sym (left .0) ∙ e) in
+          let ask = asked (done m) w in
+          answer-as Unreachable (ap toldOf (sym ask)) (stored (done m) w ∙ ap (λ d. shownBy d out) (sym ask))
 
       pub answer-stopped : r ≡ Stopped → Answers Undecided
-      unfolding walkedOf storedOf toldOf shownBy
-      answer-stopped e = go sought refl
-        where
-          go : (x : Sought Step) → sought ≡ x → Answers Undecided
-          go (hit run) f =
-              let says = sym e ∙ told (hit run) f in
-              absurd (let z : _≡_ {A = ℕ} 0 1 = cc in omega arith)
-          go (done m) f =
-              let says = sym e ∙ told (done m) f in
-              absurd (let z : _≡_ {A = ℕ} 0 1 = cc in omega arith)
-          go spent f =
-              let ask = asked spent f in
-              answer-as Undecided (ap toldOf (sym ask)) (stored spent f ∙ ap (λ d. shownBy d out) (sym ask))
+      unfolding storedOf toldOf shownBy
+      answer-stopped e =
+          let w = walked-stopped 0 sought (sym (left .0) ∙ e) in
+          let ask = asked spent w in
+          answer-as Undecided (ap toldOf (sym ask)) (stored spent w ∙ ap (λ d. shownBy d out) (sym ask))
 
 -- the bytes s read as r, with the number n: reading is refused, or gives a case
 module _ (s : List ℕ) (r : Reading) (r-is : r ≡ readOf s) (n : ℕ) (n-is : n ≡ numberOf (r .answer)) where

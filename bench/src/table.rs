@@ -1,0 +1,67 @@
+//! The ten cases that are measured, from eight runs to a million.
+
+use crate::case::{Case, Operation, Operation::*};
+
+const X: u8 = 0;
+const Y: u8 = 1;
+const Z: u8 = 2;
+const W: u8 = 3;
+
+/// The budget of the question program.
+const BUDGET: u32 = 1_000_000;
+
+type Wants<'a> = &'a [(u8, u32)];
+
+fn case(name: &'static str, locations: u8, threads: &[&[Operation]], wants: Wants) -> Case {
+    let threads = threads.iter().map(|instructions| instructions.to_vec()).collect();
+    Case { name, locations, threads, wants: wants.to_vec(), passed: Vec::new(), budget: BUDGET }
+}
+
+/// As many stores as a thread may have, of rising words.
+fn eight_stores(location: u8, first: u32) -> [Operation; 8] {
+    [0, 1, 2, 3, 4, 5, 6, 7].map(|more| StoreWord(location, first + more))
+}
+
+fn of_one_thread() -> Vec<Case> {
+    let outage = [StoreWord(X, 500), StoreWord(Y, 1)];
+    let repaired = [StoreWord(X, 500), FlushOpt(X), Sfence, StoreWord(Y, 1)];
+    let fenced = [StoreWord(X, 1), FlushOpt(X), FlushOpt(X), Sfence, StoreWord(Y, 1), FlushOpt(X), Mfence];
+    vec![
+        case("the outage", 2, &[&outage], &[(X, 0), (Y, 1)]),
+        case("the outage repaired", 2, &[&repaired], &[(X, 0), (Y, 1)]),
+        Case { passed: vec![(0, 7)], ..case("flush-opts fenced", 2, &[&fenced], &[(X, 0)]) },
+    ]
+}
+
+fn of_more_threads() -> Vec<Case> {
+    let own_store_read = [StoreWord(X, 1), Load(X, 0), StoreRegister(Y, 0)];
+    let flushed = [StoreWord(X, 1), Flush(X), StoreWord(Y, 1)];
+    let copied_to_z = [Load(Y, 0), StoreRegister(Z, 0)];
+    let flushed_later = [StoreWord(X, 1), FlushOpt(X)];
+    let copied_to_y = [Load(X, 1), StoreRegister(Y, 1)];
+    let swap = [StoreWord(X, 1), Exchange(Y, 0, 2), StoreRegister(X, 0)];
+    let swap_between = [FlushOpt(X), Exchange(Y, 1, 5), Mfence, Flush(X)];
+    let writers: [&[Operation]; 2] = [&[StoreWord(X, 1)], &[StoreWord(Y, 1)]];
+    let readers: [&[Operation]; 2] = [&[Load(X, 0), Load(Y, 1)], &[Load(Y, 0), Load(X, 1)]];
+    vec![
+        case("read while waiting", 3, &[&own_store_read, &copied_to_z], &[(X, 0), (Y, 0), (Z, 1)]),
+        case("flushed, handed on", 3, &[&flushed, &copied_to_z], &[(X, 0), (Z, 1)]),
+        case("swaps", 2, &[&swap, &swap_between], &[(X, 5), (Y, 5)]),
+        case("writers and readers", 2, &[writers, readers].concat(), &[(X, 2)]),
+        case("three threads", 3, &[&flushed_later, &copied_to_y, &[StoreWord(Z, 1)]], &[(Y, 2)]),
+    ]
+}
+
+/// Programs of the greatest full length, whose walk goes down all the way.
+fn deep() -> Vec<Case> {
+    let [x, y, z, w] = [X, Y, Z, W].map(|location| eight_stores(location, 1));
+    let (flush_opts, more_y) = ([FlushOpt(X); 8], eight_stores(Y, 9));
+    vec![
+        case("deep, reached", 2, &[&flush_opts, &x, &y, &more_y], &[(X, 5), (Y, 16)]),
+        case("deep, budget used up", 4, &[&x, &y, &z, &w], &[(X, 7), (W, 8)]),
+    ]
+}
+
+pub fn cases() -> Vec<Case> {
+    [of_one_thread(), of_more_threads(), deep()].into_iter().flatten().collect()
+}

@@ -1,0 +1,47 @@
+-- Laws of packing: a low answer and its place fit one 32-bit number and come out of it again; and what the code
+-- packs is what the definitions pack. Assumes nothing.
+use Prim.Native.Nat.{ℕ, _^_, _<_, _≤_}
+use mathlib.Core.Path.{_≡_, ap, _∙_}
+use mathlib.Core.List.{List}
+use native.Mathlib.Omega.{arith}
+use Rattle.cases.specs.Sizes.{longest}
+use Rattle.machine.specs.declared.runs.Judged.{Judged}
+use Rattle.machine.specs.Judge.{verdictNo, verdictPlace, judgeBytes}
+use Rattle.machine.proofs.Promises.{verdict-low}
+use Rattle.search.specs.declared.ask.Outcome.{Outcome}
+use Rattle.search.specs.Question.{outcomeNo, outcomePlace, questionOf}
+use Rattle.search.proofs.Promises.{question-low}
+use Rattle.host.specs.Host.{packedOf, answerIn, placeIn, judgePacked, questionPacked}
+
+module _ (number place : ℕ) (low : (number < 256) × (place ≤ longest)) where
+  pub pack-fits : packedOf number place < 2 ^ 32
+  unfolding packedOf
+  pack-fits = omega (arith, low .0, low .1)
+
+  pub pack-unpacks : (answerIn (packedOf number place) ≡ number) × (placeIn (packedOf number place) ≡ place)
+  unfolding packedOf answerIn placeIn
+  pack-unpacks = (omega (arith, low .0), omega (arith, low .0))
+
+-- the judge's: j is its answer, `at` its place
+module _ (s : List ℕ) (j : Judged) (j-is : j ≡ judgeBytes s) (at : ℕ)
+    (at-is : at ≡ verdictPlace (j .verdict)) where
+  pub verdict-fits : at < 2 ^ 24
+  verdict-fits =
+      let e = at-is ∙ ap (λ (x : Judged). verdictPlace (x .verdict)) j-is in
+      omega (arith, verdict-low s .1)
+
+  pub verdict-packs : (n : ℕ) → n ≡ verdictNo (j .verdict) → (r : ℕ) → r ≡ packedOf n at → r ≡ judgePacked s
+  unfolding judgePacked
+  verdict-packs n n-is r e = rw (e, n-is, at-is, j-is)
+
+-- the question's: o is its answer, `at` its place
+module _ (s : List ℕ) (room b : ℕ) (o : Outcome) (o-is : o ≡ questionOf s room b) (at : ℕ)
+    (at-is : at ≡ outcomePlace o) where
+  pub outcome-fits : at < 2 ^ 24
+  outcome-fits =
+      let e = at-is ∙ ap outcomePlace o-is in
+      omega (arith, question-low s room b .1)
+
+  pub outcome-packs : (n : ℕ) → n ≡ outcomeNo o → (r : ℕ) → r ≡ packedOf n at → r ≡ questionPacked s room b
+  unfolding questionPacked
+  outcome-packs n n-is r e = rw (e, n-is, at-is, o-is)

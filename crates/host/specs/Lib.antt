@@ -1,0 +1,2 @@
+-- What a reader must believe of the C face.
+pub mod Host

@@ -1,0 +1,97 @@
+/*
+ * Garluveni's C face: judges a run of a small program on persistent memory, and asks whether a power cut can
+ * leave a memory. Both functions are proved to return exactly what docs/SIGNATURES.md says of them, for every
+ * input. They are for x86-64 Linux and stand in target/staticlib/libhost.a, which 'rt staticlib host' makes:
+ *
+ *     cc -Iinclude host.c target/staticlib/libhost.a
+ *
+ * What a caller must keep, because no function can test it:
+ *   - 'bytes' points at 'bytes_len' bytes to read, 'steps' at 'steps_len' bytes to write; no byte is in both.
+ *   - Until the call returns both stay alive, nobody else writes to 'bytes', and nobody else reads or writes
+ *     'steps': no thread, no signal handler, no other process through shared memory or a mapped file.
+ *   - An empty buffer is a length of 0; its pointer is not followed and may be anything, NULL too.
+ *   - 1 MiB of stack is left; the deepest question is tested with no more than that.
+ *
+ * No alignment is asked for, and nothing of the caller's is kept after the return. The functions have no state
+ * of their own, so threads may call them at once, each with a 'steps' of its own. They allocate nothing, do no
+ * input or output, and always end; a question's time grows with its budget.
+ */
+#ifndef GARLUVENI_H
+#define GARLUVENI_H
+
+#include <stddef.h>
+#include <stdint.h>
+
+#ifdef __cplusplus
+extern "C" {
+#endif
+
+enum {
+    /* The longest case file; a longer input is refused. */
+    GARLUVENI_CASE_BYTES = 1328,
+    /* A step as it is stored: a record of kind 6, that is 4, 0, 6, 0, thread, code, position, location. */
+    GARLUVENI_STEP_BYTES = 8,
+    /* No run is longer than its program's full length, and no full length is above this. */
+    GARLUVENI_STEPS = 96,
+    /* With so many bytes lent no question is refused with 31. */
+    GARLUVENI_STEPS_BYTES = GARLUVENI_STEP_BYTES * GARLUVENI_STEPS
+};
+
+/* The answers. The place that goes with an answer is 0 where nothing is said of it. */
+enum garluveni_answers {
+    /* Reading refusals; the place is the offset of the faulty record. */
+    GARLUVENI_CUT = 1,         /* fewer than 4 bytes where a record must start, or payload cut */
+    GARLUVENI_KIND = 2,        /* kind not 1 to 6 */
+    GARLUVENI_LENGTH = 3,      /* length not the one for that kind */
+    GARLUVENI_ORDER = 4,       /* first record not kind 1, kind 1 again, or a kind lower than the one before */
+    GARLUVENI_RANGE = 5,       /* a field out of range */
+    GARLUVENI_RISING = 6,      /* rising or not-falling order broken */
+    GARLUVENI_INSTRUCTION = 7, /* ninth instruction of a thread */
+    GARLUVENI_UNUSED = 8,      /* unused field not 0; a first content of 0; a passed count of 0 */
+    GARLUVENI_STEP = 9,        /* ninety-seventh step record */
+
+    /* Rules of the machine, from the judge; the place is the index of the first illegal step, from 0. */
+    GARLUVENI_NONE_LEFT = 21,         /* issue: the thread has no instruction left */
+    GARLUVENI_BUFFER_NOT_EMPTY = 22,  /* issue of an exchange or mfence: the own buffer is not empty */
+    GARLUVENI_MARKER_QUEUED = 23,     /* issue of an exchange or mfence: a marker of the thread is in a queue */
+    GARLUVENI_NO_ENTRY = 24,          /* move: no entry at the position */
+    GARLUVENI_NOT_FIRST = 25,         /* move: behind position 0, and not a flush-opt */
+    GARLUVENI_BARRED = 26,            /* move: a flush-opt behind an entry that it may not pass */
+    GARLUVENI_QUEUE_NOT_EMPTY = 27,   /* move of a flush: its location's queue is not empty */
+    GARLUVENI_MARKER_LEFT = 28,       /* move of an sfence: a marker of the thread is in a queue */
+    GARLUVENI_QUEUE_EMPTY = 29,       /* persist: the location's queue is empty */
+
+    /* From the question alone. */
+    GARLUVENI_SHORT = 31,        /* 'steps' is shorter than 8 bytes times the program's full length */
+    GARLUVENI_REACHED = 100,     /* a run leaves the wanted memory; the place is the number of steps stored */
+    GARLUVENI_UNREACHABLE = 101, /* no run does */
+    GARLUVENI_UNDECIDED = 102,   /* none of the first 'budget' runs does, and there are more */
+
+    /* From the judge alone; the place is the number of steps. */
+    GARLUVENI_LEGAL = 103
+};
+
+/*
+ * Judges the run of the case in 'bytes'. The answer is 1 to 9, 21 to 29, or GARLUVENI_LEGAL.
+ */
+uint32_t garluveni_judge(const uint8_t *bytes, size_t bytes_len);
+
+/*
+ * Asks the question of the case in 'bytes'; the budget, any number, is how many runs of the walk are looked at.
+ * The answer is 1 to 9, else GARLUVENI_SHORT, else GARLUVENI_REACHED, GARLUVENI_UNREACHABLE or
+ * GARLUVENI_UNDECIDED. GARLUVENI_REACHED stores the walk's first such run from the front of 'steps',
+ * GARLUVENI_STEP_BYTES a step, and touches nothing behind; every other answer stores nothing. Steps of the case
+ * itself are not looked at.
+ */
+uint32_t garluveni_question(const uint8_t *bytes, size_t bytes_len,
+                            uint8_t *steps, size_t steps_len, uint32_t budget);
+
+/* The number that a function returns is the answer plus 256 times its place. */
+static inline uint32_t garluveni_answer(uint32_t number) { return number % 256u; }
+static inline uint32_t garluveni_place(uint32_t number) { return number / 256u; }
+
+#ifdef __cplusplus
+}
+#endif
+
+#endif

@@ -1,0 +1,403 @@
+/* A C host of the proved library: every answer of both functions, what is stored and what is left alone. */
+#include <stdio.h>
+#include <stdlib.h>
+#include <string.h>
+
+#include "garluveni.h"
+
+enum { X, Y, Z, W };
+enum { STORE = 1, STORE_REGISTER, LOAD, EXCHANGE, FLUSH, FLUSH_OPT, SFENCE, MFENCE };
+enum { MILLION = 1000000, GUARD = 64, ROOM = MILLION + 2 * GUARD, UNTOUCHED = 0xEE };
+
+/* The budget of the question program. */
+enum { BUDGET = 1000000 };
+
+static unsigned checks;
+
+static void check(int holds, const char *fact, int line)
+{
+    checks++;
+    if (!holds) {
+        fprintf(stderr, "host.c:%d: not so: %s\n", line, fact);
+        exit(1);
+    }
+}
+
+#define CHECK_AT(line, fact) check(fact, #fact, line)
+#define CHECK(fact) CHECK_AT(__LINE__, fact)
+
+/* Cases */
+
+struct file {
+    size_t length;
+    uint8_t bytes[MILLION];
+};
+
+static const struct file none;
+
+static void add(struct file *file, const uint8_t *record, size_t length)
+{
+    memcpy(file->bytes + file->length, record, length);
+    file->length += length;
+}
+
+#define ADD(file, ...) add(file, (const uint8_t[]){__VA_ARGS__}, sizeof((const uint8_t[]){__VA_ARGS__}))
+
+static void program(struct file *file, uint8_t threads, uint8_t locations)
+{
+    file->length = 0;
+    ADD(file, 4, 0, 1, 0, 1, 0, threads, locations);
+}
+
+static void instruction(struct file *file, uint8_t thread, uint8_t operation, uint8_t location, uint8_t word)
+{
+    ADD(file, 8, 0, 3, 0, thread, operation, location, 0, word, 0, 0, 0);
+}
+
+static void first_content(struct file *file, uint8_t location, uint8_t word)
+{
+    ADD(file, 5, 0, 2, 0, location, word, 0, 0, 0);
+}
+
+static void want(struct file *file, uint8_t location, uint8_t word)
+{
+    ADD(file, 5, 0, 4, 0, location, word, 0, 0, 0);
+}
+
+static void passed(struct file *file, uint8_t thread, uint8_t least)
+{
+    ADD(file, 2, 0, 5, 0, thread, least);
+}
+
+/* A run in words: "I0" thread 0 issues, "M1.2" thread 1 moves at position 2, "P3" location 3 persists. */
+static void run(struct file *file, const char *words)
+{
+    for (const char *at = words; *at != 0; at++) {
+        if (*at == 'I')
+            ADD(file, 4, 0, 6, 0, at[1] - '0', 0, 0, 0);
+        if (*at == 'M')
+            ADD(file, 4, 0, 6, 0, at[1] - '0', 1, at[3] - '0', 0);
+        if (*at == 'P')
+            ADD(file, 4, 0, 6, 0, 0, 2, 0, at[1] - '0');
+    }
+}
+
+static void repeat(struct file *file, const char *words, int times)
+{
+    for (int i = 0; i < times; i++)
+        run(file, words);
+}
+
+/* Calls: both buffers between guards, at another alignment each time */
+
+static uint8_t input[ROOM], lent[ROOM], expected[ROOM];
+static size_t shift;
+
+/* Where a buffer starts: guard bytes stand before it and behind it, as many as the shift leaves. */
+static uint8_t *start(uint8_t *room)
+{
+    return room + GUARD / 2 + shift;
+}
+
+static void lay_out(uint8_t *room, size_t length, const struct file *content)
+{
+    memset(room, UNTOUCHED, length + 2 * GUARD);
+    memcpy(start(room), content->bytes, content->length);
+}
+
+/* Does the room hold the content and nothing else that was not there before? */
+static int holds(const uint8_t *room, size_t length, const struct file *content)
+{
+    lay_out(expected, length, content);
+    return memcmp(room, expected, length + 2 * GUARD) == 0;
+}
+
+static void judges(int line, const struct file *file, uint32_t answer, uint32_t place)
+{
+    shift = (shift + 1) % 16;
+    lay_out(input, file->length, file);
+    uint32_t number = garluveni_judge(start(input), file->length);
+    CHECK_AT(line, garluveni_answer(number) == answer);
+    CHECK_AT(line, garluveni_place(number) == place);
+    CHECK_AT(line, holds(input, file->length, file));
+}
+
+/* The steps are what the lent buffer of the length must hold afterwards: none where nothing is stored. */
+static void asks(int line, const struct file *file, size_t length, uint32_t budget, uint32_t answer,
+                 const struct file *steps)
+{
+    shift = (shift + 1) % 16;
+    lay_out(input, file->length, file);
+    lay_out(lent, length, &none);
+    uint32_t number = garluveni_question(start(input), file->length, start(lent), length, budget);
+    CHECK_AT(line, garluveni_answer(number) == answer);
+    CHECK_AT(line, garluveni_place(number) == steps->length / GARLUVENI_STEP_BYTES);
+    CHECK_AT(line, holds(lent, length, steps));
+    CHECK_AT(line, holds(input, file->length, file));
+}
+
+/* Both functions refuse to read the file, whatever is lent. */
+static void refused(int line, const struct file *file, uint32_t answer, uint32_t offset)
+{
+    judges(line, file, answer, offset);
+    for (size_t length = 0; length <= GARLUVENI_STEPS_BYTES; length += GARLUVENI_STEPS_BYTES) {
+        lay_out(lent, length, &none);
+        uint32_t number = garluveni_question(start(input), file->length, start(lent), length, BUDGET);
+        CHECK_AT(line, number == answer + 256 * offset);
+        CHECK_AT(line, holds(lent, length, &none));
+        CHECK_AT(line, holds(input, file->length, file));
+    }
+}
+
+#define JUDGES(...) judges(__LINE__, __VA_ARGS__)
+#define ASKS(...) asks(__LINE__, __VA_ARGS__)
+#define REFUSED(...) refused(__LINE__, __VA_ARGS__)
+
+/* The checks */
+
+static struct file f, steps;
+
+static void outage(void)
+{
+    program(&f, 1, 2);
+    instruction(&f, 0, STORE, X, 5);
+    instruction(&f, 0, STORE, Y, 1);
+    want(&f, X, 0);
+    want(&f, Y, 1);
+    steps.length = 0;
+    run(&steps, "I0 I0 M0.0 M0.0 P1");
+}
+
+static void longest(void)
+{
+    program(&f, 4, 8);
+    for (uint8_t location = 0; location < 8; location++)
+        first_content(&f, location, 1);
+    for (uint8_t i = 0; i < 32; i++)
+        instruction(&f, i / 8, STORE, i % 8, i);
+    for (uint8_t location = 0; location < 8; location++)
+        want(&f, location, 1);
+    for (uint8_t thread = 0; thread < 4; thread++)
+        passed(&f, thread, 8);
+    repeat(&f, "I0 I1 I2 I3", 8);
+    repeat(&f, "M0.0 M1.0 M2.0 M3.0", 8);
+    repeat(&f, "P0 P1 P2 P3 P4 P5 P6 P7", 4);
+}
+
+static void reading_refusals(void)
+{
+    f.length = 0;
+    REFUSED(&f, GARLUVENI_CUT, 0);
+    outage();
+    f.length -= 1;
+    REFUSED(&f, GARLUVENI_CUT, 41);
+    program(&f, 1, 1);
+    ADD(&f, 0, 0, 7, 0);
+    REFUSED(&f, GARLUVENI_KIND, 8);
+    program(&f, 1, 1);
+    ADD(&f, 1, 0, 5, 0);
+    REFUSED(&f, GARLUVENI_LENGTH, 8);
+    program(&f, 1, 1);
+    ADD(&f, 4, 0, 1, 0, 1, 0, 1, 1);
+    REFUSED(&f, GARLUVENI_ORDER, 8);
+    program(&f, 5, 1);
+    REFUSED(&f, GARLUVENI_RANGE, 0);
+    program(&f, 1, 2);
+    want(&f, Y, 1);
+    want(&f, X, 1);
+    REFUSED(&f, GARLUVENI_RISING, 17);
+    program(&f, 1, 1);
+    for (int i = 0; i < 9; i++)
+        instruction(&f, 0, SFENCE, 0, 0);
+    REFUSED(&f, GARLUVENI_INSTRUCTION, 104);
+    program(&f, 1, 1);
+    first_content(&f, X, 0);
+    REFUSED(&f, GARLUVENI_UNUSED, 8);
+    program(&f, 1, 1);
+    repeat(&f, "I0", 97);
+    REFUSED(&f, GARLUVENI_STEP, 776);
+}
+
+static void issue_rules(void)
+{
+    program(&f, 1, 1);
+    run(&f, "I0");
+    JUDGES(&f, GARLUVENI_NONE_LEFT, 0);
+    program(&f, 1, 2);
+    instruction(&f, 0, STORE, X, 5);
+    instruction(&f, 0, EXCHANGE, Y, 5);
+    run(&f, "I0 I0");
+    JUDGES(&f, GARLUVENI_BUFFER_NOT_EMPTY, 1);
+    program(&f, 1, 1);
+    instruction(&f, 0, FLUSH_OPT, X, 0);
+    instruction(&f, 0, MFENCE, 0, 0);
+    run(&f, "I0 M0.0 I0");
+    JUDGES(&f, GARLUVENI_MARKER_QUEUED, 2);
+}
+
+static void move_rules(void)
+{
+    program(&f, 1, 1);
+    run(&f, "M0.0");
+    JUDGES(&f, GARLUVENI_NO_ENTRY, 0);
+    program(&f, 1, 2);
+    instruction(&f, 0, STORE, X, 5);
+    instruction(&f, 0, STORE, Y, 1);
+    run(&f, "I0 I0 M0.1");
+    JUDGES(&f, GARLUVENI_NOT_FIRST, 2);
+    program(&f, 1, 1);
+    instruction(&f, 0, STORE, X, 5);
+    instruction(&f, 0, FLUSH_OPT, X, 0);
+    run(&f, "I0 I0 M0.1");
+    JUDGES(&f, GARLUVENI_BARRED, 2);
+    program(&f, 2, 1);
+    instruction(&f, 0, FLUSH, X, 0);
+    instruction(&f, 1, FLUSH_OPT, X, 0);
+    run(&f, "I1 M1.0 I0 M0.0");
+    JUDGES(&f, GARLUVENI_QUEUE_NOT_EMPTY, 3);
+    program(&f, 1, 1);
+    instruction(&f, 0, FLUSH_OPT, X, 0);
+    instruction(&f, 0, SFENCE, 0, 0);
+    run(&f, "I0 I0 M0.0 M0.0");
+    JUDGES(&f, GARLUVENI_MARKER_LEFT, 3);
+}
+
+static void persist_rule(void)
+{
+    program(&f, 1, 1);
+    run(&f, "P0");
+    JUDGES(&f, GARLUVENI_QUEUE_EMPTY, 0);
+}
+
+static void legal_runs(void)
+{
+    program(&f, 1, 1);
+    JUDGES(&f, GARLUVENI_LEGAL, 0);
+    outage();
+    run(&f, "I0 I0 M0.0 M0.0 P1");
+    JUDGES(&f, GARLUVENI_LEGAL, 5);
+    program(&f, 1, 2);
+    instruction(&f, 0, STORE, X, 1);
+    instruction(&f, 0, LOAD, X, 0);
+    instruction(&f, 0, STORE_REGISTER, Y, 0);
+    run(&f, "I0 I0 I0 M0.0 M0.0 P0 P1");
+    JUDGES(&f, GARLUVENI_LEGAL, 7);
+}
+
+/* The longest file has the longest run, and one byte more is the farthest fault. */
+static void longest_file(void)
+{
+    longest();
+    CHECK(f.length == GARLUVENI_CASE_BYTES);
+    JUDGES(&f, GARLUVENI_LEGAL, GARLUVENI_STEPS);
+    ADD(&f, 0);
+    REFUSED(&f, GARLUVENI_CUT, GARLUVENI_CASE_BYTES);
+}
+
+static void budgets(void)
+{
+    outage();
+    ASKS(&f, 48, 0, GARLUVENI_UNDECIDED, &none);
+    ASKS(&f, 48, 1, GARLUVENI_UNDECIDED, &none);
+    ASKS(&f, 48, 7, GARLUVENI_UNDECIDED, &none);
+    ASKS(&f, 48, 8, GARLUVENI_REACHED, &steps);
+    ASKS(&f, 48, UINT32_MAX, GARLUVENI_REACHED, &steps);
+    program(&f, 1, 2);
+    instruction(&f, 0, STORE, X, 5);
+    instruction(&f, 0, FLUSH_OPT, X, 0);
+    instruction(&f, 0, SFENCE, 0, 0);
+    instruction(&f, 0, STORE, Y, 1);
+    want(&f, X, 0);
+    want(&f, Y, 1);
+    ASKS(&f, 88, 0, GARLUVENI_UNDECIDED, &none);
+    ASKS(&f, 88, BUDGET, GARLUVENI_UNREACHABLE, &none);
+    ASKS(&f, 88, UINT32_MAX, GARLUVENI_UNREACHABLE, &none);
+    ASKS(&f, 87, 0, GARLUVENI_SHORT, &none);
+}
+
+/* Every length around 8 bytes times the full length. */
+static void lengths(size_t least, uint32_t budget)
+{
+    for (size_t length = 0; length < least; length++)
+        ASKS(&f, length, budget, GARLUVENI_SHORT, &none);
+    for (size_t length = least; length <= least + 16; length++)
+        ASKS(&f, length, budget, GARLUVENI_REACHED, &steps);
+}
+
+/* Full length 96, and the only run that reaches the question among the first is the first of that length. */
+static void deepest(void)
+{
+    program(&f, 4, 4);
+    for (uint8_t i = 0; i < 32; i++)
+        instruction(&f, i / 8, i / 8 == Z ? FLUSH_OPT : STORE, i / 8, i / 8 == Z ? 0 : i % 8 + 1);
+    steps.length = 0;
+    for (uint8_t i = 0; i < 12; i++) {
+        const char *each[] = {"I0", "I1", "I2", "I3", "M0.0", "M1.0", "M2.0", "M3.0", "P0", "P1", "P2", "P3"};
+        repeat(&steps, each[i], 8);
+    }
+}
+
+static void depth(void)
+{
+    deepest();
+    want(&f, W, 8);
+    ASKS(&f, GARLUVENI_STEPS_BYTES, GARLUVENI_STEPS, GARLUVENI_UNDECIDED, &none);
+    lengths(GARLUVENI_STEPS_BYTES, GARLUVENI_STEPS + 1);
+    deepest();
+    want(&f, W, 9);
+    ASKS(&f, GARLUVENI_STEPS_BYTES, 20000, GARLUVENI_UNDECIDED, &none);
+}
+
+static void empty_buffers(void)
+{
+    CHECK(garluveni_judge(NULL, 0) == GARLUVENI_CUT);
+    CHECK(garluveni_question(NULL, 0, NULL, 0, BUDGET) == GARLUVENI_CUT);
+    program(&f, 1, 1);
+    want(&f, X, 0);
+    CHECK(garluveni_question(f.bytes, f.length, NULL, 0, 1) == GARLUVENI_REACHED);
+    CHECK(garluveni_question(f.bytes, f.length, NULL, 0, 0) == GARLUVENI_UNDECIDED);
+    steps.length = 0;
+    lengths(0, 1);
+}
+
+/* A million bytes: step records, the ninety-seventh of which is refused, and zeros, which have no kind. */
+static void million_bytes(void)
+{
+    program(&f, 1, 1);
+    repeat(&f, "P0", (MILLION - 8) / GARLUVENI_STEP_BYTES);
+    REFUSED(&f, GARLUVENI_STEP, 776);
+    memset(f.bytes, 0, MILLION);
+    REFUSED(&f, GARLUVENI_KIND, 0);
+    outage();
+    memset(f.bytes + f.length, 0, MILLION - f.length);
+    f.length = MILLION;
+    REFUSED(&f, GARLUVENI_KIND, 50);
+}
+
+static void thousand_calls(void)
+{
+    outage();
+    for (int i = 0; i < 1000; i++) {
+        ASKS(&f, 48, BUDGET, GARLUVENI_REACHED, &steps);
+        JUDGES(&f, GARLUVENI_LEGAL, 0);
+    }
+}
+
+int main(void)
+{
+    reading_refusals();
+    issue_rules();
+    move_rules();
+    persist_rule();
+    legal_runs();
+    longest_file();
+    budgets();
+    outage();
+    lengths(48, BUDGET);
+    depth();
+    empty_buffers();
+    million_bytes();
+    thousand_calls();
+    printf("host: %u checks\n", checks);
+    return 0;
+}
