@@ -14,5 +14,5 @@ mod TurnLaws
 mod AskLaws
 -- what it is to reach, and the run that is shown
 mod ReachLaws
-mod ShownLaws
 mod QuestionLaws
+mod ShownLaws

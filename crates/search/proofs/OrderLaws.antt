@@ -1,6 +1,6 @@
 -- The walk over any lawful machine stands in the stated order, each run once. Assumes nothing.
 use Prim.Native.Nat.{ℕ, zero, suc}
-use mathlib.Core.Path.{refl, sym, ap, subst, _∙_}
+use mathlib.Core.Path.{_≡_, refl, sym, ap, subst, _∙_}
 use mathlib.Core.Logic.{_⊎_, inl, inr, _≢_}
 use mathlib.Core.List.{List, [], _∷_, _++_, map}
 use native.Mathlib.Omega.{arith}
@@ -79,3 +79,47 @@ order-once rank (x ∷ xs) ys a v w (inl h) k e =
     before-other rank (w .run)
     (subst (λ r. Before rank r (w .run)) (sym (ap (λ (y : Visit _ _). y .run) h) ∙ e) b)
 order-once rank (x ∷ xs) ys a v w (inr h) k e = order-once rank xs ys (a .1) v w h k e
+
+-- of two runs not each comes before the other: so a list in order is known by what is on it
+before-one : {K : Type 0} (rank : K → ℕ) (js ks : List K) → Before rank js ks → Before rank ks js → ⊥
+unfolding Before
+before-one rank [] [] h g = h
+before-one rank [] (k ∷ ks) h g = g
+before-one rank (j ∷ js) [] h g = h
+before-one rank (j ∷ js) (k ∷ ks) (inl h) (inl g) = omega arith
+before-one rank (j ∷ js) (k ∷ ks) (inl h) (inr g) = let e = ap rank (g .0) in omega arith
+before-one rank (j ∷ js) (k ∷ ks) (inr h) (inl g) = let e = ap rank (h .0) in omega arith
+before-one rank (j ∷ js) (k ∷ ks) (inr h) (inr g) = before-one rank js ks (h .1) (g .1)
+
+module _ {S K : Type 0} (rank : K → ℕ) where
+  -- what is on one list is on the other, but for their first, which is the same
+  only-rest : (v w : Visit S K) (xs ys : List (Visit S K)) → InOrder rank (v ∷ xs) → v ≡ w
+      → ((u : Visit S K) → On u (v ∷ xs) → On u (w ∷ ys))
+      → (u : Visit S K) → On u xs → On u ys
+  unfolding InOrder On
+  only-rest v w xs ys a same f u h = go (f u (inr h))
+    where
+      go : (u ≡ w) ⊎ On u ys → On u ys
+      go (inl e) =
+          absurd (before-other rank (v .run)
+          (subst (λ (x : Visit S K). Before rank (v .run) (x .run)) (e ∙ sym same) (a .0 u h)))
+      go (inr k) = k
+
+  pub order-only : (xs ys : List (Visit S K)) → InOrder rank xs → InOrder rank ys
+      → ((u : Visit S K) → On u xs → On u ys)
+      → ((u : Visit S K) → On u ys → On u xs)
+      → xs ≡ ys
+  unfolding InOrder On
+  order-only [] [] a b f g = refl
+  order-only [] (w ∷ ys) a b f g = absurd (g w (inl refl))
+  order-only (v ∷ xs) [] a b f g = absurd (f v (inl refl))
+  order-only (v ∷ xs) (w ∷ ys) a b f g =
+      let same = go (f v (inl refl)) (g w (inl refl)) in
+      let rest = order-only xs ys (a .1) (b .1) (only-rest v w xs ys a same f)
+      (only-rest w v ys xs b (sym same) g) in
+      λ i. same i ∷ rest i
+    where
+      go : (v ≡ w) ⊎ On v ys → (w ≡ v) ⊎ On w xs → v ≡ w
+      go (inl e) k = e
+      go (inr h) (inl e) = sym e
+      go (inr h) (inr k) = absurd (before-one rank (w .run) (v .run) (b .0 v h) (a .0 w k))

@@ -3,16 +3,17 @@ use Prim.Native.Nat.{ℕ, _*_, _<_, _≤_}
 use mathlib.Core.Path.{_≡_, ap, subst, _∙_}
 use mathlib.Core.Logic.{_≢_, _↔_}
 use mathlib.Core.Bool.{true, false}
-use mathlib.Core.List.{List, _∷_, _++_}
+use mathlib.Core.List.{List, [], _∷_, _++_}
 use lib.ListN.{length, getD, take, drop}
 use Rattle.cases.specs.declared.case.Step.{Step}
 use Rattle.cases.specs.declared.case.Program.{Program}
 use Rattle.cases.specs.declared.case.Ask.{Ask}
 use Rattle.cases.specs.declared.case.Case.{Case}
 use Rattle.cases.specs.Sizes.{mostThreads, mostLocations, longest}
+use Rattle.cases.specs.Bytes.{IsBytes}
 use Rattle.cases.specs.Draft.{runWith, withRun}
 use Rattle.cases.specs.Reading.{numberOf, offsetOf, readOf}
-use Rattle.cases.specs.Places.{stepsBytes}
+use Rattle.cases.specs.Places.{encodeOf, stepsBytes}
 use Rattle.cases.specs.Writing.{readsBack}
 use Rattle.machine.specs.declared.cells.State.{State}
 use Rattle.machine.specs.declared.runs.Verdict.the-variants.{Legal}
@@ -20,7 +21,7 @@ use Rattle.machine.specs.View.{wordOf, issuedOf}
 use Rattle.machine.specs.Rules.{startOf}
 use Rattle.machine.specs.Fit.{ProgramFits}
 use Rattle.machine.specs.Work.{fullLength}
-use Rattle.machine.specs.Judge.{Leads, Faultless, judgeOf}
+use Rattle.machine.specs.Judge.{Leads, Faultless, judgeOf, judgeBytes}
 use Rattle.machine.specs.Next.{rankOf}
 use Rattle.machine.proofs.Promises.{begin-fits}
 use Rattle.search.specs.declared.ask.Outcome.the-variants.{Reached, Unreachable, Undecided, Refused}
@@ -51,6 +52,13 @@ module _ (p : Program) (fits : ProgramFits p) where
   pub walk-in-order : InOrder rankOf (walkFrom p)
   unfolding walkFrom
   walk-in-order = PtsoLaws.walk-ordered p (startOf p) (begin-fits p fits)
+
+  -- and no other list holds exactly these in that order
+  pub walk-only : (vs : List (Visit State Step)) → InOrder rankOf vs
+      → ((v : Visit State Step) → On v vs ↔ On v (walkFrom p))
+      → vs ≡ walkFrom p
+  walk-only vs o h =
+      OrderLaws.order-only rankOf vs (walkFrom p) o walk-in-order (λ v. h v .0) (λ v. h v .1)
 
   pub walk-first : (rest : List (Visit State Step)) × (walkFrom p ≡ here (startOf p) ∷ rest)
   walk-first = QuestionLaws.walk-first p
@@ -177,6 +185,16 @@ module _ (c : Case) (readable : readsBack c ≡ true) (b : ℕ) (run : List Step
 
   pub reached-reaches : reaches (c .ask) (judgeOf (withRun c (runWith run)) .state) ≡ true
   reached-reaches = ShownLaws.shown-reaches c readable b run asked
+
+-- the same of the bytes: those that are stored, behind the case's file without its steps, are a file that gets
+-- 103
+pub stored-passes : (s : List ℕ) → IsBytes s → numberOf (readOf s .answer) ≡ 0
+    → (b : ℕ) (out : List ℕ) → 8 * fullLength (readOf s .case .program) ≤ length out
+    → (run : List Step) → askOf (readOf s .case .program) (readOf s .case .ask) b ≡ reached run
+    → judgeBytes
+    (encodeOf (withRun (readOf s .case) (runWith [])) ++ take (8 * length run) (shownOf s b out)) .verdict
+    ≡ Legal (length run)
+stored-passes s bytes read b out room run = ShownLaws.stored-legal s bytes read b out room run
 
 -- the number and its place are low: they can be packed
 pub question-low : (s : List ℕ) (room b : ℕ)

@@ -1,29 +1,38 @@
 -- The run that is shown: it passes the judge, and ends where the question is reached. Assumes nothing.
-use Prim.Native.Nat.{ℕ, zero, suc, _-_, _<_, _≤_}
+use Prim.Native.Nat.{ℕ, zero, suc, _-_, _*_, _<_, _≤_}
 use mathlib.Core.Path.{_≡_, refl, sym, ap, subst, _∙_}
 use mathlib.Core.Bool.{true}
-use mathlib.Core.List.{List, [], _∷_}
-use lib.ListN.{length, getD, replicate}
+use mathlib.Core.List.{List, [], _∷_, _++_}
+use lib.ListN.{length, getD, take, drop, replicate}
 use lib.Seq.{take-at}
 use native.Mathlib.Omega.{arith}
 use Rattle.cases.specs.declared.case.Step.{Step}
 use Rattle.cases.specs.declared.case.Program.{Program}
 use Rattle.cases.specs.declared.case.Case.{Case}
+use Rattle.cases.specs.declared.reader.Reading.{Reading}
 use Rattle.cases.specs.Sizes.{mostSteps}
+use Rattle.cases.specs.Bytes.{IsBytes}
 use Rattle.cases.specs.Checks.{stepFault}
 use Rattle.cases.specs.Draft.{noStep, runWith, withRun}
+use Rattle.cases.specs.Reading.{numberOf, readOf}
+use Rattle.cases.specs.Places.{encodeOf, stepsBytes}
 use Rattle.cases.specs.Writing.{readsBack}
-use Rattle.cases.proofs.Promises.{other-run-reads-back}
+use Rattle.cases.proofs.Promises.{read-reads-back, read-after-write, file-bytes, steps-bytes-length}
+use Rattle.cases.proofs.Promises.{other-run-reads-back, other-run-file}
 use Rattle.machine.specs.declared.cells.State.{State}
 use Rattle.machine.specs.declared.runs.Verdict.the-variants.{Legal}
+use Rattle.machine.specs.declared.runs.Judged.{Judged}
 use Rattle.machine.specs.Rules.{startOf}
-use Rattle.machine.specs.Judge.{Leads, Faultless, judgeOf, runOf}
+use Rattle.machine.specs.Work.{fullLength}
+use Rattle.machine.specs.Judge.{Leads, Faultless, judgeOf, judgeBytes, runOf}
 use Rattle.machine.proofs.Promises.{program-fits, begin-fits, full-length-most, judge-legal, judge-legal-state}
+use Rattle.machine.proofs.Promises.{judge-read}
 use Rattle.search.specs.Walk.{walkOf}
-use Rattle.search.specs.Question.{reaches, reached, walkFrom, askOf}
+use Rattle.search.specs.Question.{reaches, reached, walkFrom, askOf, shownOf}
 use Rattle.search.proofs.PtsoLaws.{walk-leads}
 use Rattle.search.proofs.BudgetLaws.{reached-is}
 use Rattle.search.proofs.AskLaws.{first-on, reached-short}
+use Rattle.search.proofs.QuestionLaws as QuestionLaws
 
 faultless-at : (p : Program) (ks : List Step) → Faultless p ks → (i : ℕ) → i < length ks
     → stepFault p (getD ks i noStep) ≡ 0
@@ -88,3 +97,40 @@ module _ (c : Case) (h : readsBack c ≡ true) (b : ℕ) (run : List Step)
   shown-reaches =
       let l = reached-leads c h b run q in
       ap (reaches (c .ask)) (judge-legal-state shown shown-readable (l .0) (leads (l .0) (l .2))) ∙ l .3
+
+-- Bytes that read, and the bytes that the question stores for them: behind the file without its steps they are
+-- a file that the judge passes
+module _ (s : List ℕ) (bytes : IsBytes s) (read : numberOf (readOf s .answer) ≡ 0) (b : ℕ) (out : List ℕ)
+    (room : 8 * fullLength (readOf s .case .program) ≤ length out) (run : List Step)
+    (q : askOf (readOf s .case .program) (readOf s .case .ask) b ≡ reached run) where
+  abbrev case : Case
+  case = readOf s .case
+
+  readable : readsBack case ≡ true
+  readable = read-reads-back s bytes read
+
+  stored : take (8 * length run) (shownOf s b out) ≡ stepsBytes run
+  stored =
+      ap (take (8 * length run)) (QuestionLaws.shown-run s b out read room run q)
+      ∙ take-at (stepsBytes run) (drop (8 * length run) out) (8 * length run) (steps-bytes-length run)
+
+  file : encodeOf (withRun case (runWith [])) ++ take (8 * length run) (shownOf s b out)
+      ≡ encodeOf (withRun case (runWith run))
+  file =
+      ap (λ (x : List ℕ). encodeOf (withRun case (runWith [])) ++ x) stored
+      ∙ sym (other-run-file case run (few case readable b run q))
+
+  -- a readable case's file is judged as the case
+  judged : (c : Case) → readsBack c ≡ true → judgeBytes (encodeOf c) ≡ judgeOf c
+  judged c h =
+      let e = read-after-write c h in
+      judge-read (encodeOf c) (file-bytes c h) (ap (λ (r : Reading). numberOf (r .answer)) e)
+      ∙ ap (λ (r : Reading). judgeOf (r .case)) e
+
+  pub stored-legal :
+      judgeBytes (encodeOf (withRun case (runWith [])) ++ take (8 * length run) (shownOf s b out)) .verdict
+      ≡ Legal (length run)
+  stored-legal =
+      ap (λ (x : List ℕ). judgeBytes x .verdict) file
+      ∙ ap (λ (j : Judged). j .verdict) (judged _ (shown-readable case readable b run q))
+      ∙ shown-legal case readable b run q

@@ -139,7 +139,8 @@ walk-enum-known-below t c = search needs
 walk-mul-put-step : (t : ℕ)
     → walk-lts.Need-mul-put-step (calls t) (walk-at t) walk.Post walk-Inv-loop walk-μ-loop
 walk-mul-put-step t c =
-    let l = c .before .before .before .before .before .before .before .before .before .before .before .before .loop in
+    let w = c .before .before .before .before .before .before in
+    let l = w .before .before .before .before .before .before .loop in
     search needs
 
 walk-put-step-requires : (t : ℕ)
