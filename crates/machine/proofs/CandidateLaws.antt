@@ -16,31 +16,10 @@ use Rattle.cases.specs.Checks.{stepFault, stepOut, stepLeft, beyond, leftOver}
 use Rattle.cases.specs.Sizes.{mostInstructions}
 use Rattle.machine.specs.declared.cells.State.{State}
 use Rattle.machine.specs.Rules.{ruleOf}
+use Rattle.machine.proofs.ListLaws.{listed-left, listed-right, listed-either}
 use Rattle.machine.proofs.RangeLaws.{InRange, fault-none}
 use Rattle.machine.specs.Next.{issueStep, moveStep, persistStep, issuesFrom, movesAt, movesFrom}
 use Rattle.machine.specs.Next.{persistsFrom, candidates, allowed, legalSteps, Listed}
-
--- Listed: in the first of two lists, in the second, in one of them
-listed-left : (k : Step) (ks js : List Step) → Listed k ks → Listed k (ks ++ js)
-unfolding Listed
-listed-left k [] js h = absurd h
-listed-left k (j ∷ ks) js (inl e) = inl e
-listed-left k (j ∷ ks) js (inr h) = inr (listed-left k ks js h)
-
-listed-right : (k : Step) (ks js : List Step) → Listed k js → Listed k (ks ++ js)
-unfolding Listed
-listed-right k [] js h = h
-listed-right k (j ∷ ks) js h = inr (listed-right k ks js h)
-
-listed-either : (k : Step) (ks js : List Step) → Listed k (ks ++ js) → Listed k ks ⊎ Listed k js
-unfolding Listed
-listed-either k [] js h = inr h
-listed-either k (j ∷ ks) js (inl e) = inl (inl e)
-listed-either k (j ∷ ks) js (inr h) = go (listed-either k ks js h)
-  where
-    go : Listed k ks ⊎ Listed k js → ((k ≡ j) ⊎ Listed k ks) ⊎ Listed k js
-    go (inl a) = inl (inr a)
-    go (inr a) = inr a
 
 -- among the allowed are exactly the listed ones that the rule has nothing against
 pub allowed-listed : (rule : Step → ℕ) (k : Step) (ks : List Step) → Listed k ks → rule k ≡ 0

@@ -1,7 +1,8 @@
--- The laws of the machine. Other crates can name Promises, and the laws of the loops that ask whether something
--- is true of one of n numbers, alone.
+-- The laws of the machine. Other crates can name Promises, and laws of general use, of the loops that ask
+-- whether something is true of one of n numbers and of being on a list, alone.
 pub mod Promises
 pub mod AnyLaws
+pub mod ListLaws
 -- lists in places, and the state's parts
 mod PartLaws
 mod SlotLaws

@@ -88,6 +88,6 @@ unfoldable pub Rising : ℕ → List Step → Type 0
 Rising n [] = Unit {0}
 Rising n (k ∷ ks) = (n ≤ rankOf k) × Rising (suc (rankOf k)) ks
 
-unfoldable pub Listed : Step → List Step → Type 0
-Listed k [] = ⊥
-Listed k (j ∷ js) = (k ≡ j) ⊎ Listed k js
+unfoldable pub Listed : {A : Type 0} → A → List A → Type 0
+Listed x [] = ⊥
+Listed x (y ∷ ys) = (x ≡ y) ⊎ Listed x ys

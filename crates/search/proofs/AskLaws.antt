@@ -22,15 +22,16 @@ use Rattle.machine.specs.Rules.{startOf}
 use Rattle.machine.specs.Fit.{ProgramFits, Fits}
 use Rattle.machine.specs.Work.{work, fullLength}
 use Rattle.machine.proofs.Promises.{begin-fits, full-length-low, read-fits}
+use Rattle.machine.specs.Next.{Listed}
 use Rattle.search.specs.declared.walk.Walked.{Walked}
 use Rattle.search.specs.declared.walk.Walked.the-variants.{Found, Finished, Stopped}
 use Rattle.search.specs.declared.ask.Outcome.{Outcome}
 use Rattle.search.specs.declared.ask.Outcome.the-variants.{Reached, Unreachable, Undecided, Refused}
-use Rattle.search.specs.Walk.{Visit, On, walkOf}
+use Rattle.search.specs.Walk.{Visit, walkOf}
 use Rattle.search.specs.Question.{reaches, reached, FirstThat, walkFrom, askOf, toldOf, short, answerOf}
 use Rattle.search.specs.Question.{questionOf, shownBy, shownIn, shownOf}
 use Rattle.search.specs.Seek.{Sought, hit, done, spent, seek, walkedOf, storedOf}
-use Rattle.search.proofs.ListLaws.{on-right}
+use Rattle.machine.proofs.ListLaws.{listed-right}
 use Rattle.search.proofs.PtsoLaws.{walk-short}
 use Rattle.search.proofs.SeekLaws.{comesTo, seek-decides}
 use Rattle.search.proofs.SeekLaws.{walked-found, walked-finished, walked-stopped}
@@ -38,10 +39,10 @@ use Rattle.search.proofs.BudgetLaws.{reached-is}
 
 -- the first that reaches is on the list
 pub first-on : {S K : Type 0} (test : S → Bool) (vs before : List (Visit S K)) (v : Visit S K)
-    → FirstThat test vs before v → On v vs
-unfolding On
+    → FirstThat test vs before v → Listed v vs
+unfolding Listed
 first-on test vs before v f =
-    subst (On v) (sym (f .stands)) (on-right v before (v ∷ f .after) (inl refl))
+    subst (Listed v) (sym (f .stands)) (listed-right v before (v ∷ f .after) (inl refl))
 
 -- the walk may begin at the start
 module _ (p : Program) (fits : ProgramFits p) (s : State) (s-is : s ≡ startOf p) where

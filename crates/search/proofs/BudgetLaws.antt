@@ -9,7 +9,8 @@ use lib.Seq.{take-at, take-all, take-append-add}
 use lib.Dec.{leb}
 use borrow.Author.Tests.{leb-true, leb-false, le-leb, lt-leb}
 use native.Mathlib.Omega.{arith}
-use Rattle.search.specs.Walk.{Visit, On}
+use Rattle.machine.specs.Next.{Listed}
+use Rattle.search.specs.Walk.{Visit}
 use Rattle.search.specs.Question.{First, found, missing, firstOf, reached, unreachable, undecided}
 use Rattle.search.specs.Question.{decidedBy, decided, None, FirstThat}
 
@@ -24,13 +25,13 @@ module _ {S K : Type 0} (test : S → Bool) where
   Found vs run = (before : List (Visit S K)) × (v : Visit S K) × FirstThat test vs before v × (v .run ≡ run)
 
   first-here : (v : Visit S K) (vs : List (Visit S K)) → test (v .end) ≡ true → Found (v ∷ vs) (v .run)
-  unfolding None On
+  unfolding None Listed
   first-here v vs t =
       ([], v, record { after = vs; stands = refl; passes = t; none = λ w h. absurd h }, refl)
 
   first-next : (v : Visit S K) (vs : List (Visit S K)) (run : List K) → test (v .end) ≡ false → Found vs run
       → Found (v ∷ vs) run
-  unfolding None On
+  unfolding None Listed
   first-next v vs run t (before, w, f, e) = (
     v ∷ before,
     w,
@@ -43,13 +44,13 @@ module _ {S K : Type 0} (test : S → Bool) where
     e,
   )
     where
-      go : (x : Visit S K) → (x ≡ v) ⊎ On x before → test (x .end) ≡ false
+      go : (x : Visit S K) → (x ≡ v) ⊎ Listed x before → test (x .end) ≡ false
       go x (inl e) = ap (λ y. test (y .end)) e ∙ t
       go x (inr h) = f .none x h
 
   none-next : (v : Visit S K) (vs : List (Visit S K)) → test (v .end) ≡ false → None test vs
       → None test (v ∷ vs)
-  unfolding None On
+  unfolding None Listed
   none-next v vs t f x (inl e) = ap (λ y. test (y .end)) e ∙ t
   none-next v vs t f x (inr h) = f x h
 
@@ -59,7 +60,7 @@ module _ {S K : Type 0} (test : S → Bool) where
   Says vs missing = None test vs
 
   first-says : (vs : List (Visit S K)) → Says vs (firstOf test vs)
-  unfolding firstOf None On
+  unfolding firstOf None Listed
   first-says [] = λ v h. absurd h
   first-says (v ∷ vs) = go (test (v .end)) refl (firstOf test vs) (first-says vs)
     where
@@ -74,7 +75,7 @@ module _ {S K : Type 0} (test : S → Bool) where
 
   -- and back
   none-missing : (vs : List (Visit S K)) → None test vs → firstOf test vs ≡ missing
-  unfolding firstOf None On
+  unfolding firstOf None Listed
   none-missing [] f = refl
   none-missing (v ∷ vs) f = rw (f v (inl refl), firstOf) (none-missing vs (λ w h. f w (inr h)))
 
@@ -82,7 +83,7 @@ module _ {S K : Type 0} (test : S → Bool) where
       → None test before
       → test (v .end) ≡ true
       → firstOf test (before ++ v ∷ after) ≡ found (v .run)
-  unfolding firstOf None On
+  unfolding firstOf None Listed
   found-first [] v after f t = rw (t, firstOf)
   found-first (w ∷ before) v after f t =
       rw (f w (inl refl), firstOf) (found-first before v after (λ x h. f x (inr h)) t)

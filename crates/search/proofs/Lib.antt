@@ -1,7 +1,6 @@
 -- The laws of the search. Other crates can name Promises alone.
 pub mod Promises
 -- the walk over any machine: what it lists, in which order; the machine of document 01 is one
-mod ListLaws
 mod WalkLaws
 mod OrderLaws
 mod PtsoLaws

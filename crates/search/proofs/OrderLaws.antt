@@ -4,24 +4,25 @@ use mathlib.Core.Path.{_≡_, refl, sym, ap, subst, _∙_}
 use mathlib.Core.Logic.{_⊎_, inl, inr, _≢_}
 use mathlib.Core.List.{List, [], _∷_, _++_, map}
 use native.Mathlib.Omega.{arith}
-use Rattle.search.specs.Walk.{Machine, Visit, under, starting, walk, On, Ascending, Lawful}
+use Rattle.machine.specs.Next.{Listed}
+use Rattle.search.specs.Walk.{Machine, Visit, under, starting, walk, Ascending, Lawful}
 use Rattle.search.specs.Walk.{Before, InOrder}
-use Rattle.search.proofs.ListLaws.{on-right, on-either}
+use Rattle.machine.proofs.ListLaws.{listed-right, listed-either}
 use Rattle.search.proofs.WalkLaws.{on-under, on-starting}
 
 module _ {S K : Type 0} (rank : K → ℕ) where
   -- one list behind another, each run of the first before each of the second
   order-append : (xs ys : List (Visit S K)) → InOrder rank xs → InOrder rank ys
-      → ((v w : Visit S K) → On v xs → On w ys → Before rank (v .run) (w .run))
+      → ((v w : Visit S K) → Listed v xs → Listed w ys → Before rank (v .run) (w .run))
       → InOrder rank (xs ++ ys)
-  unfolding InOrder On
+  unfolding InOrder Listed
   order-append [] ys a b f = b
   order-append (v ∷ xs) ys a b f = (
-    (λ w h. go w (on-either w xs ys h)),
+    (λ w h. go w (listed-either w xs ys h)),
     order-append xs ys (a .1) b (λ x y h k. f x y (inr h) k),
   )
     where
-      go : (w : Visit S K) → On w xs ⊎ On w ys → Before rank (v .run) (w .run)
+      go : (w : Visit S K) → Listed w xs ⊎ Listed w ys → Before rank (v .run) (w .run)
       go w (inl h) = a .0 w h
       go w (inr h) = f v w (inl refl) h
 
@@ -37,9 +38,9 @@ module _ {S K : Type 0} (rank : K → ℕ) where
 
   module _ (m : Machine S K) (below : S → List (Visit S K)) (s : S) where
     order-starting : (ks : List K) → Ascending rank ks
-        → ((k : K) → On k ks → InOrder rank (below (m .after s k)))
+        → ((k : K) → Listed k ks → InOrder rank (below (m .after s k)))
         → InOrder rank (starting m below s ks)
-    unfolding starting On Ascending Before
+    unfolding starting Listed Ascending Before
     order-starting [] a f = unfold InOrder in tt
     order-starting (k ∷ ks) a f =
         order-append (map (under k) (below (m .after s k))) (starting m below s ks)
@@ -71,11 +72,11 @@ before-other rank (k ∷ ks) (inr h) = before-other rank ks (h .1)
 
 -- of two parts of such a list, no run of the one is a run of the other
 pub order-once : {S K : Type 0} (rank : K → ℕ) (xs ys : List (Visit S K)) → InOrder rank (xs ++ ys)
-    → (v w : Visit S K) → On v xs → On w ys → v .run ≢ w .run
-unfolding InOrder On
+    → (v w : Visit S K) → Listed v xs → Listed w ys → v .run ≢ w .run
+unfolding InOrder Listed
 order-once rank [] ys a v w h k e = absurd h
 order-once rank (x ∷ xs) ys a v w (inl h) k e =
-    let b = a .0 w (on-right w xs ys k) in
+    let b = a .0 w (listed-right w xs ys k) in
     before-other rank (w .run)
     (subst (λ r. Before rank r (w .run)) (sym (ap (λ (y : Visit _ _). y .run) h) ∙ e) b)
 order-once rank (x ∷ xs) ys a v w (inr h) k e = order-once rank xs ys (a .1) v w h k e
@@ -94,22 +95,22 @@ before-one rank (j ∷ js) (k ∷ ks) (inr h) (inr g) = before-one rank js ks (h
 module _ {S K : Type 0} (rank : K → ℕ) where
   -- what is on one list is on the other, but for their first, which is the same
   only-rest : (v w : Visit S K) (xs ys : List (Visit S K)) → InOrder rank (v ∷ xs) → v ≡ w
-      → ((u : Visit S K) → On u (v ∷ xs) → On u (w ∷ ys))
-      → (u : Visit S K) → On u xs → On u ys
-  unfolding InOrder On
+      → ((u : Visit S K) → Listed u (v ∷ xs) → Listed u (w ∷ ys))
+      → (u : Visit S K) → Listed u xs → Listed u ys
+  unfolding InOrder Listed
   only-rest v w xs ys a same f u h = go (f u (inr h))
     where
-      go : (u ≡ w) ⊎ On u ys → On u ys
+      go : (u ≡ w) ⊎ Listed u ys → Listed u ys
       go (inl e) =
           absurd (before-other rank (v .run)
           (subst (λ (x : Visit S K). Before rank (v .run) (x .run)) (e ∙ sym same) (a .0 u h)))
       go (inr k) = k
 
   pub order-only : (xs ys : List (Visit S K)) → InOrder rank xs → InOrder rank ys
-      → ((u : Visit S K) → On u xs → On u ys)
-      → ((u : Visit S K) → On u ys → On u xs)
+      → ((u : Visit S K) → Listed u xs → Listed u ys)
+      → ((u : Visit S K) → Listed u ys → Listed u xs)
       → xs ≡ ys
-  unfolding InOrder On
+  unfolding InOrder Listed
   order-only [] [] a b f g = refl
   order-only [] (w ∷ ys) a b f g = absurd (g w (inl refl))
   order-only (v ∷ xs) [] a b f g = absurd (f v (inl refl))
@@ -119,7 +120,7 @@ module _ {S K : Type 0} (rank : K → ℕ) where
       (only-rest w v ys xs b (sym same) g) in
       λ i. same i ∷ rest i
     where
-      go : (v ≡ w) ⊎ On v ys → (w ≡ v) ⊎ On w xs → v ≡ w
+      go : (v ≡ w) ⊎ Listed v ys → (w ≡ v) ⊎ Listed w xs → v ≡ w
       go (inl e) k = e
       go (inr h) (inl e) = sym e
       go (inr h) (inr k) = absurd (before-one rank (w .run) (v .run) (b .0 v h) (a .0 w k))

@@ -22,10 +22,10 @@ use Rattle.machine.specs.Rules.{startOf}
 use Rattle.machine.specs.Fit.{ProgramFits}
 use Rattle.machine.specs.Work.{fullLength}
 use Rattle.machine.specs.Judge.{Leads, Faultless, judgeOf, judgeBytes}
-use Rattle.machine.specs.Next.{rankOf}
+use Rattle.machine.specs.Next.{rankOf, Listed}
 use Rattle.machine.proofs.Promises.{begin-fits}
 use Rattle.search.specs.declared.ask.Outcome.the-variants.{Reached, Unreachable, Undecided, Refused}
-use Rattle.search.specs.Walk.{Visit, here, On, InOrder}
+use Rattle.search.specs.Walk.{Visit, here, InOrder}
 use Rattle.search.specs.Question.{reaches, reached, unreachable, undecided, None, FirstThat, walkFrom}
 use Rattle.search.specs.Question.{askOf, outcomeNo, outcomePlace, questionOf, shownOf}
 use Rattle.search.proofs.PtsoLaws as PtsoLaws
@@ -39,7 +39,7 @@ use Rattle.search.proofs.QuestionLaws as QuestionLaws
 module _ (p : Program) (fits : ProgramFits p) where
   -- "The walk lists all legal runs": exactly these, of steps that 5 and 8 have nothing against, with their end
   pub walk-exact : (ks : List Step) (u : State)
-      → On (record { run = ks; end = u }) (walkFrom p) ↔ (Faultless p ks × Leads p (startOf p) ks u)
+      → Listed (record { run = ks; end = u }) (walkFrom p) ↔ (Faultless p ks × Leads p (startOf p) ks u)
   unfolding walkFrom
   walk-exact ks u = (
     PtsoLaws.walk-leads p (startOf p) (begin-fits p fits) ks u,
@@ -55,7 +55,7 @@ module _ (p : Program) (fits : ProgramFits p) where
 
   -- and no other list holds exactly these in that order
   pub walk-only : (vs : List (Visit State Step)) → InOrder rankOf vs
-      → ((v : Visit State Step) → On v vs ↔ On v (walkFrom p))
+      → ((v : Visit State Step) → Listed v vs ↔ Listed v (walkFrom p))
       → vs ≡ walkFrom p
   walk-only vs o h =
       OrderLaws.order-only rankOf vs (walkFrom p) o walk-in-order (λ v. h v .0) (λ v. h v .1)
@@ -65,11 +65,11 @@ module _ (p : Program) (fits : ProgramFits p) where
 
   -- each once: of two places of the list, the runs differ
   pub walk-once : (xs ys : List (Visit State Step)) → walkFrom p ≡ xs ++ ys
-      → (v w : Visit State Step) → On v xs → On w ys → v .run ≢ w .run
+      → (v w : Visit State Step) → Listed v xs → Listed w ys → v .run ≢ w .run
   walk-once xs ys e = OrderLaws.order-once rankOf xs ys (subst (InOrder rankOf) e walk-in-order)
 
   -- "It never goes deeper than the full length"
-  pub walk-deep : (ks : List Step) (u : State) → On (record { run = ks; end = u }) (walkFrom p)
+  pub walk-deep : (ks : List Step) (u : State) → Listed (record { run = ks; end = u }) (walkFrom p)
       → length ks ≤ fullLength p
   walk-deep = QuestionLaws.walk-deep p fits
 

@@ -8,37 +8,24 @@ use native.Mathlib.Omega.{arith}
 use lib.ListN.{length}
 use Rattle.cases.specs.declared.case.Step.{Step}
 use Rattle.cases.specs.declared.case.Program.{Program}
-use Rattle.cases.specs.Checks.{stepFault}
 use Rattle.machine.specs.declared.cells.State.{State}
-use Rattle.machine.specs.Rules.{ruleOf, nextOf}
+use Rattle.machine.specs.Rules.{nextOf}
 use Rattle.machine.specs.Fit.{Fits}
 use Rattle.machine.specs.Work.{work}
 use Rattle.machine.specs.Judge.{Leads, Faultless}
 use Rattle.machine.specs.Next.{legalSteps, rankOf, Rising, Listed}
 use Rattle.machine.proofs.Promises.{step-fits, step-work, next-legal, next-rising}
-use Rattle.search.specs.Walk.{On, Runs, Ascending, Lawful, InOrder, ptso, walkOf}
+use Rattle.search.specs.Walk.{Runs, Ascending, Lawful, InOrder, ptso, walkOf}
 use Rattle.search.proofs.WalkLaws.{walk-runs, runs-walk, runs-work}
 use Rattle.search.proofs.OrderLaws.{walk-in-order}
 
--- being on a list, in the machine's words and in the walk's
-on-listed : (k : Step) (ks : List Step) → On k ks → Listed k ks
-unfolding On Listed
-on-listed k [] h = h
-on-listed k (j ∷ ks) (inl e) = inl e
-on-listed k (j ∷ ks) (inr h) = inr (on-listed k ks h)
-
-listed-on : (k : Step) (ks : List Step) → Listed k ks → On k ks
-unfolding On Listed
-listed-on k [] h = h
-listed-on k (j ∷ ks) (inl e) = inl e
-listed-on k (j ∷ ks) (inr h) = inr (listed-on k ks h)
-
--- so are ranks that rise
-rising-above : (n : ℕ) (ks : List Step) → Rising n ks → (k : Step) → On k ks → n ≤ rankOf k
-unfolding On Rising
+-- ranks that rise, in the machine's words and in the walk's
+rising-above : (n : ℕ) (ks : List Step) → Rising n ks → (k : Step) → Listed k ks → n ≤ rankOf k
+unfolding Listed Rising
 rising-above n [] r k h = absurd h
 rising-above n (j ∷ ks) r k (inl e) = rw e (r .0)
-rising-above n (j ∷ ks) r k (inr h) = let a = rising-above (suc (rankOf j)) ks (r .1) k h in
+rising-above n (j ∷ ks) r k (inr h) =
+    let a = rising-above (suc (rankOf j)) ks (r .1) k h in
     let b = r .0 in
     omega arith
 
@@ -51,21 +38,12 @@ rising-ascending n (k ∷ ks) r = (
 )
 
 module _ (p : Program) where
-  -- a next step is one that 5 and 8 and the rules have nothing against
-  pub next-is : (s : State) → Fits p s → (k : Step) → On k (legalSteps p s)
-      → (stepFault p k ≡ 0) × (ruleOf p s k ≡ 0)
-  next-is s f k h = next-legal p s f k .0 (on-listed k (legalSteps p s) h)
-
-  pub is-next : (s : State) → Fits p s → (k : Step) → stepFault p k ≡ 0 → ruleOf p s k ≡ 0
-      → On k (legalSteps p s)
-  is-next s f k h e = listed-on k (legalSteps p s) (next-legal p s f k .1 (h, e))
-
   pub lawful : Lawful (ptso p) (Fits p) (work p) rankOf
   unfolding ptso
   lawful =
       record {
-        keeps = λ s f k h. let n = next-is s f k h in step-fits p s f k (n .0) (n .1);
-        lowers = λ s f k h. let n = next-is s f k h in step-work p s f k (n .0) (n .1);
+        keeps = λ s f k h. let n = next-legal p s f k .0 h in step-fits p s f k (n .0) (n .1);
+        lowers = λ s f k h. let n = next-legal p s f k .0 h in step-work p s f k (n .0) (n .1);
         rises = λ s f. rising-ascending 0 (legalSteps p s) (next-rising p s f);
       }
 
@@ -75,7 +53,7 @@ module _ (p : Program) where
   unfolding ptso Runs Faultless Leads
   runs-leads s f [] u r = (tt, r)
   runs-leads s f (k ∷ ks) u r =
-      let n = next-is s f k (r .0) in
+      let n = next-legal p s f k .0 (r .0) in
       let rest = runs-leads (nextOf p s k) (step-fits p s f k (n .0) (n .1)) ks u (r .1) in
       ((n .0, rest .0), (n .1, rest .1))
 
@@ -84,24 +62,24 @@ module _ (p : Program) where
   unfolding ptso Runs Faultless Leads
   leads-runs s f [] u c l = l
   leads-runs s f (k ∷ ks) u c l = (
-    is-next s f k (c .0) (l .0),
+    next-legal p s f k .1 (c .0, l .0),
     leads-runs (nextOf p s k) (step-fits p s f k (c .0) (l .0)) ks u (c .1) (l .1),
   )
 
   -- the walk from a state that fits
   module _ (s : State) (f : Fits p s) (ks : List Step) (u : State) where
-    pub walk-leads : On (record { run = ks; end = u }) (walkOf p s) → Faultless p ks × Leads p s ks u
+    pub walk-leads : Listed (record { run = ks; end = u }) (walkOf p s) → Faultless p ks × Leads p s ks u
     unfolding walkOf
     walk-leads h = runs-leads s f ks u (walk-runs (ptso p) (suc (work p s)) s _ h)
 
-    pub leads-walk : Faultless p ks → Leads p s ks u → On (record { run = ks; end = u }) (walkOf p s)
+    pub leads-walk : Faultless p ks → Leads p s ks u → Listed (record { run = ks; end = u }) (walkOf p s)
     unfolding walkOf
     leads-walk c l =
         let r = leads-runs s f ks u c l in
         let e = runs-work (ptso p) lawful s ks u f r in
         runs-walk (ptso p) (suc (work p s)) s ks u r (omega arith)
 
-    pub walk-short : On (record { run = ks; end = u }) (walkOf p s) → work p u + length ks ≡ work p s
+    pub walk-short : Listed (record { run = ks; end = u }) (walkOf p s) → work p u + length ks ≡ work p s
     unfolding walkOf
     walk-short h = runs-work (ptso p) lawful s ks u f (walk-runs (ptso p) (suc (work p s)) s _ h)
 

@@ -19,9 +19,10 @@ use Rattle.machine.specs.Rules.{startOf}
 use Rattle.machine.specs.Fit.{ProgramFits}
 use Rattle.machine.specs.Work.{fullLength}
 use Rattle.machine.proofs.Promises.{read-fits, begin-fits, full-length-low}
+use Rattle.machine.specs.Next.{Listed}
 use Rattle.search.specs.declared.ask.Outcome.{Outcome}
 use Rattle.search.specs.declared.ask.Outcome.the-variants.{Reached, Unreachable, Undecided, Refused}
-use Rattle.search.specs.Walk.{Visit, here, On, walk, walkOf}
+use Rattle.search.specs.Walk.{Visit, here, walk, walkOf}
 use Rattle.search.specs.Question.{Decided, reached, unreachable, undecided, walkFrom, askOf}
 use Rattle.search.specs.Question.{outcomeNo, outcomePlace, toldOf, short, answerOf, questionOf}
 use Rattle.search.specs.Question.{shownBy, shownIn, shownOf}
@@ -33,7 +34,7 @@ unfolding walkFrom walkOf walk
 walk-first p = (_, refl)
 
 pub walk-deep : (p : Program) → ProgramFits p → (ks : List Step) (u : State)
-    → On (record { run = ks; end = u }) (walkFrom p) → length ks ≤ fullLength p
+    → Listed (record { run = ks; end = u }) (walkFrom p) → length ks ≤ fullLength p
 unfolding walkFrom fullLength
 walk-deep p fits ks u h = let e = walk-short p (startOf p) (begin-fits p fits) ks u h in omega arith
 

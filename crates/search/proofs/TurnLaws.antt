@@ -22,18 +22,18 @@ use Rattle.machine.specs.declared.next.Next.{Next}
 use Rattle.machine.specs.Rules.{ruleOf, nextOf}
 use Rattle.machine.specs.Fit.{Fits}
 use Rattle.machine.specs.Work.{work}
-use Rattle.machine.specs.Next.{legalSteps, stepAt, nextIn, nextSteps}
+use Rattle.machine.specs.Next.{legalSteps, stepAt, nextIn, nextSteps, Listed}
 use Rattle.machine.specs.Sizes.{mostCandidates}
-use Rattle.machine.proofs.Promises.{step-fits, step-work, next-step-here, next-steps-end, next-steps-few}
+use Rattle.machine.proofs.Promises.{step-fits, step-work, next-legal, next-step-here, next-steps-end}
+use Rattle.machine.proofs.Promises.{next-steps-few}
 use Rattle.search.specs.declared.walk.Walked.{Walked}
 use Rattle.search.specs.declared.walk.Walked.the-variants.{Found, Finished, Stopped}
-use Rattle.search.specs.Walk.{Visit, under, starting, walk, On, ptso, walkOf}
+use Rattle.search.specs.Walk.{Visit, under, starting, walk, ptso, walkOf}
 use Rattle.search.specs.Question.{reachesIn, reaches}
 use Rattle.search.specs.Seek.{Sought, hit, done, spent, seek, walkedOf, storedOf}
-use Rattle.search.proofs.ListLaws.{on-drop}
+use Rattle.machine.proofs.ListLaws.{listed-drop}
 use Rattle.search.proofs.SeekLaws.{onward, behindStep, seek-append, seek-under}
 use Rattle.search.proofs.SeekLaws.{walked-found, walked-finished, walked-stopped}
-use Rattle.search.proofs.PtsoLaws.{next-is}
 use Rattle.search.proofs.StoreLaws.{step-before, length-stored}
 
 abbrev pub restOf : Program → State → List Step → List (Visit State Step)
@@ -120,13 +120,13 @@ module _ {p : Program} {a : Ask} {s : State} {b : ℕ} {next : Next} {before out
         next-step-here p s (o .fit) i (omega arith)
         ∙ ap (λ j. j ∷ drop (i + 1) (legalSteps p s)) (sym (k-is ∙ f))
 
-    legal : On k (legalSteps p s)
-    unfolding On
-    legal = on-drop k i (legalSteps p s) (subst (On k) (sym front) (inl refl))
+    legal : Listed k (legalSteps p s)
+    unfolding Listed
+    legal = listed-drop k i (legalSteps p s) (subst (Listed k) (sym front) (inl refl))
 
     -- it is legal, so that the state behind it fits and has less work left
     pub turn-legal : (stepFault p k ≡ 0) × (ruleOf p s k ≡ 0)
-    turn-legal = next-is p s (o .fit) k legal
+    turn-legal = next-legal p s (o .fit) k .0 legal
 
     module _ (z : State) (z-is : z ≡ nextOf p s k) where
       pub turn-fits : Fits p z

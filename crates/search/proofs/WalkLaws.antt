@@ -6,20 +6,22 @@ use mathlib.Core.Logic.{_⊎_, inl, inr}
 use mathlib.Core.List.{List, [], _∷_, _++_, map}
 use lib.ListN.{length}
 use native.Mathlib.Omega.{arith}
-use Rattle.search.specs.Walk.{Machine, Visit, here, under, starting, walk, On, Runs, Lawful}
-use Rattle.search.proofs.ListLaws.{on-left, on-right, on-either}
+use Rattle.machine.specs.Next.{Listed}
+use Rattle.search.specs.Walk.{Machine, Visit, here, under, starting, walk, Runs, Lawful}
+use Rattle.machine.proofs.ListLaws.{listed-left, listed-right, listed-either}
 
 module _ {S K : Type 0} where
   -- a step before each of some runs
-  pub under-on : (k : K) (v : Visit S K) (vs : List (Visit S K)) → On v vs → On (under k v) (map (under k) vs)
-  unfolding On
+  pub under-on : (k : K) (v : Visit S K) (vs : List (Visit S K)) → Listed v vs
+      → Listed (under k v) (map (under k) vs)
+  unfolding Listed
   under-on k v [] h = absurd h
   under-on k v (w ∷ vs) (inl e) = inl (ap (under k) e)
   under-on k v (w ∷ vs) (inr h) = inr (under-on k v vs h)
 
-  pub on-under : (k : K) (w : Visit S K) (vs : List (Visit S K)) → On w (map (under k) vs)
-      → (v : Visit S K) × On v vs × (w ≡ under k v)
-  unfolding On
+  pub on-under : (k : K) (w : Visit S K) (vs : List (Visit S K)) → Listed w (map (under k) vs)
+      → (v : Visit S K) × Listed v vs × (w ≡ under k v)
+  unfolding Listed
   on-under k w [] h = absurd h
   on-under k w (v ∷ vs) (inl e) = (v, inl refl, e)
   on-under k w (v ∷ vs) (inr h) = let r = on-under k w vs h in (r .0, inr (r .1), r .2)
@@ -27,37 +29,37 @@ module _ {S K : Type 0} where
 module _ {S K : Type 0} (m : Machine S K) where
   module _ (below : S → List (Visit S K)) (s : S) where
     -- what starts with one of the steps: a step of them, and a run that follows it
-    pub starting-on : (k : K) (v : Visit S K) (ks : List K) → On k ks → On v (below (m .after s k))
-        → On (under k v) (starting m below s ks)
-    unfolding On starting
+    pub starting-on : (k : K) (v : Visit S K) (ks : List K) → Listed k ks → Listed v (below (m .after s k))
+        → Listed (under k v) (starting m below s ks)
+    unfolding Listed starting
     starting-on k v [] h r = absurd h
     starting-on k v (j ∷ ks) (inl e) r =
-        subst (λ i. On (under k v) (map (under i) (below (m .after s i)) ++ starting m below s ks)) e
-        (on-left (under k v) (map (under k) (below (m .after s k))) (starting m below s ks)
+        subst (λ i. Listed (under k v) (map (under i) (below (m .after s i)) ++ starting m below s ks)) e
+        (listed-left (under k v) (map (under k) (below (m .after s k))) (starting m below s ks)
         (under-on k v (below (m .after s k)) r))
     starting-on k v (j ∷ ks) (inr h) r =
-        on-right (under k v) (map (under j) (below (m .after s j))) (starting m below s ks)
+        listed-right (under k v) (map (under j) (below (m .after s j))) (starting m below s ks)
         (starting-on k v ks h r)
 
-    pub on-starting : (w : Visit S K) (ks : List K) → On w (starting m below s ks)
-        → (k : K) × (v : Visit S K) × On k ks × On v (below (m .after s k)) × (w ≡ under k v)
-    unfolding On starting
+    pub on-starting : (w : Visit S K) (ks : List K) → Listed w (starting m below s ks)
+        → (k : K) × (v : Visit S K) × Listed k ks × Listed v (below (m .after s k)) × (w ≡ under k v)
+    unfolding Listed starting
     on-starting w [] h = absurd h
     on-starting w (k ∷ ks) h =
-        go (on-either w (map (under k) (below (m .after s k))) (starting m below s ks) h) (on-starting w ks)
+        go (listed-either w (map (under k) (below (m .after s k))) (starting m below s ks) h) (on-starting w ks)
       where
         Of : List K → Type 0
-        Of js = (j : K) × (v : Visit S K) × On j js × On v (below (m .after s j)) × (w ≡ under j v)
+        Of js = (j : K) × (v : Visit S K) × Listed j js × Listed v (below (m .after s j)) × (w ≡ under j v)
 
-        go : On w (map (under k) (below (m .after s k))) ⊎ On w (starting m below s ks)
-            → (On w (starting m below s ks) → Of ks)
+        go : Listed w (map (under k) (below (m .after s k))) ⊎ Listed w (starting m below s ks)
+            → (Listed w (starting m below s ks) → Of ks)
             → Of (k ∷ ks)
         go (inl a) ih = let r = on-under k w (below (m .after s k)) a in (k, r .0, inl refl, r .1, r .2)
         go (inr a) ih = let r = ih a in (r .0, r .1, inr (r .2), r .3, r .4)
 
   -- every run on the walk is one of next steps
-  pub walk-runs : (n : ℕ) (s : S) (v : Visit S K) → On v (walk m n s) → Runs m s (v .run) (v .end)
-  unfolding walk On Runs
+  pub walk-runs : (n : ℕ) (s : S) (v : Visit S K) → Listed v (walk m n s) → Runs m s (v .run) (v .end)
+  unfolding walk Listed Runs
   walk-runs zero s v h = absurd h
   walk-runs (suc n) s v (inl e) = subst (λ w. Runs m s (w .run) (w .end)) (sym e) refl
   walk-runs (suc n) s v (inr h) =
@@ -67,8 +69,8 @@ module _ {S K : Type 0} (m : Machine S K) where
 
   -- and every such run is on it, where it counts from above the run's length
   pub runs-walk : (n : ℕ) (s : S) (ks : List K) (u : S) → Runs m s ks u → length ks < n
-      → On (record { run = ks; end = u }) (walk m n s)
-  unfolding walk On Runs
+      → Listed (record { run = ks; end = u }) (walk m n s)
+  unfolding walk Listed Runs
   runs-walk zero s ks u r h = absurd (omega arith)
   runs-walk (suc n) s [] u r h = inl (ap here (sym r))
   runs-walk (suc n) s (k ∷ ks) u r h =

@@ -23,9 +23,10 @@ use Rattle.machine.specs.declared.cells.State.{State}
 use Rattle.machine.specs.Rules.{startOf}
 use Rattle.machine.specs.Fit.{anyFrom}
 use Rattle.machine.specs.Work.{fullLength}
+use Rattle.machine.specs.Next.{Listed}
 use Rattle.search.specs.declared.ask.Outcome.{Outcome}
 use Rattle.search.specs.declared.ask.Outcome.the-variants.{Reached, Unreachable, Undecided, Refused}
-use Rattle.search.specs.Walk.{Visit, On, walkOf}
+use Rattle.search.specs.Walk.{Visit, walkOf}
 
 -- a location holds another word than is wanted there. "Not wanted" is not "wanted 0".
 unfoldable pub misses : Bool → ℕ → ℕ → Bool
@@ -73,7 +74,7 @@ decided test b vs = decidedBy (firstOf test (take b vs)) (leb (length vs) b)
 -- how the theorems say it: no run of vs passes; the run of v stands in vs behind `before`, and is the first
 -- that passes
 unfoldable pub None : {S K : Type 0} → (S → Bool) → List (Visit S K) → Type 0
-None {S} {K} test vs = (v : Visit S K) → On v vs → test (v .end) ≡ false
+None {S} {K} test vs = (v : Visit S K) → Listed v vs → test (v .end) ≡ false
 
 pub record FirstThat {S K : Type 0} (test : S → Bool) (vs before : List (Visit S K)) (v : Visit S K)
     : Type 0 where

@@ -5,7 +5,7 @@
 --                   everything that starts with it, next steps in the order" of the machine
 --   Runs m s ks u   the steps ks, each a next one where it is taken, lead from s to u
 --   Lawful          a machine whose next steps stand in order and lower the work left
---   On, Before, InOrder   how the theorems say "on the list", and "in the stated order, once"
+--   Before, InOrder how the theorems say "in the stated order, once"
 --   ptso p          the machine of document 01, for a program
 --   walkOf p s      its walk from the state s
 -- Assumes nothing.
@@ -18,7 +18,7 @@ use Rattle.cases.specs.declared.case.Program.{Program}
 use Rattle.machine.specs.declared.cells.State.{State}
 use Rattle.machine.specs.Rules.{nextOf}
 use Rattle.machine.specs.Work.{work}
-use Rattle.machine.specs.Next.{legalSteps}
+use Rattle.machine.specs.Next.{legalSteps, Listed}
 
 pub record Machine (S K : Type 0) : Type 0 where
   pub nexts : S → List K
@@ -44,24 +44,20 @@ unfoldable pub walk : {S K : Type 0} → Machine S K → ℕ → S → List (Vis
 walk m zero s = []
 walk m (suc n) s = here s ∷ starting m (walk m n) s (m .nexts s)
 
-unfoldable pub On : {A : Type 0} → A → List A → Type 0
-On x [] = ⊥
-On x (y ∷ ys) = (x ≡ y) ⊎ On x ys
-
 unfoldable pub Runs : {S K : Type 0} → Machine S K → S → List K → S → Type 0
 Runs m s [] u = s ≡ u
-Runs m s (k ∷ ks) u = On k (m .nexts s) × Runs m (m .after s k) ks u
+Runs m s (k ∷ ks) u = Listed k (m .nexts s) × Runs m (m .after s k) ks u
 
 -- each step's rank is above those before it
 unfoldable pub Ascending : {K : Type 0} → (K → ℕ) → List K → Type 0
 Ascending rank [] = Unit {0}
-Ascending {K} rank (k ∷ ks) = ((j : K) → On j ks → rank k < rank j) × Ascending rank ks
+Ascending {K} rank (k ∷ ks) = ((j : K) → Listed j ks → rank k < rank j) × Ascending rank ks
 
 -- the states that Fit speaks of are never left, each step lowers the work by one, and next steps stand in order
 pub record Lawful {S K : Type 0} (m : Machine S K) (Fit : S → Type 0) (left : S → ℕ) (rank : K → ℕ)
     : Type 0 where
-  pub keeps : (s : S) → Fit s → (k : K) → On k (m .nexts s) → Fit (m .after s k)
-  pub lowers : (s : S) → Fit s → (k : K) → On k (m .nexts s) → left (m .after s k) + 1 ≡ left s
+  pub keeps : (s : S) → Fit s → (k : K) → Listed k (m .nexts s) → Fit (m .after s k)
+  pub lowers : (s : S) → Fit s → (k : K) → Listed k (m .nexts s) → left (m .after s k) + 1 ≡ left s
   pub rises : (s : S) → Fit s → Ascending rank (m .nexts s)
 
 -- a run comes before those that start with it, and, where two first differ, by the rank of the step
@@ -74,7 +70,7 @@ Before rank (j ∷ js) (k ∷ ks) = (rank j < rank k) ⊎ ((j ≡ k) × Before r
 unfoldable pub InOrder : {S K : Type 0} → (K → ℕ) → List (Visit S K) → Type 0
 InOrder rank [] = Unit {0}
 InOrder {S} {K} rank (v ∷ vs) =
-    ((w : Visit S K) → On w vs → Before rank (v .run) (w .run)) × InOrder rank vs
+    ((w : Visit S K) → Listed w vs → Before rank (v .run) (w .run)) × InOrder rank vs
 
 -- the machine of document 01; "It never goes deeper than the full length, a number that falls at each step
 -- down"
