@@ -1,6 +1,7 @@
 -- The candidates, and the legal ones among them, stand in 01's order, once each. Assumes nothing.
 use Prim.Native.Nat.{ℕ, zero, suc, _+_, _*_, _≤_}
 use mathlib.Core.Path.{_≡_}
+use mathlib.Core.Logic.{inl, inr}
 use mathlib.Core.Bool.{Bool, true, false}
 use mathlib.Core.List.{List, [], _∷_, _++_, append-assoc}
 use native.Mathlib.Omega.{arith}
@@ -13,9 +14,31 @@ use Rattle.machine.specs.declared.cells.State.{State}
 use Rattle.machine.specs.Rules.{ruleOf}
 use Rattle.machine.specs.Fit.{ProgramFits}
 use Rattle.machine.specs.Next.{issueStep, moveStep, persistStep, issuesFrom, movesAt, movesFrom}
-use Rattle.machine.specs.Next.{persistsFrom, candidates, allowed, legalSteps, rankOf, Rising}
+use Rattle.machine.specs.Next.{persistsFrom, candidates, allowed, legalSteps, rankOf, Listed, Ascending}
 
--- Rising
+-- each step's rank is above the one before, the first one's at least n
+unfoldable Rising : ℕ → List Step → Type 0
+Rising n [] = Unit {0}
+Rising n (k ∷ ks) = (n ≤ rankOf k) × Rising (suc (rankOf k)) ks
+
+-- so it is below those of all behind it
+rising-above : (n : ℕ) (ks : List Step) → Rising n ks → (k : Step) → Listed k ks → n ≤ rankOf k
+unfolding Listed Rising
+rising-above n [] r k h = absurd h
+rising-above n (j ∷ ks) r k (inl e) = rw e (r .0)
+rising-above n (j ∷ ks) r k (inr h) =
+    let a = rising-above (suc (rankOf j)) ks (r .1) k h in
+    let b = r .0 in
+    omega arith
+
+rising-ascending : (n : ℕ) (ks : List Step) → Rising n ks → Ascending rankOf ks
+unfolding Rising Ascending
+rising-ascending n [] r = tt
+rising-ascending n (k ∷ ks) r = (
+  (λ j h. rising-above (suc (rankOf k)) ks (r .1) j h),
+  rising-ascending (suc (rankOf k)) ks (r .1),
+)
+
 rising-low : (n m : ℕ) (ks : List Step) → n ≤ m → Rising m ks → Rising n ks
 unfolding Rising
 rising-low n m [] h r = tt
@@ -83,7 +106,7 @@ rising-allowed rule n (k ∷ ks) r = go (eqb (rule k) 0) (rising-allowed rule (s
     go true ih = (r .0, ih)
     go false ih = rising-low n (suc (rankOf k)) (allowed rule ks) (let a = r .0 in omega arith) ih
 
-pub candidates-rising : (p : Program) → ProgramFits p → Rising 0 (candidates p)
+candidates-rising : (p : Program) → ProgramFits p → Rising 0 (candidates p)
 unfolding candidates
 candidates-rising p g =
     let f = g .few-threads in
@@ -92,6 +115,7 @@ candidates-rising p g =
     (rising-moves 0 (p .threads) _ _ (omega arith)
     (rising-persists 0 (p .locations) _ (omega arith))))
 
-pub legal-rising : (p : Program) (s : State) → ProgramFits p → Rising 0 (legalSteps p s)
+pub legal-ascending : (p : Program) (s : State) → ProgramFits p → Ascending rankOf (legalSteps p s)
 unfolding legalSteps
-legal-rising p s g = rising-allowed (ruleOf p s) 0 (candidates p) (candidates-rising p g)
+legal-ascending p s g =
+    rising-ascending 0 _ (rising-allowed (ruleOf p s) 0 (candidates p) (candidates-rising p g))

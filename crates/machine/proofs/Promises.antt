@@ -28,7 +28,7 @@ use Rattle.machine.specs.Work.{work, fullLength, cost}
 use Rattle.machine.specs.Judge.{Leads, Faultless, StopsAt, rulingNo, told, steppedOf, stepOf}
 use Rattle.machine.specs.Judge.{verdictNo, verdictPlace, judgeFrom, runOf}
 use Rattle.machine.specs.Judge.{judgeRun, stopped, judgeOf, judgeBytes}
-use Rattle.machine.specs.Next.{legalSteps, stepAt, nextSteps, Rising, Listed}
+use Rattle.machine.specs.Next.{legalSteps, rankOf, stepAt, nextSteps, Listed, Ascending}
 use Rattle.machine.specs.Offer.{Movable}
 use Rattle.machine.specs.Sizes.{mostSlots, mostCandidates}
 use Rattle.machine.proofs.StartLaws as StartLaws
@@ -179,8 +179,8 @@ module _ (p : Program) (s : State) (fit : Fits p s) where
     (λ h. CandidateLaws.legal-listed p s k (h .0) (h .1)),
   )
 
-  pub next-rising : Rising 0 (legalSteps p s)
-  next-rising = OrderLaws.legal-rising p s (fit .program)
+  pub next-rising : Ascending rankOf (legalSteps p s)
+  next-rising = OrderLaws.legal-ascending p s (fit .program)
 
   pub next-steps-are : map stepAt (take (nextSteps p s .count) (nextSteps p s .ranks)) ≡ legalSteps p s
   next-steps-are = RankLaws.next-steps-are p s (fit .program)

@@ -4,9 +4,9 @@
 --   legalSteps p s   those that are legal in s
 --   rankOf, stepAt   a step's rank in that order, and the step of a rank
 --   nextSteps p s    the legal ones, as an array of their ranks with its count
---   Rising, Listed   how the theorems say "in that order, once" and "on the list"
+--   Listed, Ascending   how the theorems say "on the list" and "in that order, once"
 -- Assumes nothing.
-use Prim.Native.Nat.{ℕ, zero, suc, _+_, _*_, _-_, _/_, _%_, _≤_}
+use Prim.Native.Nat.{ℕ, zero, suc, _+_, _*_, _-_, _/_, _%_, _<_}
 use mathlib.Core.Path.{_≡_}
 use mathlib.Core.Logic.{_⊎_}
 use mathlib.Core.List.{List, [], _∷_, _++_, map}
@@ -83,11 +83,11 @@ nextIn p buffers issued waiting marks lengths =
 unfoldable pub nextSteps : Program → State → Next
 nextSteps p s = nextIn p (s .buffers) (s .issued) (s .waiting) (s .marks) (s .lengths)
 
--- each step's rank is above the one before, the first one's at least n
-unfoldable pub Rising : ℕ → List Step → Type 0
-Rising n [] = Unit {0}
-Rising n (k ∷ ks) = (n ≤ rankOf k) × Rising (suc (rankOf k)) ks
-
 unfoldable pub Listed : {A : Type 0} → A → List A → Type 0
 Listed x [] = ⊥
 Listed x (y ∷ ys) = (x ≡ y) ⊎ Listed x ys
+
+-- each one's rank is below those of all behind it
+unfoldable pub Ascending : {K : Type 0} → (K → ℕ) → List K → Type 0
+Ascending rank [] = Unit {0}
+Ascending {K} rank (k ∷ ks) = ((j : K) → Listed j ks → rank k < rank j) × Ascending rank ks

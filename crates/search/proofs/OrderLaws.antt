@@ -4,8 +4,8 @@ use mathlib.Core.Path.{_≡_, refl, sym, ap, subst, _∙_}
 use mathlib.Core.Logic.{_⊎_, inl, inr, _≢_}
 use mathlib.Core.List.{List, [], _∷_, _++_, map}
 use native.Mathlib.Omega.{arith}
-use Rattle.machine.specs.Next.{Listed}
-use Rattle.search.specs.Walk.{Machine, Visit, under, starting, walk, Ascending, Lawful}
+use Rattle.machine.specs.Next.{Listed, Ascending}
+use Rattle.search.specs.Walk.{Machine, Visit, under, starting, walk, Lawful}
 use Rattle.search.specs.Walk.{Before, InOrder}
 use Rattle.machine.proofs.ListLaws.{listed-right, listed-either}
 use Rattle.search.proofs.WalkLaws.{on-under, on-starting}

@@ -1,8 +1,7 @@
 -- The machine of document 01 is lawful, and its runs are the legal ones: all that the search knows of a step.
 -- Assumes nothing.
-use Prim.Native.Nat.{ℕ, suc, _+_, _≤_}
+use Prim.Native.Nat.{suc, _+_}
 use mathlib.Core.Path.{_≡_}
-use mathlib.Core.Logic.{inl, inr}
 use mathlib.Core.List.{List, [], _∷_}
 use native.Mathlib.Omega.{arith}
 use lib.ListN.{length}
@@ -13,29 +12,11 @@ use Rattle.machine.specs.Rules.{nextOf}
 use Rattle.machine.specs.Fit.{Fits}
 use Rattle.machine.specs.Work.{work}
 use Rattle.machine.specs.Judge.{Leads, Faultless}
-use Rattle.machine.specs.Next.{legalSteps, rankOf, Rising, Listed}
+use Rattle.machine.specs.Next.{rankOf, Listed}
 use Rattle.machine.proofs.Promises.{step-fits, step-work, next-legal, next-rising}
-use Rattle.search.specs.Walk.{Runs, Ascending, Lawful, InOrder, ptso, walkOf}
+use Rattle.search.specs.Walk.{Runs, Lawful, InOrder, ptso, walkOf}
 use Rattle.search.proofs.WalkLaws.{walk-runs, runs-walk, runs-work}
 use Rattle.search.proofs.OrderLaws.{walk-in-order}
-
--- ranks that rise, in the machine's words and in the walk's
-rising-above : (n : ℕ) (ks : List Step) → Rising n ks → (k : Step) → Listed k ks → n ≤ rankOf k
-unfolding Listed Rising
-rising-above n [] r k h = absurd h
-rising-above n (j ∷ ks) r k (inl e) = rw e (r .0)
-rising-above n (j ∷ ks) r k (inr h) =
-    let a = rising-above (suc (rankOf j)) ks (r .1) k h in
-    let b = r .0 in
-    omega arith
-
-rising-ascending : (n : ℕ) (ks : List Step) → Rising n ks → Ascending rankOf ks
-unfolding Rising Ascending
-rising-ascending n [] r = tt
-rising-ascending n (k ∷ ks) r = (
-  (λ j h. rising-above (suc (rankOf k)) ks (r .1) j h),
-  rising-ascending (suc (rankOf k)) ks (r .1),
-)
 
 module _ (p : Program) where
   pub lawful : Lawful (ptso p) (Fits p) (work p) rankOf
@@ -44,7 +25,7 @@ module _ (p : Program) where
       record {
         keeps = λ s f k h. let n = next-legal p s f k .0 h in step-fits p s f k (n .0) (n .1);
         lowers = λ s f k h. let n = next-legal p s f k .0 h in step-work p s f k (n .0) (n .1);
-        rises = λ s f. rising-ascending 0 (legalSteps p s) (next-rising p s f);
+        rises = λ s f. next-rising p s f;
       }
 
   -- a run of next steps is a legal run of steps that 5 and 8 have nothing against

@@ -18,7 +18,7 @@ use Rattle.cases.specs.declared.case.Program.{Program}
 use Rattle.machine.specs.declared.cells.State.{State}
 use Rattle.machine.specs.Rules.{nextOf}
 use Rattle.machine.specs.Work.{work}
-use Rattle.machine.specs.Next.{legalSteps, Listed}
+use Rattle.machine.specs.Next.{legalSteps, Listed, Ascending}
 
 pub record Machine (S K : Type 0) : Type 0 where
   pub nexts : S → List K
@@ -47,11 +47,6 @@ walk m (suc n) s = here s ∷ starting m (walk m n) s (m .nexts s)
 unfoldable pub Runs : {S K : Type 0} → Machine S K → S → List K → S → Type 0
 Runs m s [] u = s ≡ u
 Runs m s (k ∷ ks) u = Listed k (m .nexts s) × Runs m (m .after s k) ks u
-
--- each step's rank is above those before it
-unfoldable pub Ascending : {K : Type 0} → (K → ℕ) → List K → Type 0
-Ascending rank [] = Unit {0}
-Ascending {K} rank (k ∷ ks) = ((j : K) → Listed j ks → rank k < rank j) × Ascending rank ks
 
 -- the states that Fit speaks of are never left, each step lowers the work by one, and next steps stand in order
 pub record Lawful {S K : Type 0} (m : Machine S K) (Fit : S → Type 0) (left : S → ℕ) (rank : K → ℕ)
