@@ -2,7 +2,7 @@
 -- exactly the legal ones. Assumes nothing.
 use Prim.Native.Nat.{ℕ, zero, suc, _+_, _≤_, _<_}
 use mathlib.Core.Path.{_≡_, refl, sym, ap, _∙_, subst}
-use mathlib.Core.Logic.{_⊎_, inl, inr, _≢_}
+use mathlib.Core.Logic.{_⊎_, inl, inr}
 use mathlib.Core.Bool.{Bool, true, false}
 use mathlib.Core.List.{List, [], _∷_, _++_}
 use native.Mathlib.Omega.{arith}
@@ -17,7 +17,7 @@ use Rattle.cases.specs.Sizes.{mostInstructions}
 use Rattle.machine.specs.declared.cells.State.{State}
 use Rattle.machine.specs.Rules.{ruleOf}
 use Rattle.machine.proofs.ListLaws.{listed-left, listed-right, listed-either}
-use Rattle.machine.proofs.RangeLaws.{InRange, fault-none}
+use Rattle.machine.proofs.RangeLaws.{InRange, fault-none, StepKinds, step-kinds}
 use Rattle.machine.specs.Next.{issueStep, moveStep, persistStep, issuesFrom, movesAt, movesFrom}
 use Rattle.machine.specs.Next.{persistsFrom, candidates, allowed, legalSteps, Listed}
 
@@ -96,70 +96,32 @@ listed-persist l (suc m) i h k = go (eq-or-lt-of-le h) (listed-persist (suc l) m
 -- every step that 5 and 8 have nothing against is a candidate
 pub fault-candidate : (p : Program) (k : Step) → stepFault p k ≡ 0 → Listed k (candidates p)
 unfolding candidates
-fault-candidate p k h = go (eqb (k .code) 0) refl (eqb (k .code) 1) refl (fault-none p k h)
+fault-candidate p k h = go (step-kinds p k h)
   where
-    go : (a : Bool) → eqb (k .code) 0 ≡ a → (b : Bool) → eqb (k .code) 1 ≡ b → InRange p k
+    go : StepKinds p k
         → Listed k (issuesFrom 0 (p .threads) ++ movesFrom 0 (p .threads) ++ persistsFrom 0 (p .locations))
-    go true e b g r =
-        let code : k .code ≡ 0 = eqb-true _ _ e in
-        let position = r .no-position (λ z. omega arith) in
-        let location = r .no-location (λ z. omega arith) in
-        let is : k ≡ issueStep (k .thread .0) =
-        λ i. record {
-          thread = k .thread;
-          code = code i;
-          position = position i;
-          location = record { 0 = location i };
-        } in
-        let t = r .low-thread (omega arith) in
-        listed-left k _ _ (listed-left k _ _
-        (subst (λ j. Listed j (issuesFrom 0 (p .threads))) (sym is)
-        (listed-issue 0 (p .threads) (k .thread .0) (omega arith) (omega arith))))
-    go false e true g r =
-        let code : k .code ≡ 1 = eqb-true _ _ g in
-        let location = r .no-location (λ z. omega arith) in
-        let is : k ≡ moveStep (k .thread .0) (k .position) =
-        λ i. record {
-          thread = k .thread;
-          code = code i;
-          position = k .position;
-          location = record { 0 = location i };
-        } in
-        let t = r .low-thread (omega arith) in
-        let n = r .low-position code in
-        listed-left k _ _ (listed-right k (issuesFrom 0 (p .threads)) _
-        (subst (λ j. Listed j (movesFrom 0 (p .threads))) (sym is)
-        (listed-move 0 (p .threads) (k .thread .0) (k .position) (omega arith) (omega arith) n)))
-    go false e false g r =
-        let c : k .code ≢ 0 = eqb-false _ _ e in
-        let d : k .code ≢ 1 = eqb-false _ _ g in
-        let m = r .low-code in
-        let code : k .code ≡ 2 = omega arith in
-        let thread = r .no-thread (omega arith) in
-        let position = r .no-position d in
-        let is : k ≡ persistStep (k .location .0) =
-        λ i. record {
-          thread = record { 0 = thread i };
-          code = code i;
-          position = position i;
-          location = k .location;
-        } in
-        let l = r .low-location code in
-        listed-right k (issuesFrom 0 (p .threads) ++ movesFrom 0 (p .threads)) _
-        (subst (λ j. Listed j (persistsFrom 0 (p .locations))) (sym is)
-        (listed-persist 0 (p .locations) (k .location .0) (omega arith) (omega arith)))
+    go (inl x) =
+        rw (x .2) (listed-left _ _ _ (listed-left _ _ _
+        (listed-issue 0 (p .threads) (x .0) (omega arith) (omega arith))))
+    go (inr (inl x)) =
+        let n = subst (InRange p) (x .3) (fault-none p k h) .low-position refl in
+        rw (x .3) (listed-left _ _ _ (listed-right _ (issuesFrom 0 (p .threads)) _
+        (listed-move 0 (p .threads) (x .0) (x .1) (omega arith) (omega arith) n)))
+    go (inr (inr x)) =
+        rw (x .2) (listed-right _ (issuesFrom 0 (p .threads) ++ movesFrom 0 (p .threads)) _
+        (listed-persist 0 (p .locations) (x .0) (omega arith) (omega arith)))
 
 -- and every candidate is such a step
 module _ (p : Program) where
-  issue-fault : (t : ℕ) → t < p .threads → stepFault p (issueStep t) ≡ 0
+  pub issue-fault : (t : ℕ) → t < p .threads → stepFault p (issueStep t) ≡ 0
   unfolding stepFault stepOut stepLeft beyond leftOver both either refuse
   issue-fault t h = rw (lt-leb _ _ h)
 
-  move-fault : (t i : ℕ) → t < p .threads → i < mostInstructions → stepFault p (moveStep t i) ≡ 0
+  pub move-fault : (t i : ℕ) → t < p .threads → i < mostInstructions → stepFault p (moveStep t i) ≡ 0
   unfolding stepFault stepOut stepLeft beyond leftOver both either refuse
   move-fault t i h k = rw (lt-leb _ _ h, lt-leb _ _ k)
 
-  persist-fault : (l : ℕ) → l < p .locations → stepFault p (persistStep l) ≡ 0
+  pub persist-fault : (l : ℕ) → l < p .locations → stepFault p (persistStep l) ≡ 0
   unfolding stepFault stepOut stepLeft beyond leftOver both either refuse
   persist-fault l h = rw (lt-leb _ _ h)
 

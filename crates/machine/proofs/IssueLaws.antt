@@ -1,5 +1,5 @@
 -- Issue: what an instruction does keeps the fit, and lowers the work left by one. Assumes nothing.
-use Prim.Native.Nat.{ℕ, zero, suc, _+_, _≤_, _<_}
+use Prim.Native.Nat.{ℕ, _+_, _≤_, _<_}
 use mathlib.Core.Path.{_≡_, refl, _∙_}
 use native.Mathlib.Omega.{arith}
 use borrow.Author.Tests.{leb-false}
@@ -13,38 +13,17 @@ use Rattle.cases.proofs.ChoiceLaws.{refuse-none}
 use Rattle.machine.specs.declared.cells.State.{State}
 use Rattle.machine.specs.declared.cells.Entry.the-variants.{Flush, FlushOpt, Sfence}
 use Rattle.machine.specs.Sizes.{room}
-use Rattle.machine.specs.View.{writeSlot, queue, queueLen}
-use Rattle.machine.specs.View.{buffer, wordOf}
-use Rattle.machine.specs.View.{withRegister, issuedOf, withIssued}
+use Rattle.machine.specs.View.{writeSlot, queue, queueLen, buffer, wordOf, withRegister, issuedOf}
+use Rattle.machine.specs.View.{withIssued}
 use Rattle.machine.specs.Look.{newestIn, newestStore, queuedWord, loadOf}
-use Rattle.machine.specs.Rules.{countAt, instructionAt, issueRule, entryOf, loaded, exchanged, performed}
-use Rattle.machine.specs.Rules.{issueOf}
+use Rattle.machine.specs.Rules.{countAt, instructionAt, issueRule, entryOf, loaded, exchanged}
+use Rattle.machine.specs.Rules.{performed, issueOf}
 use Rattle.machine.specs.Fit.{Fits, Named}
 use Rattle.machine.specs.Work.{unissuedWeight, waitingWeight, work}
+use Rattle.machine.proofs.OperationLaws.{each-operation, of}
 use Rattle.machine.proofs.KeepLaws.{fits-register}
-use Rattle.machine.proofs.SpareLaws.{Spare, counted-spare}
-use Rattle.machine.proofs.SpareLaws.{await-fits, enqueue-fits, register-spare}
-use Rattle.machine.proofs.WorkLaws.{work-enqueue, work-await, work-counted}
-use Rattle.machine.proofs.WorkLaws.{work-register}
-
--- an operation is one of eight
-each-operation {ℓ} : (P : ℕ → Type ℓ) → P 1 → P 2 → P 3 → P 4 → P 5 → P 6 → P 7 → P 8
-    → (op : ℕ) → 1 ≤ op → op ≤ 8 → P op
-each-operation P a b c d e f g i zero h k = absurd (omega arith)
-each-operation P a b c d e f g i (suc zero) h k = a
-each-operation P a b c d e f g i (suc (suc zero)) h k = b
-each-operation P a b c d e f g i (suc (suc (suc zero))) h k = c
-each-operation P a b c d e f g i (suc (suc (suc (suc zero)))) h k = d
-each-operation P a b c d e f g i (suc (suc (suc (suc (suc zero))))) h k = e
-each-operation P a b c d e f g i (suc (suc (suc (suc (suc (suc zero)))))) h k = f
-each-operation P a b c d e f g i (suc (suc (suc (suc (suc (suc (suc zero))))))) h k = g
-each-operation P a b c d e f g i (suc (suc (suc (suc (suc (suc (suc (suc zero)))))))) h k = i
-each-operation P a b c d e f g i (suc (suc (suc (suc (suc (suc (suc (suc (suc n))))))))) h k = absurd
-    (omega arith)
-
--- an instruction of the operation op
-abbrev of : ℕ → Location → Register → ℕ → Instruction
-of op l r w = record { operation = op; location = l; register = r; word = w }
+use Rattle.machine.proofs.SpareLaws.{Spare, counted-spare, await-fits, enqueue-fits, register-spare}
+use Rattle.machine.proofs.WorkLaws.{work-enqueue, work-await, work-counted, work-register}
 
 -- What an instruction does, where it is counted already
 module _ (p : Program) (s : State) (t : ℕ) (o : Spare p s t) (low : t < p .threads)

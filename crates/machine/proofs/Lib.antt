@@ -1,8 +1,11 @@
--- The laws of the machine. Other crates can name Promises, and laws of general use, of the loops that ask
--- whether something is true of one of n numbers and of being on a list, alone.
+-- The laws of the machine. Other crates can name Promises, Effects (what each step does to each part of the
+-- state), and laws of general use: of the loops that ask whether something is true of one of n numbers, of being
+-- on a list, and of the eight operations. No other.
 pub mod Promises
+pub mod Effects
 pub mod AnyLaws
 pub mod ListLaws
+pub mod OperationLaws
 -- lists in places, and the state's parts
 mod PartLaws
 mod SlotLaws
@@ -26,6 +29,11 @@ mod WorkLaws
 mod RangeLaws
 mod IssueLaws
 mod StepLaws
+mod ProgressLaws
+-- what each step does to each part of the state
+mod AddLaws
+mod EffectLaws
+mod PersistLaws
 -- next steps
 mod NextLaws
 mod OfferLaws

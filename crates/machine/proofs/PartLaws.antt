@@ -11,8 +11,8 @@ use borrow.Author.Tests.{ltb-true, ltb-false}
 use lib.Dec.{ltb}
 use lib.ListN.{length, getD, set, take, drop, replicate, length-append, length-take, length-drop}
 use lib.ListN.{length-replicate, take-append-drop, drop-of-length-le}
-use lib.Seq.{take-nil, sets, sets-eq, drop-cons, take-suc, take-at, drop-at, getD-drop, getD-take}
-use lib.Seq.{drop-drop, take-take, take-set-le, drop-set-lt, getD-set-other, length-take-le}
+use lib.Seq.{take-nil, sets, sets-eq, drop-cons, take-suc, take-at, drop-at, getD-drop, getD-take, drop-drop}
+use lib.Seq.{take-take, take-set-le, drop-set-lt, getD-set-other, length-take-le}
 use Rattle.machine.specs.View.{part, put, shift, closeGap, without}
 
 pub lt-or-ge : (a b : ℕ) → (a < b) ⊎ (b ≤ a)
@@ -59,6 +59,9 @@ module _ {ℓ} {A : Type ℓ} where
   unfolding part
   part-end base n i xs h =
       drop-of-length-le (take n (drop base xs)) {i = i} (simp (length-take, length-drop) (omega arith))
+
+  pub part-none : (base n : ℕ) (xs : List A) → n ≡ 0 → part base n xs ≡ []
+  part-none base n xs e = part-end base n 0 xs (omega arith)
 
   -- the same of a front
   pub take-next : (n i : ℕ) (xs : List A) (d : A) → i < n → n ≤ length xs

@@ -1,5 +1,5 @@
--- What the machine promises to the layers above: all that they may cite. Each law is stated in full. Assumes
--- nothing.
+-- What the machine promises to the layers above: all that they may cite, but for what each step does to each
+-- part of the state, which is Effects. Each law is stated in full. Assumes nothing.
 use Prim.Native.Nat.{ℕ, _+_, _<_, _≤_}
 use mathlib.Core.Path.{_≡_, refl, sym, _∙_}
 use mathlib.Core.Logic.{_⊎_, _≢_, _↔_}
@@ -11,7 +11,7 @@ use Rattle.cases.specs.declared.case.Step.{Step}
 use Rattle.cases.specs.declared.case.Program.{Program}
 use Rattle.cases.specs.declared.case.Ask.{Ask}
 use Rattle.cases.specs.declared.case.Case.{Case}
-use Rattle.cases.specs.Sizes.{mostSteps, longest}
+use Rattle.cases.specs.Sizes.{mostThreads, mostSteps, longest}
 use Rattle.cases.specs.Bytes.{IsBytes}
 use Rattle.cases.specs.Checks.{stepFault}
 use Rattle.cases.specs.Draft.{noStep, withAsk}
@@ -22,18 +22,20 @@ use Rattle.cases.proofs.ChoiceLaws.{pick-true, pick-false, pick-cases, true-not
 use Rattle.machine.specs.declared.cells.State.{State}
 use Rattle.machine.specs.declared.steps.Stepped.{Stepped}
 use Rattle.machine.specs.declared.runs.Verdict.the-variants.{Legal, Illegal}
-use Rattle.machine.specs.Rules.{ruleOf, nextOf, startOf}
-use Rattle.machine.specs.Fit.{misfits, Sized, ProgramFits, Fits, Shallow}
-use Rattle.machine.specs.Work.{work, fullLength, cost}
-use Rattle.machine.specs.Judge.{Leads, Faultless, StopsAt, rulingNo, told, steppedOf, stepOf}
-use Rattle.machine.specs.Judge.{verdictNo, verdictPlace, judgeFrom, runOf}
-use Rattle.machine.specs.Judge.{judgeRun, stopped, judgeOf, judgeBytes}
-use Rattle.machine.specs.Next.{legalSteps, rankOf, stepAt, nextSteps, Listed, Ascending}
+use Rattle.machine.specs.View.{queue, buffer, issuedOf}
+use Rattle.machine.specs.Rules.{countAt, ruleOf, nextOf, startOf}
+use Rattle.machine.specs.Fit.{sumTo, misfits, Sized, ProgramFits, Fits, Shallow}
+use Rattle.machine.specs.Work.{work, Unfinished, fullLength, programWeight, cost}
+use Rattle.machine.specs.Judge.{Leads, Faultless, StopsAt, rulingNo, told, steppedOf, stepOf, verdictNo}
+use Rattle.machine.specs.Judge.{verdictPlace, judgeFrom, runOf, judgeRun, stopped, judgeOf, judgeBytes}
+use Rattle.machine.specs.Next.{issueStep, moveStep, persistStep, legalSteps, rankOf, stepAt, nextSteps}
+use Rattle.machine.specs.Next.{Listed, Ascending}
 use Rattle.machine.specs.Offer.{Movable}
 use Rattle.machine.specs.Sizes.{mostSlots, mostCandidates}
 use Rattle.machine.proofs.StartLaws as StartLaws
 use Rattle.machine.proofs.RangeLaws.{fault-none}
 use Rattle.machine.proofs.StepLaws as StepLaws
+use Rattle.machine.proofs.ProgressLaws as ProgressLaws
 use Rattle.machine.proofs.RunLaws as RunLaws
 use Rattle.machine.proofs.OrderLaws as OrderLaws
 use Rattle.machine.proofs.RankLaws as RankLaws
@@ -42,8 +44,8 @@ use Rattle.machine.proofs.RuleLaws as RuleLaws
 use Rattle.machine.proofs.FitLaws as FitLaws
 use Rattle.machine.proofs.CandidateLaws as CandidateLaws
 use Rattle.machine.proofs.PlaceLaws as PlaceLaws
-use Rattle.machine.proofs.JudgeLaws.{leads-or-stops, says-legal, says-illegal, legal-says, illegal-says}
-use Rattle.machine.proofs.JudgeLaws.{says-leads, says-stops, state-is}
+use Rattle.machine.proofs.JudgeLaws.{leads-or-stops, says-legal, says-illegal, legal-says}
+use Rattle.machine.proofs.JudgeLaws.{illegal-says, says-leads, says-stops, state-is}
 
 -- the program of a case that is handed out with 0 is one that the machine can run
 pub read-fits : (s : List ℕ) → numberOf (readOf s .answer) ≡ 0 → ProgramFits (readOf s .case .program)
@@ -58,6 +60,10 @@ module _ (p : Program) (fits : ProgramFits p) where
   -- "The sum at the start is the program's full length, at most 96."
   pub full-length-low : fullLength p ≤ mostSteps
   full-length-low = StartLaws.full-most p fits
+
+-- "known from the program alone": it is what the threads' instructions weigh
+pub full-length-weighs : (p : Program) → fullLength p ≡ sumTo mostThreads (programWeight p)
+full-length-weighs = StartLaws.full-weighs
 
 -- A case that passes the test for 32
 module _ (c : Case) (readable : readsBack c ≡ true) where
@@ -107,18 +113,20 @@ module _ (c : Case) (readable : readsBack c ≡ true) where
       → judgeOf c .state ≡ u
   judge-illegal-state i u h = rw judge-is (state-is _ _ _ _ u (says-illegal _ _ _ i u h))
 
+  -- 5 and 8 have nothing against its steps
+  pub run-faultless : Faultless (c .program) (runOf c)
+  run-faultless = RunLaws.run-faultless c (readable-ranged c readable)
+
   -- a legal run of it ends in a state that fits, and has used up one of the full length for each of its steps
   pub legal-run-fits : (u : State) → Leads (c .program) (startOf (c .program)) (runOf c) u → Fits (c .program) u
   legal-run-fits u h =
-      RunLaws.leads-fits (c .program) _ (runOf c) u start-fits
-      (RunLaws.run-faultless c (readable-ranged c readable)) h
+      RunLaws.leads-fits (c .program) _ (runOf c) u start-fits run-faultless h
 
   pub legal-run-work : (u : State) → Leads (c .program) (startOf (c .program)) (runOf c) u
       → work (c .program) u + length (runOf c) ≡ fullLength (c .program)
   unfolding fullLength
   legal-run-work u h =
-      RunLaws.leads-work (c .program) _ (runOf c) u start-fits
-      (RunLaws.run-faultless c (readable-ranged c readable)) h
+      RunLaws.leads-work (c .program) _ (runOf c) u start-fits run-faultless h
 
   -- a run is legal to its end, or stops at one step
   pub legal-or-not :
@@ -152,6 +160,11 @@ pub ask-not-looked-at : (c : Case) (a : Ask) → judgeRun (withAsk c a) ≡ judg
 unfolding judgeRun withAsk
 ask-not-looked-at c a = refl
 
+-- 5 and 8 have nothing against any step of a faultless run
+pub faultless-at : (p : Program) (ks : List Step) → Faultless p ks → (i : ℕ) → i < length ks
+    → stepFault p (getD ks i noStep) ≡ 0
+faultless-at = RunLaws.faultless-at
+
 -- A state that fits its program
 module _ (p : Program) (s : State) (fit : Fits p s) where
   module _ (k : Step) (faultless : stepFault p k ≡ 0) (legal : ruleOf p s k ≡ 0) where
@@ -170,6 +183,30 @@ module _ (p : Program) (s : State) (fit : Fits p s) where
   pub leads-work : (ks : List Step) (u : State) → Faultless p ks → Leads p s ks u
       → work p u + length ks ≡ work p s
   leads-work ks u = RunLaws.leads-work p s ks u fit
+
+  -- a queue that holds something: its oldest may persist
+  pub persist-legal : (l : ℕ) → l < p .locations → queue s l ≢ []
+      → (stepFault p (persistStep l) ≡ 0) × (ruleOf p s (persistStep l) ≡ 0)
+  persist-legal = ProgressLaws.persist-legal p s fit
+
+  module _ (quiet : (l : ℕ) → l < p .locations → queue s l ≡ []) where
+    -- where every queue is empty any thread's first entry may move
+    pub move-legal : (t : ℕ) → t < p .threads → buffer s t ≢ []
+        → (stepFault p (moveStep t 0) ≡ 0) × (ruleOf p s (moveStep t 0) ≡ 0)
+    move-legal = ProgressLaws.move-legal p s fit quiet
+
+    -- and a thread with an empty buffer may issue what it has left
+    pub issue-legal : (t : ℕ) → t < p .threads → buffer s t ≡ [] → issuedOf s t < countAt p t
+        → (stepFault p (issueStep t) ≡ 0) × (ruleOf p s (issueStep t) ≡ 0)
+    issue-legal = ProgressLaws.issue-legal p s fit quiet
+
+  -- while an instruction is unissued or an entry waits, some step is legal
+  pub progress : Unfinished p s → (k : Step) × (stepFault p k ≡ 0) × (ruleOf p s k ≡ 0)
+  progress = ProgressLaws.progress p s fit
+
+  -- work is left only where there is something to do
+  pub work-some : 0 < work p s → Unfinished p s
+  work-some = ProgressLaws.work-some p s fit
 
   -- the list of next steps holds the legal ones, exactly, in 01's order, each once
   pub next-legal : (k : Step) →

@@ -1,15 +1,18 @@
--- What a step that 5 and 8 have nothing against names. Assumes nothing.
+-- What a step that 5 and 8 have nothing against names, and of which kind it is. Assumes nothing.
 use Prim.Native.Nat.{ℕ, _≤_, _<_}
-use mathlib.Core.Path.{_≡_}
-use mathlib.Core.Logic.{_≢_}
+use mathlib.Core.Path.{_≡_, refl}
+use mathlib.Core.Logic.{_⊎_, inl, inr, _≢_}
 use mathlib.Core.Bool.{Bool, true, false}
-use borrow.Author.Tests.{leb-false, ltb-false, eqb-true, le-leb, lt-leb, eq-eqb, ne-eqb, not-false}
+use native.Mathlib.Omega.{arith}
+use borrow.Author.Tests.{leb-false, ltb-false, eqb-true, eqb-false, le-leb, lt-leb, eq-eqb, ne-eqb, not-false}
+use lib.Dec.{eqb}
 use Rattle.cases.specs.declared.case.Step.{Step}
 use Rattle.cases.specs.declared.case.Program.{Program}
 use Rattle.cases.specs.Choice.{both}
 use Rattle.cases.specs.Checks.{stepFault, stepOut, stepLeft, beyond, leftOver}
 use Rattle.cases.specs.Sizes.{mostInstructions}
 use Rattle.cases.proofs.ChoiceLaws.{refuse-none, either-false}
+use Rattle.machine.specs.Next.{issueStep, moveStep, persistStep}
 
 -- what a step that 5 and 8 have nothing against uses is there, and what it doesn't use is 0
 pub record InRange (p : Program) (k : Step) : Type 0 where
@@ -47,3 +50,61 @@ fault-none p k h =
       no-position = λ e. unused-none _ _ (last .0) (ne-eqb _ _ e);
       no-location = λ e. unused-none _ _ (last .1) (ne-eqb _ _ e);
     }
+
+-- such a step of each code is made of what it names
+module _ (p : Program) (k : Step) (r : InRange p k) where
+  issue-is : k .code ≡ 0 → k ≡ issueStep (k .thread .0)
+  issue-is code =
+      let position = r .no-position (λ z. omega arith) in
+      let location = r .no-location (λ z. omega arith) in
+      λ i. record {
+        thread = k .thread;
+        code = code i;
+        position = position i;
+        location = record { 0 = location i };
+      }
+
+  move-is : k .code ≡ 1 → k ≡ moveStep (k .thread .0) (k .position)
+  move-is code =
+      let location = r .no-location (λ z. omega arith) in
+      λ i. record {
+        thread = k .thread;
+        code = code i;
+        position = k .position;
+        location = record { 0 = location i };
+      }
+
+  persist-is : k .code ≡ 2 → k ≡ persistStep (k .location .0)
+  persist-is code =
+      let thread = r .no-thread (omega arith) in
+      let position = r .no-position (λ z. omega arith) in
+      λ i. record {
+        thread = record { 0 = thread i };
+        code = code i;
+        position = position i;
+        location = k .location;
+      }
+
+-- and so it is the issue or a move of a thread that there is, or the persist of a location that there is
+abbrev pub StepKinds : Program → Step → Type 0
+StepKinds p k =
+    ((t : ℕ) × (t < p .threads) × (k ≡ issueStep t))
+    ⊎ ((t : ℕ) × (i : ℕ) × (t < p .threads) × (k ≡ moveStep t i))
+    ⊎ ((l : ℕ) × (l < p .locations) × (k ≡ persistStep l))
+
+pub step-kinds : (p : Program) (k : Step) → stepFault p k ≡ 0 → StepKinds p k
+step-kinds p k h = go (eqb (k .code) 0) refl (eqb (k .code) 1) refl (fault-none p k h)
+  where
+    go : (a : Bool) → eqb (k .code) 0 ≡ a → (b : Bool) → eqb (k .code) 1 ≡ b → InRange p k → StepKinds p k
+    go true e b g r =
+        let code : k .code ≡ 0 = eqb-true _ _ e in
+        inl (k .thread .0, r .low-thread (omega arith), issue-is p k r code)
+    go false e true g r =
+        let code : k .code ≡ 1 = eqb-true _ _ g in
+        inr (inl (k .thread .0, k .position, r .low-thread (omega arith), move-is p k r code))
+    go false e false g r =
+        let c : k .code ≢ 0 = eqb-false _ _ e in
+        let d : k .code ≢ 1 = eqb-false _ _ g in
+        let m = r .low-code in
+        let code : k .code ≡ 2 = omega arith in
+        inr (inr (k .location .0, r .low-location code, persist-is p k r code))

@@ -114,7 +114,14 @@ module _ (p : Program) where
       let one = step-work p s f k (fault-none p k (r .0)) (h .0) in
       omega arith
 
--- the run of a case that can be read is faultless
+-- a faultless run is one of faultless steps; the run of a case that can be read is one
+pub faultless-at : (p : Program) (ks : List Step) → Faultless p ks → (i : ℕ) → i < length ks
+    → stepFault p (getD ks i noStep) ≡ 0
+unfolding Faultless
+faultless-at p [] f i h = absurd (omega arith)
+faultless-at p (k ∷ ks) f zero h = f .0
+faultless-at p (k ∷ ks) f (suc i) h = faultless-at p ks (f .1) i (omega arith)
+
 front-faultless : (p : Program) (n : ℕ) (ks : List Step) → n ≤ length ks
     → ((i : ℕ) → i < n → stepFault p (getD ks i noStep) ≡ 0)
     → Faultless p (take n ks)

@@ -4,6 +4,7 @@ use Prim.Native.Nat.{ℕ, zero, suc, _+_, _*_, _-_, _≤_, _<_}
 use mathlib.Core.Path.{_≡_, refl}
 use mathlib.Core.List.{List, [], _∷_}
 use native.Mathlib.Omega.{arith}
+use native.Mathlib.Nat.{add-zero}
 use lib.ListN.{length, getD, replicate, length-replicate}
 use Rattle.cases.specs.declared.case.Instruction.{Instruction}
 use Rattle.cases.specs.declared.case.Program.{Program}
@@ -12,14 +13,14 @@ use Rattle.cases.specs.Sizes.{mostThreads, mostInstructions, mostLocations, mos
 use Rattle.cases.specs.Ranges.{Ranged}
 use Rattle.cases.proofs.ChoiceLaws.{pick-cases}
 use Rattle.machine.specs.Sizes.{room, mostSlots, mostPlaces}
-use Rattle.machine.specs.View.{part, marksIn, queueLen, buffer, bufferIn, bufferLen, blankWaiting}
-use Rattle.machine.specs.View.{issuedOf}
+use Rattle.machine.specs.View.{part, slots, marksIn, queue, queueIn, queueLen, buffer, bufferIn}
+use Rattle.machine.specs.View.{bufferLen, blankWaiting, issuedOf, wordOf}
 use Rattle.machine.specs.Rules.{countAt, startOf}
-use Rattle.machine.specs.Fit.{unissued, due, Sized, ProgramFits, Fits, AllNamed, AllBorne}
+use Rattle.machine.specs.Fit.{sumTo, unissued, due, Sized, ProgramFits, Fits, AllNamed, AllBorne}
 use Rattle.machine.specs.Work.{unissuedWeight, weighCode, weighBuffer, codeLeft, threadWork, work}
-use Rattle.machine.specs.Work.{fullLength}
-use Rattle.machine.proofs.PartLaws.{length-part, part-end}
-use Rattle.machine.proofs.SumLaws.{sum-none, sum-most}
+use Rattle.machine.specs.Work.{fullLength, programWeight}
+use Rattle.machine.proofs.PartLaws.{length-part, part-none}
+use Rattle.machine.proofs.SumLaws.{sum-same, sum-none, sum-most}
 
 pub ranged-fits : (c : Case) → Ranged c → ProgramFits (c .program)
 ranged-fits c r =
@@ -39,10 +40,8 @@ zeros zero i = refl
 zeros (suc n) zero = refl
 zeros (suc n) (suc i) = zeros n i
 
-part-none {ℓ} : {A : Type ℓ} (base n : ℕ) (xs : List A) → n ≡ 0 → part base n xs ≡ []
-part-none base n xs e = part-end base n 0 xs (omega arith)
-
-module _ (p : Program) (g : ProgramFits p) where
+-- the start's parts: nothing queued, waiting or issued, the first contents
+module _ (p : Program) where
   no-queue : (l : ℕ) → queueLen (startOf p) l ≡ 0
   unfolding startOf
   no-queue l = zeros mostLocations l
@@ -51,22 +50,35 @@ module _ (p : Program) (g : ProgramFits p) where
   unfolding startOf
   no-buffer t = zeros mostThreads t
 
-  none-issued : (t : ℕ) → issuedOf (startOf p) t ≡ 0
-  unfolding startOf
-  none-issued t = zeros mostThreads t
-
-  unissued-all : (t : ℕ) → unissued p (startOf p) t ≡ countAt p t
-  unfolding unissued
-  unissued-all t = let e = none-issued t in omega arith
-
-  no-entries : (t : ℕ) → buffer (startOf p) t ≡ []
-  unfolding bufferIn
-  no-entries t = part-none _ _ _ (no-buffer t)
+  no-words : (l : ℕ) → part (l * room) (queueLen (startOf p) l) (startOf p .held) ≡ []
+  no-words l = part-none _ _ _ (no-queue l)
 
   no-marks : (l : ℕ) → marksIn (startOf p .marks) (startOf p .lengths) l ≡ []
   unfolding marksIn
   no-marks l = part-none _ _ _ (no-queue l)
 
+  pub start-buffer : (t : ℕ) → buffer (startOf p) t ≡ []
+  unfolding bufferIn
+  start-buffer t = part-none _ _ _ (no-buffer t)
+
+  pub start-queue : (l : ℕ) → queue (startOf p) l ≡ []
+  unfolding queueIn slots
+  start-queue l = rw (no-words l)
+
+  pub start-issued : (t : ℕ) → issuedOf (startOf p) t ≡ 0
+  unfolding startOf
+  start-issued t = zeros mostThreads t
+
+  pub start-word : (l : ℕ) → wordOf (startOf p) l ≡ getD (p .first) l 0
+  unfolding startOf
+  start-word l = refl
+
+  unissued-all : (t : ℕ) → unissued p (startOf p) t ≡ countAt p t
+  unfolding unissued
+  unissued-all t = let e = start-issued t in omega arith
+
+-- the start fits its program
+module _ (p : Program) (g : ProgramFits p) where
   start-sized : Sized (startOf p)
   unfolding startOf
   start-sized =
@@ -84,9 +96,9 @@ module _ (p : Program) (g : ProgramFits p) where
   start-due : due p (startOf p) ≤ room
   unfolding due
   start-due =
-      let a = sum-none mostThreads (bufferLen (startOf p)) (λ t h. no-buffer t) in
+      let a = sum-none mostThreads (bufferLen (startOf p)) (λ t h. no-buffer p t) in
       let b = sum-most mostThreads mostInstructions (unissued p (startOf p))
-      (λ t h. rw (unissued-all t) (g .few-instructions t)) in
+      (λ t h. rw (unissued-all p t) (g .few-instructions t)) in
       omega arith
 
   pub start-fits : Fits p (startOf p)
@@ -94,13 +106,14 @@ module _ (p : Program) (g : ProgramFits p) where
       record {
         program = g;
         sized = start-sized;
-        few-issued = λ t h. rw (none-issued t) (omega arith);
-        few-waiting = λ t h. rw (no-buffer t, unissued-all t) (let n = g .few-instructions t in omega arith);
-        few-queued = λ l h. rw (no-queue l) (let n = start-due in omega arith);
-        no-buffer = λ t h a. no-buffer t;
-        no-queue = λ l h a. no-queue l;
-        named = λ t h. rw (no-entries t) (unfold AllNamed in tt);
-        borne = λ l h. rw (no-marks l) (unfold AllBorne in tt);
+        few-issued = λ t h. rw (start-issued p t) (omega arith);
+        few-waiting =
+            λ t h. rw (no-buffer p t, unissued-all p t) (let n = g .few-instructions t in omega arith);
+        few-queued = λ l h. rw (no-queue p l) (let n = start-due in omega arith);
+        no-buffer = λ t h a. no-buffer p t;
+        no-queue = λ l h a. no-queue p l;
+        named = λ t h. rw (start-buffer p t) (unfold AllNamed in tt);
+        borne = λ l h. rw (no-marks p l) (unfold AllBorne in tt);
       }
 
 -- no instruction weighs more than 3
@@ -127,18 +140,31 @@ module _ (p : Program) (g : ProgramFits p) where
   start-thread t h =
       let c = g .code-long in
       let n = g .few-instructions t in
-      let e = none-issued p g t in
-      let u = unissued-all p g t in
+      let e = start-issued p t in
+      let u = unissued-all p t in
       let l = length-part (t * mostInstructions + issuedOf (startOf p) t) (unissued p (startOf p) t) (p .code)
       (omega arith) in
       let a = code-most
       (part (t * mostInstructions + issuedOf (startOf p) t) (unissued p (startOf p) t) (p .code)) in
-      let b : weighBuffer (buffer (startOf p) t) ≡ 0 = rw (no-entries p g t) (unfold weighBuffer in refl) in
+      let b : weighBuffer (buffer (startOf p) t) ≡ 0 = rw (start-buffer p t) (unfold weighBuffer in refl) in
       omega arith
 
   pub full-most : fullLength p ≤ mostSteps
   unfolding fullLength work
   full-most =
       let a = sum-most mostThreads (3 * mostInstructions) (threadWork p (startOf p)) start-thread in
-      let b = sum-none mostLocations (queueLen (startOf p)) (λ l h. no-queue p g l) in
+      let b = sum-none mostLocations (queueLen (startOf p)) (λ l h. no-queue p l) in
+      omega arith
+
+-- the full length is what the program's instructions weigh, and nothing else
+module _ (p : Program) where
+  start-weight : (t : ℕ) → threadWork p (startOf p) t ≡ programWeight p t
+  unfolding threadWork codeLeft programWeight weighBuffer
+  start-weight t = rw (start-issued p t, unissued-all p t, start-buffer p t, add-zero, add-zero)
+
+  pub full-weighs : fullLength p ≡ sumTo mostThreads (programWeight p)
+  unfolding fullLength work
+  full-weighs =
+      let a = sum-same mostThreads (threadWork p (startOf p)) (programWeight p) (λ t h. start-weight t) in
+      let b = sum-none mostLocations (queueLen (startOf p)) (λ l h. no-queue p l) in
       omega arith

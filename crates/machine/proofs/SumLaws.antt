@@ -3,7 +3,7 @@ use Prim.Native.Nat.{ℕ, zero, suc, _+_, _*_, _≤_, _<_}
 use mathlib.Core.Path.{_≡_, refl}
 use mathlib.Core.Logic.{_⊎_, inl, inr, _≢_, ⊎-elim}
 use native.Mathlib.Omega.{arith}
-use native.Mathlib.Nat.{eq-or-lt-of-le, le-of-suc-le-suc}
+use native.Mathlib.Nat.{eq-or-lt-of-le, le-of-suc-le-suc, eq-zero-or-pos}
 use Rattle.machine.specs.Fit.{sumTo}
 
 pub sum-same : (n : ℕ) (f g : ℕ → ℕ) → ((k : ℕ) → k < n → f k ≡ g k) → sumTo n f ≡ sumTo n g
@@ -51,3 +51,15 @@ sum-most (suc n) m f h =
     let a = h n (omega arith) in
     let b = sum-most n m f (λ k l. h k (omega arith)) in
     omega arith
+
+-- some term is above 0, or each is 0
+pub some-or-none : (n : ℕ) (f : ℕ → ℕ)
+    → ((i : ℕ) × (i < n) × (0 < f i)) ⊎ ((i : ℕ) → i < n → f i ≡ 0)
+some-or-none zero f = inr (λ i h. absurd (omega arith))
+some-or-none (suc n) f = go (some-or-none n f) (eq-zero-or-pos (f n))
+  where
+    go : ((i : ℕ) × (i < n) × (0 < f i)) ⊎ ((i : ℕ) → i < n → f i ≡ 0) → (f n ≡ 0) ⊎ (0 < f n)
+        → ((i : ℕ) × (i < suc n) × (0 < f i)) ⊎ ((i : ℕ) → i < suc n → f i ≡ 0)
+    go (inl x) z = inl (x .0, (let h = x .1 in omega arith), x .2)
+    go (inr r) (inr h) = inl (n, omega arith, h)
+    go (inr r) (inl z) = inr (λ i h. ⊎-elim (λ e. rw e z) (r i) (eq-or-lt-of-le (le-of-suc-le-suc h)))

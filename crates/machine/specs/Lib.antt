@@ -3,6 +3,7 @@ pub mod Sizes
 pub mod View
 pub mod Look
 pub mod Rules
+pub mod Joins
 pub mod Fit
 pub mod Work
 pub mod Judge

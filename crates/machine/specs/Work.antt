@@ -1,10 +1,13 @@
 -- Document 01, "Work left and the walk".
 --   work p s        the work left
+--   Unfinished p s  there is something to do: an instruction is unissued or an entry waits
 --   fullLength p    "The sum at the start is the program's full length"
+--   programWeight p t   thread t's part of it, from the program alone
 --   cost            what a legal step uses up of it
 --   workOf, fullOf  what is told of a case and a state in memory
 -- Assumes nothing.
-use Prim.Native.Nat.{ℕ, _+_, _*_}
+use Prim.Native.Nat.{ℕ, _+_, _*_, _<_}
+use mathlib.Core.Logic.{_⊎_, _≢_}
 use mathlib.Core.Bool.{not}
 use mathlib.Core.List.{List, [], _∷_}
 use lib.Dec.{eqb}
@@ -21,8 +24,8 @@ use Rattle.machine.specs.declared.cells.Entry.{Entry}
 use Rattle.machine.specs.declared.cells.Entry.the-variants.{Store, Flush, FlushOpt, Sfence}
 use Rattle.machine.specs.declared.work.Weighed.{Weighed}
 use Rattle.machine.specs.declared.work.Weighed.the-variants.{Left, Unweighed}
-use Rattle.machine.specs.View.{part, queueLen, buffer, issuedOf}
-use Rattle.machine.specs.Rules.{startOf}
+use Rattle.machine.specs.View.{part, queue, queueLen, buffer, issuedOf}
+use Rattle.machine.specs.Rules.{countAt, startOf}
 use Rattle.machine.specs.Fit.{sumTo, unissued, misfits}
 
 -- "Unissued: store or flush-opt 3; flush, sfence or exchange 2; load or mfence 1." By operation, 1 to 8.
@@ -63,8 +66,19 @@ threadWork p s t = weighCode (codeLeft p s t) + weighBuffer (buffer s t)
 unfoldable pub work : Program → State → ℕ
 work p s = sumTo mostThreads (threadWork p s) + sumTo mostLocations (queueLen s)
 
+-- "while an instruction is unissued or an entry waits" in a store buffer or a queue
+unfoldable pub Unfinished : Program → State → Type 0
+Unfinished p s =
+    ((t : ℕ) × (t < p .threads) × (issuedOf s t < countAt p t))
+    ⊎ ((t : ℕ) × (t < p .threads) × (buffer s t ≢ []))
+    ⊎ ((l : ℕ) × (l < p .locations) × (queue s l ≢ []))
+
 unfoldable pub fullLength : Program → ℕ
 fullLength p = work p (startOf p)
+
+-- what thread t's instructions weigh, all of them
+unfoldable pub programWeight : Program → ℕ → ℕ
+programWeight p t = weighCode (part (t * mostInstructions) (countAt p t) (p .code))
 
 -- the same for every legal step today
 abbrev pub cost : Program → State → Step → ℕ

@@ -1,18 +1,16 @@
 -- The run that is shown: it passes the judge, and ends where the question is reached. Assumes nothing.
-use Prim.Native.Nat.{ℕ, zero, suc, _-_, _*_, _<_, _≤_}
+use Prim.Native.Nat.{ℕ, _-_, _*_, _≤_}
 use mathlib.Core.Path.{_≡_, refl, sym, ap, subst, _∙_}
 use mathlib.Core.Bool.{true}
-use mathlib.Core.List.{List, [], _∷_, _++_}
-use lib.ListN.{length, getD, take, drop, replicate}
+use mathlib.Core.List.{List, [], _++_}
+use lib.ListN.{length, take, drop, replicate}
 use lib.Seq.{take-at}
 use native.Mathlib.Omega.{arith}
 use Rattle.cases.specs.declared.case.Step.{Step}
-use Rattle.cases.specs.declared.case.Program.{Program}
 use Rattle.cases.specs.declared.case.Case.{Case}
 use Rattle.cases.specs.declared.reader.Reading.{Reading}
 use Rattle.cases.specs.Sizes.{mostSteps}
 use Rattle.cases.specs.Bytes.{IsBytes}
-use Rattle.cases.specs.Checks.{stepFault}
 use Rattle.cases.specs.Draft.{noStep, runWith, withRun}
 use Rattle.cases.specs.Reading.{numberOf, readOf}
 use Rattle.cases.specs.Places.{encodeOf, stepsBytes}
@@ -25,21 +23,14 @@ use Rattle.machine.specs.declared.runs.Judged.{Judged}
 use Rattle.machine.specs.Rules.{startOf}
 use Rattle.machine.specs.Work.{fullLength}
 use Rattle.machine.specs.Judge.{Leads, Faultless, judgeOf, judgeBytes, runOf}
-use Rattle.machine.proofs.Promises.{program-fits, begin-fits, full-length-most, judge-legal, judge-legal-state}
-use Rattle.machine.proofs.Promises.{judge-read}
+use Rattle.machine.proofs.Promises.{program-fits, begin-fits, full-length-most, judge-legal}
+use Rattle.machine.proofs.Promises.{judge-legal-state, judge-read, faultless-at}
 use Rattle.search.specs.Walk.{walkOf}
 use Rattle.search.specs.Question.{reaches, reached, walkFrom, askOf, shownOf}
 use Rattle.search.proofs.PtsoLaws.{walk-leads}
 use Rattle.search.proofs.BudgetLaws.{reached-is}
 use Rattle.search.proofs.AskLaws.{first-on, reached-short}
 use Rattle.search.proofs.QuestionLaws as QuestionLaws
-
-faultless-at : (p : Program) (ks : List Step) → Faultless p ks → (i : ℕ) → i < length ks
-    → stepFault p (getD ks i noStep) ≡ 0
-unfolding Faultless
-faultless-at p [] f i h = absurd (omega arith)
-faultless-at p (k ∷ ks) f zero h = f .0
-faultless-at p (k ∷ ks) f (suc i) h = faultless-at p ks (f .1) i (omega arith)
 
 -- where the run leads
 pub reached-leads : (c : Case) → readsBack c ≡ true → (b : ℕ) (run : List Step)

@@ -1,0 +1,124 @@
+-- Demand 1, sentence by sentence. What a function answers is a definition's value, so that each input has one
+-- answer (the contracts: docs/SIGNATURES.md); here is what these values are. Assumes nothing.
+use Prim.Native.Nat.{ℕ, _-_, _≤_}
+use mathlib.Core.Path.{_≡_, refl}
+use mathlib.Core.Logic.{_⊎_, _≢_, _↔_}
+use mathlib.Core.Bool.{true, false, not}
+use mathlib.Core.List.{List}
+use lib.ListN.{length}
+use lib.Dec.{eqb, ltb}
+use Rattle.cases.specs.declared.case.Step.{Step}
+use Rattle.cases.specs.declared.case.Case.{Case}
+use Rattle.cases.specs.declared.record.Record.the-variants.{Declare, First, Instruct, Want, Passed, Take}
+use Rattle.cases.specs.declared.writer.Wrote.the-variants.{Untouched}
+use Rattle.cases.specs.declared.record.Record.{Record}
+use Rattle.cases.specs.declared.draft.Draft.{Draft}
+use Rattle.cases.specs.Choice.{refuse}
+use Rattle.cases.specs.Bytes.{IsBytes, half}
+use Rattle.cases.specs.Record.{kindOf, payloadOf, openNo}
+use Rattle.cases.specs.Checks.{misplaced, faultOf}
+use Rattle.cases.specs.Reading.{numberOf, offsetOf, readOf}
+use Rattle.cases.specs.Writing.{readsBack, wroteOf, writtenOf}
+use Rattle.cases.proofs.Promises as Cases
+use Rattle.cases.proofs.ChoiceLaws.{pick-true, false-not}
+use Rattle.machine.specs.declared.cells.State.{State}
+use Rattle.machine.specs.declared.steps.Ruling.the-variants.{Declined}
+use Rattle.machine.specs.declared.work.Weighed.the-variants.{Unweighed}
+use Rattle.machine.specs.Work.{workOf, fullOf}
+use Rattle.machine.specs.Judge.{verdictNo, rulingNo, told, stepOf, stopped, judgeOf, judgeBytes}
+use Rattle.machine.proofs.Promises as Machine
+use Rattle.search.specs.declared.ask.Outcome.the-variants.{Refused}
+use Rattle.search.specs.Question.{outcomeNo, questionOf, shownOf}
+use Rattle.search.proofs.Promises as Search
+use Rattle.demands.specs.Order.{outOf, leftOf, unorderedOf, ninthOf, ninetySeventhOf}
+use Rattle.demands.proofs.TableLaws as TableLaws
+
+-- "Any bytes may be given as a case. Each is judged or refused by a number in your table,"
+module _ (s : List ℕ) (bytes : IsBytes s) where
+  -- the judge: 103; a rule, 21 to 29; a reading refusal, 1 to 9
+  pub judged-or-refused :
+      (verdictNo (judgeBytes s .verdict) ≡ 103)
+      ⊎ ((21 ≤ verdictNo (judgeBytes s .verdict)) × (verdictNo (judgeBytes s .verdict) ≤ 29))
+      ⊎ ((1 ≤ verdictNo (judgeBytes s .verdict)) × (verdictNo (judgeBytes s .verdict) ≤ 9))
+  judged-or-refused = TableLaws.judge-table s bytes
+
+  -- the question: 100 to 102; 31; a reading refusal, 1 to 9
+  pub asked-or-refused : (room b : ℕ)
+      → ((100 ≤ outcomeNo (questionOf s room b)) × (outcomeNo (questionOf s room b) ≤ 102))
+      ⊎ (outcomeNo (questionOf s room b) ≡ 31)
+      ⊎ ((1 ≤ outcomeNo (questionOf s room b)) × (outcomeNo (questionOf s room b) ≤ 9))
+  asked-or-refused = TableLaws.question-table s
+
+  -- both tell the reader's number and offset where reading refuses
+  pub refused-as-read : numberOf (readOf s .answer) ≢ 0 → (room b : ℕ)
+      → (judgeBytes s ≡ stopped (numberOf (readOf s .answer)) (offsetOf (readOf s .answer)))
+      × (questionOf s room b ≡ Refused (numberOf (readOf s .answer)) (offsetOf (readOf s .answer)))
+  refused-as-read unread room b = (Machine.judge-refused s unread, TableLaws.question-refused s unread room b)
+
+-- "in the stated order of checks,": a record opens, 1 (head), 2, 3, 1 (payload)
+pub order-of-opening : (s : List ℕ)
+    → openNo s
+    ≡ refuse (ltb (length s) 4) 1
+    (refuse (eqb (payloadOf (half s 2)) 0) 2
+    (refuse (not (eqb (half s 0) (payloadOf (half s 2)))) 3
+    (refuse (ltb (length s - 4) (half s 0)) 1
+    0)))
+unfolding openNo
+order-of-opening s = refl
+
+-- and, of whatever kind it is, is then checked by 4, 5, 8, 6, 7, 9
+pub order-of-checks : (d : Draft) (r : Record)
+    → faultOf d r
+    ≡ refuse (misplaced (d .kind) (kindOf r)) 4
+    (refuse (outOf d r) 5
+    (refuse (leftOf r) 8
+    (refuse (unorderedOf d r) 6
+    (refuse (ninthOf d r) 7
+    (refuse (ninetySeventhOf d r) 9
+    0)))))
+unfolding faultOf outOf leftOf unorderedOf ninthOf ninetySeventhOf refuse
+order-of-checks d (Declare h) = refl
+order-of-checks d (First w) = refl
+order-of-checks d (Instruct t x) = refl
+order-of-checks d (Want w) = refl
+order-of-checks d (Passed t n) = refl
+order-of-checks d (Take k) = refl
+
+-- "and a refusal changes no byte we lent." The reader and the judge are lent bytes to look at only. The writer,
+-- the question, and a single step, which gives back the state:
+pub writer-refuses-unchanged : (c : Case) (out : List ℕ) (m : ℕ)
+    → wroteOf c out ≡ Untouched m
+    → writtenOf c out ≡ out
+writer-refuses-unchanged = Cases.refusal-stores-nothing
+
+pub question-refuses-unchanged : (s : List ℕ) (b : ℕ) (out : List ℕ)
+    → outcomeNo (questionOf s (length out) b) ≢ 100
+    → shownOf s b out ≡ out
+question-refuses-unchanged = Search.only-reached-stores
+
+pub step-refuses-unchanged : (c : Case) (s : State) (k : Step)
+    → rulingNo (stepOf c s k .ruling) ≢ 103
+    → stepOf c s k .state ≡ s
+step-refuses-unchanged = Machine.refused-unchanged
+
+-- "Nobody has to check a case first." A case in memory that no byte string reads as gets 32 from everyone
+pub readable-exactly : (c : Case)
+    → (readsBack c ≡ true)
+    ↔ ((s : List ℕ) × IsBytes s × (numberOf (readOf s .answer) ≡ 0) × (readOf s .case ≡ c))
+readable-exactly = Cases.readable-exactly
+
+module _ (c : Case) (unreadable : readsBack c ≡ false) where
+  pub unchecked-writing : (out : List ℕ) → wroteOf c out ≡ Untouched 32
+  unfolding wroteOf
+  unchecked-writing out = pick-true _ _ _ (false-not _ unreadable)
+
+  pub unchecked-judging : judgeOf c ≡ stopped 32 0
+  unchecked-judging = Machine.judge-unreadable c unreadable
+
+  pub unchecked-stepping : (s : State) (k : Step) → stepOf c s k ≡ told (Declined 32) s
+  unfolding stepOf
+  unchecked-stepping s k = pick-true _ _ _ (false-not _ unreadable)
+
+  pub unchecked-weighing : (s : State) → (workOf c s ≡ Unweighed 32) × (fullOf c ≡ Unweighed 32)
+  unfolding workOf fullOf
+  unchecked-weighing s = (pick-true _ _ _ (false-not _ unreadable), pick-true _ _ _ (false-not _ unreadable))

@@ -1,0 +1,110 @@
+-- Demand 3, sentence by sentence: "No program of ours can wedge the machine." A program of ours is that of a
+-- case that can be read; a run is legal where the judge passes it. Assumes nothing.
+use Prim.Native.Nat.{ℕ, _+_, _≤_, _<_}
+use mathlib.Core.Path.{_≡_}
+use mathlib.Core.Logic.{_⊎_, _≢_, _↔_}
+use mathlib.Core.Bool.{true}
+use mathlib.Core.List.{List, _++_}
+use lib.ListN.{length, getD}
+use Rattle.cases.specs.declared.case.Step.{Step}
+use Rattle.cases.specs.declared.case.Program.{Program}
+use Rattle.cases.specs.declared.case.Case.{Case}
+use Rattle.cases.specs.Sizes.{mostThreads}
+use Rattle.cases.specs.Checks.{stepFault}
+use Rattle.cases.specs.Draft.{runWith, withRun}
+use Rattle.cases.specs.Writing.{readsBack}
+use Rattle.machine.specs.declared.cells.State.{State}
+use Rattle.machine.specs.declared.runs.Verdict.the-variants.{Legal}
+use Rattle.machine.specs.View.{wordOf}
+use Rattle.machine.specs.Rules.{instructionAt, ruleOf, nextOf}
+use Rattle.machine.specs.Fit.{sumTo}
+use Rattle.machine.specs.Work.{work, Unfinished, fullLength, programWeight}
+use Rattle.machine.specs.Judge.{judged, judgeOf}
+use Rattle.machine.proofs.Promises.{program-fits, full-length-weighs}
+use Rattle.demands.specs.Runs.{LegalRun, CannotGoOn, FinishedRun}
+use Rattle.demands.specs.Writes.{fixedIn, LastWrite, Unwritten, Alone}
+use Rattle.demands.specs.Carried.{lastRun}
+use Rattle.demands.proofs.EndLaws as EndLaws
+use Rattle.demands.proofs.JudgedLaws as JudgedLaws
+use Rattle.demands.proofs.MemoryLaws as MemoryLaws
+use Rattle.demands.proofs.AnyThreadLaws as AnyThreadLaws
+
+-- "So all runs that cannot go on have one length, known from the program alone." The full length is what the
+-- program's instructions weigh.
+pub known-from-the-program : (p : Program) → fullLength p ≡ sumTo mostThreads (programWeight p)
+known-from-the-program = full-length-weighs
+
+-- A case that can be read
+module _ (c : Case) (readable : readsBack c ≡ true) where
+  -- A legal run is one that the judge passes, put into the case as its steps, and no other.
+  pub legal-as-judged : (ks : List Step) (u : State)
+      → LegalRun (c .program) ks u
+      ↔ (judgeOf (withRun c (runWith ks)) ≡ judged (Legal (length ks)) u)
+  legal-as-judged = JudgedLaws.legal-as-judged c readable
+
+  -- After a legal run
+  module _ (ks : List Step) (u : State) (run : LegalRun (c .program) ks u) where
+    -- "After any legal run, while an instruction is unissued or an entry waits, some step is legal."
+    pub never-wedged :
+        Unfinished (c .program) u
+        → (k : Step) × (stepFault (c .program) k ≡ 0) × (ruleOf (c .program) u k ≡ 0)
+    never-wedged = EndLaws.never-wedged (c .program) (program-fits c readable) ks u run
+
+    -- "Every legal step lowers the work left, as your rules weigh it, by exactly one."
+    pub each-step-one : (k : Step)
+        → stepFault (c .program) k ≡ 0
+        → ruleOf (c .program) u k ≡ 0
+        → work (c .program) (nextOf (c .program) u k) + 1 ≡ work (c .program) u
+    each-step-one = EndLaws.each-step-one (c .program) (program-fits c readable) ks u run
+
+    -- "So all runs that cannot go on have one length, known from the program alone."
+    pub one-length : CannotGoOn (c .program) u → length ks ≡ fullLength (c .program)
+    one-length = EndLaws.one-length (c .program) (program-fits c readable) ks u run
+
+    -- And where a run has that length, it cannot go on; no run is longer; every run can be made that long.
+    pub full-length-ends : length ks ≡ fullLength (c .program) → CannotGoOn (c .program) u
+    full-length-ends = EndLaws.full-length-ends (c .program) (program-fits c readable) ks u run
+
+    pub none-longer : length ks ≤ fullLength (c .program)
+    none-longer = EndLaws.none-longer (c .program) (program-fits c readable) ks u run
+
+    pub every-run-ends : (ms : List Step) × (v : State)
+        × FinishedRun (c .program) (ks ++ ms) v
+        × (length (ks ++ ms) ≡ fullLength (c .program))
+    every-run-ends = EndLaws.every-run-ends (c .program) (program-fits c readable) ks u run
+
+  -- "At their end each location holds the last write, in program order, of one of the threads that write it, or
+  -- its first content if none does;" The word is the one that the instruction fixed as this run issued it.
+  pub end-of-run : (ks : List Step) (u : State)
+      → FinishedRun (c .program) ks u
+      → (l : ℕ) → l < c .program .locations
+      → ((t : ℕ) × (i : ℕ) × LastWrite (c .program) t l i × (wordOf u l ≡ fixedIn (c .program) ks t i))
+      ⊎ (Unwritten (c .program) l × (wordOf u l ≡ getD (c .program .first) l 0))
+  end-of-run = MemoryLaws.end-holds (c .program) (program-fits c readable)
+
+  -- "taking one location alone, any of those threads can be the one." In the run that `lastRun` writes out.
+  pub any-thread : (t l i : ℕ)
+      → LastWrite (c .program) t l i
+      → (u : State)
+      × FinishedRun (c .program) (lastRun (c .program) t) u
+      × (wordOf u l ≡ fixedIn (c .program) (lastRun (c .program) t) t i)
+  any-thread = AnyThreadLaws.thread-last (c .program) (program-fits c readable)
+
+  -- A location that one thread alone writes, its last write there being a store of a word or an exchange: every
+  -- run that cannot go on leaves that word, known from the program.
+  pub one-writer : (t l i : ℕ)
+      → LastWrite (c .program) t l i
+      → Alone (c .program) t l
+      → instructionAt (c .program) t i .operation ≢ 2
+      → (ks : List Step) (u : State)
+      → FinishedRun (c .program) ks u
+      → wordOf u l ≡ instructionAt (c .program) t i .word
+  one-writer = MemoryLaws.alone-holds (c .program) (program-fits c readable)
+
+  -- A location that no thread writes keeps its first content after every legal run.
+  pub no-writer : (l : ℕ) → l < c .program .locations
+      → Unwritten (c .program) l
+      → (ks : List Step) (u : State)
+      → LegalRun (c .program) ks u
+      → wordOf u l ≡ getD (c .program .first) l 0
+  no-writer = MemoryLaws.unwritten-keeps (c .program) (program-fits c readable)

@@ -1,0 +1,80 @@
+-- A legal run of a case is one that the judge passes, put into the case as its steps. Assumes nothing.
+use Prim.Native.Nat.{ℕ, _-_}
+use mathlib.Core.Path.{_≡_, refl, sym, ap, subst, _∙_}
+use mathlib.Core.Logic.{_↔_}
+use mathlib.Core.Bool.{Bool, true, false}
+use mathlib.Core.List.{List}
+use native.Mathlib.Omega.{arith}
+use lib.ListN.{length, replicate}
+use lib.Seq.{take-at}
+use Rattle.cases.specs.declared.case.Step.{Step}
+use Rattle.cases.specs.declared.case.Case.{Case}
+use Rattle.cases.specs.Sizes.{mostSteps}
+use Rattle.cases.specs.Draft.{noStep, runWith, withRun}
+use Rattle.cases.specs.Writing.{readsBack}
+use Rattle.cases.proofs.Promises.{other-run-reads-back}
+use Rattle.machine.specs.declared.cells.State.{State}
+use Rattle.machine.specs.declared.runs.Verdict.the-variants.{Legal}
+use Rattle.machine.specs.declared.runs.Judged.{Judged}
+use Rattle.machine.specs.Rules.{startOf}
+use Rattle.machine.specs.Judge.{Leads, Faultless, verdictNo, judged, runOf, stopped, judgeOf}
+use Rattle.machine.proofs.Promises.{program-fits, full-length-most, run-faultless, judge-legal}
+use Rattle.machine.proofs.Promises.{judge-legal-state, judge-unreadable, faultless-at}
+use Rattle.demands.specs.Runs.{LegalRun}
+use Rattle.demands.proofs.EndLaws.{none-longer}
+
+module _ (c : Case) (readable : readsBack c ≡ true) (ks : List Step) (u : State) where
+  abbrev rerun : Case
+  rerun = withRun c (runWith ks)
+
+  rerun-steps : runOf rerun ≡ ks
+  unfolding withRun runWith
+  rerun-steps = take-at ks (replicate (mostSteps - length ks) noStep) (length ks) refl
+
+  -- a legal run is short and faultless, so that the case with it reads
+  legal-readable : LegalRun (c .program) ks u → readsBack rerun ≡ true
+  legal-readable run =
+      let few = none-longer (c .program) (program-fits c readable) ks u run in
+      let most = full-length-most c readable in
+      other-run-reads-back c readable ks (omega arith) (faultless-at (c .program) ks (run .faultless))
+
+  legal-judged : LegalRun (c .program) ks u → judgeOf rerun ≡ judged (Legal (length ks)) u
+  unfolding judged withRun
+  legal-judged run =
+      let r = legal-readable run in
+      let leads : Leads (c .program) (startOf (c .program)) (runOf rerun) u
+      = subst (λ js. Leads (c .program) (startOf (c .program)) js u) (sym rerun-steps) (run .leads) in
+      let verdict
+      = judge-legal rerun r .1 (u, leads) ∙ ap (λ (js : List Step). Legal (length js)) rerun-steps in
+      let state = judge-legal-state rerun r u leads in
+      λ i. record { verdict = verdict i; state = state i }
+
+  -- where the judge passes it the case with it reads, and so it is faultless
+  judged-readable : judgeOf rerun .verdict ≡ Legal (length ks) → readsBack rerun ≡ true
+  unfolding stopped judged
+  judged-readable e = go (readsBack rerun) refl
+    where
+      go : (b : Bool) → readsBack rerun ≡ b → b ≡ true
+      go true h = refl
+      go false h =
+          let n : _≡_ {A = ℕ} 103 32
+          = ap verdictNo (sym e) ∙ ap (λ (j : Judged). verdictNo (j .verdict)) (judge-unreadable rerun h) in
+          absurd (omega arith)
+
+  judged-legal : judgeOf rerun ≡ judged (Legal (length ks)) u → LegalRun (c .program) ks u
+  unfolding judged withRun
+  judged-legal e =
+      let verdict : judgeOf rerun .verdict ≡ Legal (length ks) = ap (λ (j : Judged). j .verdict) e in
+      let r = judged-readable verdict in
+      let v = judge-legal rerun r .0
+      (verdict ∙ ap (λ (js : List Step). Legal (length js)) (sym rerun-steps)) in
+      let end : v .0 ≡ u
+      = sym (judge-legal-state rerun r (v .0) (v .1)) ∙ ap (λ (j : Judged). j .state) e in
+      record {
+        faultless = subst (Faultless (c .program)) rerun-steps (run-faultless rerun r);
+        leads = subst (λ js. Leads (c .program) (startOf (c .program)) js u) rerun-steps
+            (subst (Leads (c .program) (startOf (c .program)) (runOf rerun)) end (v .1));
+      }
+
+  pub legal-as-judged : LegalRun (c .program) ks u ↔ (judgeOf rerun ≡ judged (Legal (length ks)) u)
+  legal-as-judged = (legal-judged, judged-legal)

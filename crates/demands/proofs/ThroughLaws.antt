@@ -1,0 +1,199 @@
+-- Where nothing waits, what an issue leaves behind it goes through to the memory: every step is legal, and
+-- nothing waits behind it. Assumes nothing.
+use Prim.Native.Nat.{ℕ, suc, _≤_, _<_}
+use mathlib.Core.Path.{_≡_, refl, sym, ap, _∙_}
+use mathlib.Core.Logic.{_≢_}
+use mathlib.Core.List.{List, [], _∷_}
+use native.Mathlib.Omega.{arith}
+use native.Mathlib.Decide.{ℕ-discrete}
+use borrow.Author.Tests.{eq-eqb, ne-eqb}
+use lib.Dec.{eqb}
+use lib.ListN.{length, drop}
+use Rattle.cases.specs.declared.case.Location.{Location}
+use Rattle.cases.specs.declared.case.Register.{Register}
+use Rattle.cases.specs.declared.case.Step.{Step}
+use Rattle.cases.specs.declared.case.Program.{Program}
+use Rattle.cases.specs.Choice.{pick, both, either}
+use Rattle.cases.specs.Checks.{stepFault}
+use Rattle.cases.proofs.ChoiceLaws.{pick-true, pick-false}
+use Rattle.machine.specs.declared.cells.State.{State}
+use Rattle.machine.specs.declared.cells.Entry.{Entry}
+use Rattle.machine.specs.View.{Slot, writeSlot, markerSlot, without, queue, buffer, issuedOf}
+use Rattle.machine.specs.Rules.{isBarrier, entryOf, ruleOf, nextOf}
+use Rattle.machine.specs.Joins.{joins, exchanges, enters}
+use Rattle.machine.specs.Fit.{Fits}
+use Rattle.machine.specs.Judge.{Leads, Faultless}
+use Rattle.machine.specs.Next.{issueStep, moveStep, persistStep}
+use Rattle.machine.proofs.Promises.{step-fits, persist-legal, move-legal}
+use Rattle.machine.proofs.Effects.{move-issued, move-buffer, move-buffer-other, move-queue, persist-issued}
+use Rattle.machine.proofs.Effects.{persist-buffer, persist-queue, persist-queue-other}
+use Rattle.machine.proofs.OperationLaws.{each-operation, of}
+use Rattle.demands.specs.Carried.{carried}
+
+-- nothing waits in a buffer or a queue
+pub record Quiet (p : Program) (s : State) : Type 0 where
+  pub fit : Fits p s
+  pub buffers : (t : ℕ) → t < p .threads → buffer s t ≡ []
+  pub queues : (l : ℕ) → l < p .locations → queue s l ≡ []
+
+-- no buffer holds anything, and of the queues that of location m holds h and nothing else
+record Queued (p : Program) (s : State) (m : ℕ) (h : Slot) : Type 0 where
+  pub fit : Fits p s
+  pub buffers : (t : ℕ) → t < p .threads → buffer s t ≡ []
+  pub queues : (l : ℕ) → l < p .locations → queue s l ≡ pick (eqb m l) (h ∷ []) []
+
+-- the steps ks lead from s to where nothing waits, and issue nothing
+pub record Through (p : Program) (s : State) (ks : List Step) : Type 0 where
+  pub end : State
+  pub faultless : Faultless p ks
+  pub leads : Leads p s ks end
+  pub quiet : Quiet p end
+  pub issued : (t : ℕ) → issuedOf end t ≡ issuedOf s t
+
+through-none : (p : Program) (s : State) → Quiet p s → Through p s []
+unfolding Faultless Leads
+through-none p s q = record { end = s; faultless = tt; leads = refl; quiet = q; issued = λ t. refl }
+
+some-slot : (h : Slot) (q : List Slot) → (h ∷ q) ≢ []
+some-slot h q e = let k : _≡_ {A = ℕ} (suc (length q)) 0 = ap length e in absurd (omega arith)
+
+-- what is queued persists
+through-persist : (p : Program) (s : State) (m : ℕ) (h : Slot) → m < p .locations → Queued p s m h
+    → Through p s (persistStep m ∷ [])
+unfolding Faultless Leads
+through-persist p s m h low o =
+    record {
+      end = nextOf p s (persistStep m);
+      faultless = (legal .0, tt);
+      leads = (legal .1, refl);
+      quiet = record {
+        fit = step-fits p s (o .fit) (persistStep m) (legal .0) (legal .1);
+        buffers = λ t a. persist-buffer p s (o .fit) m low (legal .1) t ∙ o .buffers t a;
+        queues = λ l a. gone l a (ℕ-discrete l m);
+      };
+      issued = persist-issued p s (o .fit) m low (legal .1);
+    }
+  where
+    one : queue s m ≡ h ∷ []
+    one = o .queues m low ∙ pick-true _ _ _ (eq-eqb m m refl)
+
+    legal : (stepFault p (persistStep m) ≡ 0) × (ruleOf p s (persistStep m) ≡ 0)
+    legal = persist-legal p s (o .fit) m low (rw one (some-slot h []))
+
+    gone : (l : ℕ) → l < p .locations → Dec (l ≡ m) → queue (nextOf p s (persistStep m)) l ≡ []
+    gone l a (yes e) =
+        let q = persist-queue p s (o .fit) m low (legal .1) in
+        rw e (ap (drop 1) (sym (q .1) ∙ one))
+    gone l a (no e) =
+        let w = o .fit .program .few-locations in
+        persist-queue-other p s (o .fit) m low (legal .1) l (omega arith) e
+        ∙ o .queues l a ∙ pick-false _ _ _ (ne-eqb _ _ (λ z. e (sym z)))
+
+-- in thread t's buffer e waits and nothing else, and nothing anywhere else
+record Waits (p : Program) (s : State) (t : ℕ) (e : Entry) : Type 0 where
+  pub fit : Fits p s
+  pub here : buffer s t ≡ record { entry = e } ∷ []
+  pub others : (k : ℕ) → k < p .threads → k ≢ t → buffer s k ≡ []
+  pub queues : (l : ℕ) → l < p .locations → queue s l ≡ []
+
+-- it moves
+module _ (p : Program) (s : State) (t : ℕ) (low : t < p .threads) (e : Entry) (o : Waits p s t e) where
+  some-entry : buffer s t ≢ []
+  some-entry z =
+      let k : _≡_ {A = ℕ} 1 0 = ap length (sym (o .here) ∙ z) in
+      absurd (omega arith)
+
+  may-move : (stepFault p (moveStep t 0) ≡ 0) × (ruleOf p s (moveStep t 0) ≡ 0)
+  may-move = move-legal p s (o .fit) (o .queues) t low some-entry
+
+  abbrev moved : State
+  moved = nextOf p s (moveStep t 0)
+
+  moved-fits : Fits p moved
+  moved-fits = step-fits p s (o .fit) (moveStep t 0) (may-move .0) (may-move .1)
+
+  moved-buffers : (k : ℕ) → k < p .threads → buffer moved k ≡ []
+  moved-buffers k h = go (ℕ-discrete k t)
+    where
+      go : Dec (k ≡ t) → buffer moved k ≡ []
+      go (yes d) =
+          rw (d, move-buffer p s (o .fit) t 0 low (may-move .1), o .here) (unfold without in refl)
+      go (no d) =
+          let w = o .fit .program .few-threads in
+          move-buffer-other p s (o .fit) t 0 low (may-move .1) k (omega arith) d ∙ o .others k h d
+
+  moved-queue : (l : ℕ) → l < p .locations → queue moved l ≡ enters t l e
+  moved-queue l h =
+      let w = o .fit .program .few-locations in
+      rw (move-queue p s (o .fit) t 0 low (may-move .1) l (omega arith), o .queues l h, o .here) refl
+
+  through-move : (ks : List Step) → Through p moved ks → Through p s (moveStep t 0 ∷ ks)
+  unfolding Faultless Leads
+  through-move ks r =
+      record {
+        end = r .end;
+        faultless = (may-move .0, r .faultless);
+        leads = (may-move .1, r .leads);
+        quiet = r .quiet;
+        issued = λ k. r .issued k ∙ move-issued p s (o .fit) t 0 low (may-move .1) k;
+      }
+
+  -- and nothing comes of it, or one slot in the queue of location m, which persists
+  through-left : ((l : ℕ) → enters t l e ≡ []) → Through p s (moveStep t 0 ∷ [])
+  through-left none =
+      through-move [] (through-none p moved (record {
+        fit = moved-fits;
+        buffers = moved-buffers;
+        queues = λ l h. moved-queue l h ∙ none l;
+      }))
+
+  through-queued : (m : ℕ) (h : Slot) → m < p .locations → ((l : ℕ) → enters t l e ≡ pick (eqb m l) (h ∷ []) [])
+      → Through p s (moveStep t 0 ∷ persistStep m ∷ [])
+  through-queued m h there one =
+      through-move (persistStep m ∷ []) (through-persist p moved m h there (record {
+        fit = moved-fits;
+        buffers = moved-buffers;
+        queues = λ l a. moved-queue l a ∙ one l;
+      }))
+
+-- What stands behind an issue where nothing waited before, by the instruction's operation
+module _ (p : Program) (registers : List ℕ) (t : ℕ) (low : t < p .threads) (v : State) (fit : Fits p v)
+    (others : (k : ℕ) → k < p .threads → k ≢ t → buffer v k ≡ [])
+    (l : Location) (r : Register) (w : ℕ) (there : l .0 < p .locations) where
+  abbrev pub Behind : ℕ → Type 0
+  Behind op =
+      buffer v t ≡ joins registers t (of op l r w)
+      → ((k : ℕ) → k < p .locations → queue v k ≡ exchanges k (of op l r w))
+      → (ks : List Step) × (carried t (of op l r w) ≡ issueStep t ∷ ks) × Through p v ks
+
+  waits : (e : Entry) → buffer v t ≡ record { entry = e } ∷ [] → ((k : ℕ) → k < p .locations → queue v k ≡ [])
+      → Waits p v t e
+  waits e b q = record { fit = fit; here = b; others = others; queues = q }
+
+  empty : buffer v t ≡ [] → (k : ℕ) → k < p .threads → buffer v k ≡ []
+  empty b k h = go (ℕ-discrete k t)
+    where
+      go : Dec (k ≡ t) → buffer v k ≡ []
+      go (yes d) = rw d b
+      go (no d) = others k h d
+
+  quiet : buffer v t ≡ [] → ((k : ℕ) → k < p .locations → queue v k ≡ []) → Quiet p v
+  quiet b q = record { fit = fit; buffers = empty b; queues = q }
+
+  pub behind : (op : ℕ) → 1 ≤ op → op ≤ 8 → Behind op
+  unfolding carried joins exchanges enters isBarrier entryOf both either pick
+  behind =
+      each-operation Behind
+      (λ b q. (_, refl, through-queued p v t low _ (waits _ b q) (l .0) (writeSlot w) there (λ k. refl)))
+      (λ b q. (_, refl, through-queued p v t low _ (waits _ b q) (l .0) _ there (λ k. refl)))
+      (λ b q. ([], refl, through-none p v (quiet b q)))
+      (λ b q. (
+        _,
+        refl,
+        through-persist p v (l .0) (writeSlot w) there
+            (record { fit = fit; buffers = empty b; queues = q }),
+      ))
+      (λ b q. (_, refl, through-left p v t low _ (waits _ b q) (λ k. refl)))
+      (λ b q. (_, refl, through-queued p v t low _ (waits _ b q) (l .0) (markerSlot t) there (λ k. refl)))
+      (λ b q. (_, refl, through-left p v t low _ (waits _ b q) (λ k. refl)))
+      (λ b q. ([], refl, through-none p v (quiet b q)))

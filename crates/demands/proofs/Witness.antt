@@ -1,0 +1,160 @@
+-- What the theorems of the demands ask for can be met: a case, bytes and runs that do. Assumes nothing.
+use Prim.Native.Nat.{ℕ, zero, suc, _*_, _≤_, _<_}
+use mathlib.Core.Path.{_≡_, refl, ap}
+use mathlib.Core.Logic.{inl, _≢_}
+use mathlib.Core.Bool.{true, false}
+use mathlib.Core.List.{[], _∷_}
+use native.Mathlib.Omega.{arith}
+use lib.ListN.{length, replicate}
+use Rattle.cases.specs.declared.case.Case.{Case}
+use Rattle.cases.specs.declared.writer.Wrote.the-variants.{Stored, Untouched}
+use Rattle.cases.specs.declared.reader.Reading.{Reading}
+use Rattle.cases.specs.Choice.{pick, both, either, refuse}
+use Rattle.cases.specs.Bytes.{IsBytes, half, wordAt, halfBytes, wordBytes}
+use Rattle.cases.specs.Record.{payloadOf, headerIn, writeIn, instructionIn, stepIn, payloadBytes, recordBytes}
+use Rattle.cases.specs.Record.{recordOf, openNo, sizeOf}
+use Rattle.cases.specs.Checks.{misplaced, disordered, outside, beyond, leftOver, headerOut, usesRegister}
+use Rattle.cases.specs.Checks.{usesWord, instructionOut, instructionLeft, faultOf}
+use Rattle.cases.specs.Draft.{emptyCase, addOf, blankDraft, withInstruction, withProgram, withSizes}
+use Rattle.cases.specs.Reading.{numberOf, readFrom, readOf, endedOf, refusedOf}
+use Rattle.cases.specs.Places.{bytesAt, each, firstPlace, headerPlace, instructionPlace, passedPlace}
+use Rattle.cases.specs.Places.{placeBytes, placeOf, stepPlace, wantPlace, encodeOf}
+use Rattle.cases.specs.Writing.{sameAsk, sameCase, sameInstruction, sameList, sameProgram, sameRun, sameStep}
+use Rattle.cases.specs.Writing.{readsAs, readsBack, wroteOf}
+use Rattle.cases.proofs.Promises.{file-bytes, read-after-write}
+use Rattle.cases.proofs.ChoiceLaws.{true-not}
+use Rattle.machine.specs.declared.cells.State.{State}
+use Rattle.machine.specs.Rules.{countAt, instructionAt, persistRule, ruleIn, ruleOf, startOf}
+use Rattle.machine.specs.Fit.{anyFrom}
+use Rattle.machine.specs.Work.{fullLength, Unfinished}
+use Rattle.machine.specs.Judge.{Leads, Faultless, StopsAt}
+use Rattle.machine.specs.Next.{persistStep, Listed}
+use Rattle.machine.proofs.Promises.{program-fits, full-length-most}
+use Rattle.machine.proofs.Effects.{start-issued}
+use Rattle.search.specs.Walk.{here}
+use Rattle.search.specs.Question.{misses, missesAt, lacksAt, reachesIn, reaches, None, FirstThat, walkFrom}
+use Rattle.search.proofs.Promises.{walk-first}
+use Rattle.demands.specs.Example.{example, threadless}
+use Rattle.demands.specs.Runs.{LegalRun, FinishedRun}
+use Rattle.demands.specs.Writes.{isWrite, writes, LastWrite, Unwritten, Alone}
+use Rattle.demands.specs.Carried.{lastRun}
+use Rattle.demands.proofs.DemandThree.{any-thread}
+
+-- a case that can be read; its file, of bytes; one that cannot
+pub example-readable : readsBack example ≡ true
+unfolding example readsBack readsAs sameCase sameProgram sameAsk sameRun sameInstruction sameStep sameList
+    encodeOf each bytesAt placeBytes placeOf headerPlace firstPlace instructionPlace wantPlace passedPlace
+    stepPlace recordBytes payloadBytes halfBytes wordBytes readOf readFrom endedOf refusedOf openNo sizeOf
+    payloadOf half wordAt recordOf headerIn writeIn instructionIn stepIn faultOf misplaced disordered outside
+    beyond leftOver headerOut usesRegister usesWord instructionOut instructionLeft blankDraft emptyCase addOf
+    withProgram withSizes withInstruction pick both either refuse
+example-readable = refl
+
+pub example-bytes : IsBytes (encodeOf example) × (numberOf (readOf (encodeOf example) .answer) ≡ 0)
+example-bytes = (
+  file-bytes example example-readable,
+  ap (λ (r : Reading). numberOf (r .answer)) (read-after-write example example-readable),
+)
+
+pub threadless-unreadable : readsBack threadless ≡ false
+unfolding threadless readsBack readsAs encodeOf each bytesAt placeBytes placeOf headerPlace firstPlace
+    instructionPlace wantPlace passedPlace stepPlace recordBytes payloadBytes halfBytes wordBytes readOf
+    readFrom refusedOf openNo sizeOf payloadOf half wordAt recordOf headerIn faultOf misplaced outside headerOut
+    blankDraft emptyCase pick both either refuse
+threadless-unreadable = refl
+
+-- bytes that do not read: none at all
+pub nothing-unread : numberOf (readOf [] .answer) ≢ 0
+unfolding readOf readFrom endedOf refusedOf blankDraft pick
+nothing-unread e = absurd (omega arith)
+
+-- lent bytes with room for a run of the full length: 768, for any case
+pub room-enough : (c : Case) → readsBack c ≡ true → 8 * fullLength (c .program) ≤ 768
+room-enough c readable = let most = full-length-most c readable in omega arith
+
+-- a legal run, after which an instruction is unissued: the empty one
+pub example-legal : LegalRun (example .program) [] (startOf (example .program))
+unfolding Faultless Leads
+example-legal = record { faultless = tt; leads = refl }
+
+pub example-unfinished : Unfinished (example .program) (startOf (example .program))
+unfolding example Unfinished
+example-unfinished = inl (0, omega arith, (let none = start-issued (example .program) 0 in omega arith))
+
+-- last writes: of both threads to location 0, and of thread 0, which writes it alone, to location 1
+pub example-last : LastWrite (example .program) 0 0 0
+unfolding example writes isWrite both either
+example-last =
+    record { there = omega arith; writing = refl; last = others }
+  where
+    others : (j : ℕ) → 0 < j → j < 2 → writes (instructionAt (example .program) 0 j) 0 ≡ false
+    others zero h k = absurd (omega arith)
+    others (suc zero) h k = refl
+    others (suc (suc j)) h k = absurd (omega arith)
+
+pub example-other-last : LastWrite (example .program) 1 0 0
+unfolding example writes isWrite both either
+example-other-last =
+    record { there = omega arith; writing = refl; last = λ j h k. absurd (omega arith) }
+
+pub example-alone : LastWrite (example .program) 0 1 1 × Alone (example .program) 0 1
+    × (instructionAt (example .program) 0 1 .operation ≢ 2)
+unfolding example writes isWrite both either Alone
+example-alone = (
+  record { there = omega arith; writing = refl; last = λ j h k. absurd (omega arith) },
+  others,
+  (λ e. absurd (omega arith)),
+)
+  where
+    others : (k i : ℕ) → k ≢ 0 → i < countAt (example .program) k
+        → writes (instructionAt (example .program) k i) 1 ≡ false
+    others zero i n h = absurd (n refl)
+    others (suc zero) zero n h = refl
+    others (suc zero) (suc i) n h = absurd (omega arith)
+    others (suc (suc zero)) i n h = absurd (omega arith)
+    others (suc (suc (suc zero))) i n h = absurd (omega arith)
+    others (suc (suc (suc (suc k)))) i n h = absurd (omega arith)
+
+-- a location that no thread writes
+pub example-unwritten : Unwritten (example .program) 2
+unfolding example writes isWrite both either Unwritten
+example-unwritten zero zero h = refl
+example-unwritten zero (suc zero) h = refl
+example-unwritten zero (suc (suc i)) h = absurd (omega arith)
+example-unwritten (suc zero) zero h = refl
+example-unwritten (suc zero) (suc i) h = absurd (omega arith)
+example-unwritten (suc (suc zero)) i h = absurd (omega arith)
+example-unwritten (suc (suc (suc zero))) i h = absurd (omega arith)
+example-unwritten (suc (suc (suc (suc t)))) i h = absurd (omega arith)
+
+-- a run that cannot go on: the one in which thread 0 comes last
+pub example-finished : (u : State) × FinishedRun (example .program) (lastRun (example .program) 0) u
+example-finished = let r = any-thread example example-readable 0 0 0 example-last in (r .0, r .1)
+
+-- a run that stops: nothing is queued at the start, so that a persist is illegal there
+pub example-stops : StopsAt (example .program) (startOf (example .program)) (persistStep 0 ∷ []) 0
+    (startOf (example .program))
+unfolding Leads ruleOf ruleIn persistRule startOf pick refuse
+example-stops = record { within = omega arith; before = refl; broken = λ e. absurd (omega arith) }
+
+-- a question that is reached: the empty run does where nothing is asked for
+pub example-first :
+    FirstThat (reaches (example .ask)) (walkFrom (example .program)) [] (here (startOf (example .program)))
+unfolding example emptyCase reaches reachesIn anyFrom missesAt misses lacksAt startOf None Listed both either
+example-first =
+    let w = walk-first (example .program) (program-fits example example-readable) in
+    record { after = w .0; stands = w .1; passes = refl; none = λ v h. absurd h }
+
+-- lent bytes that are long enough for the file, and none
+pub example-length : length (encodeOf example) ≡ 44
+unfolding example emptyCase encodeOf each bytesAt placeBytes placeOf headerPlace firstPlace instructionPlace
+    wantPlace passedPlace stepPlace recordBytes payloadBytes halfBytes wordBytes pick
+example-length = refl
+
+pub example-stored : wroteOf example (replicate 100 0) ≡ Stored 44
+unfolding wroteOf pick
+example-stored = rw (true-not _ example-readable, example-length) refl
+
+pub example-untouched : wroteOf example [] ≡ Untouched 31
+unfolding wroteOf pick
+example-untouched = rw (true-not _ example-readable, example-length) refl

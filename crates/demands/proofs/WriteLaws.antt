@@ -1,0 +1,137 @@
+-- Location l's writes: the words in its queue, those that wait in a store buffer, and those that a thread has
+-- still to fix. Assumes nothing.
+use Prim.Native.Nat.{ℕ, zero, suc, _+_, _≤_, _<_}
+use mathlib.Core.Path.{_≡_, refl, sym, ap, _∙_}
+use mathlib.Core.Logic.{_⊎_, inl, inr}
+use mathlib.Core.Bool.{Bool, true, false}
+use mathlib.Core.List.{List, [], _∷_, _++_, append-nil, append-assoc}
+use native.Mathlib.Omega.{arith}
+use native.Mathlib.Numerals.{add-one}
+use borrow.Author.Tests.{ne-eqb}
+use lib.Dec.{eqb}
+use lib.ListN.{length}
+use Rattle.cases.specs.declared.case.Location.{Location}
+use Rattle.cases.specs.declared.case.Register.{Register}
+use Rattle.cases.specs.declared.case.Program.{Program}
+use Rattle.cases.specs.Choice.{pick, both, either}
+use Rattle.machine.specs.declared.cells.State.{State}
+use Rattle.machine.specs.declared.cells.Waiting.{Waiting}
+use Rattle.machine.specs.declared.cells.Entry.{Entry}
+use Rattle.machine.specs.declared.cells.Entry.the-variants.{Store, Flush, FlushOpt, Sfence}
+use Rattle.machine.specs.View.{Slot, without, writeSlot, markerSlot, registerIn}
+use Rattle.machine.specs.Rules.{instructionAt, entryAt, entryOf, isBarrier}
+use Rattle.machine.specs.Joins.{joins, exchanges, enters}
+use Rattle.machine.proofs.OperationLaws.{each-operation, of}
+use Rattle.demands.specs.Writes.{isWrite, writes, fixedBy}
+
+-- one word or none
+unfoldable pub onlyIf : Bool → ℕ → List ℕ
+onlyIf b w = pick b (w ∷ []) []
+
+unfoldable pub writesIn : List Slot → List ℕ
+writesIn [] = []
+writesIn (h ∷ q) = onlyIf (eqb (h .mark) 0) (h .word) ++ writesIn q
+
+unfoldable pub storeOf : ℕ → Entry → List ℕ
+storeOf l (Store x) = onlyIf (eqb (x .location .0) l) (x .word)
+storeOf l (Flush m) = []
+storeOf l (FlushOpt m) = []
+storeOf l Sfence = []
+
+unfoldable pub storesIn : ℕ → List Waiting → List ℕ
+storesIn l [] = []
+storesIn l (w ∷ b) = storeOf l (w .entry) ++ storesIn l b
+
+-- the n instructions of thread t from the i-th on, where instruction j fixes the word f j
+unfoldable pub fixesFrom : Program → ℕ → ℕ → (ℕ → ℕ) → ℕ → ℕ → List ℕ
+fixesFrom p t l f i zero = []
+fixesFrom p t l f i (suc n) = onlyIf (writes (instructionAt p t i) l) (f i) ++ fixesFrom p t l f (suc i) n
+
+-- one behind another
+pub writes-append : (q r : List Slot) → writesIn (q ++ r) ≡ writesIn q ++ writesIn r
+unfolding writesIn
+writes-append [] r = refl
+writes-append (h ∷ q) r =
+    rw (writes-append q r) (sym (append-assoc (onlyIf (eqb (h .mark) 0) (h .word)) (writesIn q) (writesIn r)))
+
+pub stores-append : (l : ℕ) (b c : List Waiting) → storesIn l (b ++ c) ≡ storesIn l b ++ storesIn l c
+unfolding storesIn
+stores-append l [] c = refl
+stores-append l (w ∷ b) c =
+    rw (stores-append l b c) (sym (append-assoc (storeOf l (w .entry)) (storesIn l b) (storesIn l c)))
+
+-- an entry taken out that is the first, or no store to l
+pub stores-without : (l : ℕ) (b : List Waiting) (i : ℕ) → i < length b
+    → (i ≡ 0) ⊎ (storeOf l (entryAt b i) ≡ [])
+    → storesIn l b ≡ storeOf l (entryAt b i) ++ storesIn l (without i b)
+unfolding storesIn without
+stores-without l [] i h o = absurd (omega arith)
+stores-without l (w ∷ b) zero h o = refl
+stores-without l (w ∷ b) (suc i) h (inl e) = absurd (omega arith)
+stores-without l (w ∷ b) (suc i) h (inr e) =
+    let r = stores-without l b i (omega arith) (inr e) in
+    rw (add-one, e) (ap (λ x. storeOf l (w .entry) ++ x) (rw (e, add-one) at r))
+
+-- words that are the same to the last
+pub fixes-same : (p : Program) (t l : ℕ) (f g : ℕ → ℕ) (i n : ℕ) → ((j : ℕ) → i ≤ j → f j ≡ g j)
+    → fixesFrom p t l f i n ≡ fixesFrom p t l g i n
+unfolding fixesFrom
+fixes-same p t l f g i zero h = refl
+fixes-same p t l f g i (suc n) h =
+    rw (h i (omega arith), fixes-same p t l f g (suc i) n (λ j k. h j (omega arith)))
+
+-- what an entry puts into the queue is the word it stored
+pub enters-writes : (t l : ℕ) (e : Entry) → writesIn (enters t l e) ≡ storeOf l e
+unfolding enters writesIn storeOf onlyIf pick
+enters-writes t l (Store x) = go (eqb (x .location .0) l)
+  where
+    go : (b : Bool) → writesIn (pick b (writeSlot (x .word) ∷ []) []) ≡ pick b (x .word ∷ []) []
+    go true = refl
+    go false = refl
+enters-writes t l (Flush m) = refl
+enters-writes t l (FlushOpt m) = go (eqb (m .0) l)
+  where
+    go : (b : Bool) → writesIn (pick b (markerSlot t ∷ []) []) ≡ []
+    go true = rw (ne-eqb (t + 1) 0 (λ z. omega arith)) refl
+    go false = refl
+enters-writes t l Sfence = refl
+
+-- What an instruction fixes goes into its thread's buffer or straight into the queue
+module _ (s : State) (t l : ℕ) (m : Location) (r : Register) (w : ℕ) where
+  abbrev Splits : ℕ → Type 0
+  Splits op = onlyIf (writes (of op m r w) l) (fixedBy s t (of op m r w))
+      ≡ storesIn l (joins (s .registers) t (of op m r w)) ++ writesIn (exchanges l (of op m r w))
+
+  stored : (v : ℕ) → onlyIf (eqb (m .0) l) v ≡ (onlyIf (eqb (m .0) l) v ++ []) ++ []
+  stored v = sym (append-nil (onlyIf (eqb (m .0) l) v ++ []) ∙ append-nil (onlyIf (eqb (m .0) l) v))
+
+  swapped : (b : Bool) → onlyIf b w ≡ writesIn (pick b (writeSlot w ∷ []) [])
+  unfolding writesIn onlyIf pick
+  swapped true = refl
+  swapped false = refl
+
+  pub splits : (op : ℕ) → 1 ≤ op → op ≤ 8 → Splits op
+  unfolding writes isWrite both either fixedBy joins isBarrier exchanges entryOf storesIn storeOf writesIn
+      onlyIf pick
+  splits =
+      each-operation Splits
+      (stored w)
+      (stored (registerIn (s .registers) t (r .0)))
+      refl
+      (swapped (eqb (m .0) l))
+      refl
+      refl
+      refl
+      refl
+
+  -- an exchange puts nothing into the buffer, every other instruction nothing into the queue
+  abbrev Apart : ℕ → Type 0
+  Apart op =
+      ((op ≡ 4) × (joins (s .registers) t (of op m r w) ≡ []))
+      ⊎ (exchanges l (of op m r w) ≡ [])
+
+  pub apart : (op : ℕ) → 1 ≤ op → op ≤ 8 → Apart op
+  unfolding joins isBarrier exchanges both either pick
+  apart =
+      each-operation Apart (inr refl) (inr refl) (inr refl) (inl (refl, refl)) (inr refl) (inr refl) (inr refl)
+      (inr refl)

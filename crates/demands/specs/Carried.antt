@@ -1,0 +1,41 @@
+-- Demand 3, "any of those threads can be the one": the run in which a thread comes last, written out. Every
+-- other thread in turn, then that one; each instruction is carried through, from its issue to the memory,
+-- before the next.
+--   carried t x           the steps that carry instruction x of thread t through
+--   carriedFrom p t i n   those of the n instructions of thread t from the i-th on
+--   carriedAll p t        those of all its instructions
+--   othersFrom p t u n    those of the n threads from u on, without t
+--   lastRun p t           the run in which thread t comes last
+-- Assumes nothing.
+use Prim.Native.Nat.{ℕ, zero, suc}
+use mathlib.Core.List.{List, [], _∷_, _++_}
+use lib.Dec.{eqb}
+use Rattle.cases.specs.declared.case.Instruction.{Instruction}
+use Rattle.cases.specs.declared.case.Step.{Step}
+use Rattle.cases.specs.declared.case.Program.{Program}
+use Rattle.cases.specs.Choice.{pick, either}
+use Rattle.machine.specs.Rules.{countAt, instructionAt}
+use Rattle.machine.specs.Next.{issueStep, moveStep, persistStep}
+
+-- 3 load, 8 mfence: the issue is all; 4 exchange: its write goes straight into the queue; 5 flush, 7 sfence:
+-- they leave the buffer and nothing comes of them; 1, 2 store and 6 flush-opt: through buffer and queue
+unfoldable pub carried : ℕ → Instruction → List Step
+carried t x =
+    pick (either (eqb (x .operation) 3) (eqb (x .operation) 8)) (issueStep t ∷ [])
+    (pick (eqb (x .operation) 4) (issueStep t ∷ persistStep (x .location .0) ∷ [])
+    (pick (either (eqb (x .operation) 5) (eqb (x .operation) 7)) (issueStep t ∷ moveStep t 0 ∷ [])
+    (issueStep t ∷ moveStep t 0 ∷ persistStep (x .location .0) ∷ [])))
+
+unfoldable pub carriedFrom : Program → ℕ → ℕ → ℕ → List Step
+carriedFrom p t i zero = []
+carriedFrom p t i (suc n) = carried t (instructionAt p t i) ++ carriedFrom p t (suc i) n
+
+unfoldable pub carriedAll : Program → ℕ → List Step
+carriedAll p t = carriedFrom p t 0 (countAt p t)
+
+unfoldable pub othersFrom : Program → ℕ → ℕ → ℕ → List Step
+othersFrom p t u zero = []
+othersFrom p t u (suc n) = pick (eqb u t) [] (carriedAll p u) ++ othersFrom p t (suc u) n
+
+unfoldable pub lastRun : Program → ℕ → List Step
+lastRun p t = othersFrom p t 0 (p .threads) ++ carriedAll p t

@@ -1,0 +1,47 @@
+-- A case that meets what the theorems ask for: two threads, three locations. Thread 0 stores 500 to location 0
+-- and then 1 to location 1, thread 1 stores 7 to location 0; nobody writes location 2. It asks for nothing and
+-- has no steps.
+--   example      the case
+--   threadless   a case in memory that no byte string reads as: it has no thread
+-- Assumes nothing.
+use Prim.Native.Nat.{ℕ, _-_}
+use mathlib.Core.List.{_∷_, _++_}
+use lib.ListN.{replicate}
+use Rattle.cases.specs.declared.case.Instruction.{Instruction}
+use Rattle.cases.specs.declared.case.Case.{Case}
+use Rattle.cases.specs.Sizes.{mostThreads, mostInstructions, mostLocations, mostCode}
+use Rattle.cases.specs.Draft.{noInstruction, emptyCase}
+
+abbrev pub storeWord : ℕ → ℕ → Instruction
+storeWord l w = record { operation = 1; location = record { 0 = l }; register = record { 0 = 0 }; word = w }
+
+unfoldable pub example : Case
+unfolding emptyCase
+example =
+    record {
+      program = record {
+        threads = 2;
+        locations = 3;
+        first = replicate mostLocations 0;
+        counts = 2 ∷ 1 ∷ replicate (mostThreads - 2) 0;
+        code = storeWord 0 500 ∷ storeWord 1 1 ∷ replicate (mostInstructions - 2) noInstruction
+            ++ storeWord 0 7 ∷ replicate (mostCode - mostInstructions - 1) noInstruction;
+      };
+      ask = emptyCase .ask;
+      run = emptyCase .run;
+    }
+
+unfoldable pub threadless : Case
+unfolding emptyCase
+threadless =
+    record {
+      program = record {
+        threads = 0;
+        locations = 1;
+        first = emptyCase .program .first;
+        counts = emptyCase .program .counts;
+        code = emptyCase .program .code;
+      };
+      ask = emptyCase .ask;
+      run = emptyCase .run;
+    }

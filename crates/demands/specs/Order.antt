@@ -1,0 +1,56 @@
+-- Demand 1's words: each check of a record by its number, for every kind of record; false where a kind has no
+-- such check. "Within a record the checks go in the order 1 (head), 2, 3, 1 (payload), 4, 5, 8, 6, 7, 9."
+--   outOf d r            5: something out of range
+--   leftOf r             8: a field not used that is not 0, or a 0 that says nothing
+--   unorderedOf d r      6: rising or not-falling order broken
+--   ninthOf d r          7: the ninth instruction of a thread
+--   ninetySeventhOf d r  9: the ninety-seventh step record
+-- Assumes nothing.
+use mathlib.Core.Bool.{Bool, false}
+use lib.Dec.{eqb, leb}
+use Rattle.cases.specs.declared.record.Record.the-variants.{Declare, First, Instruct, Want, Passed, Take}
+use Rattle.cases.specs.declared.record.Record.{Record}
+use Rattle.cases.specs.declared.draft.Draft.{Draft}
+use Rattle.cases.specs.Sizes.{mostInstructions, mostSteps}
+use Rattle.cases.specs.Checks.{disordered, headerOut, instructionOut, instructionLeft, passedOut, stepOut}
+use Rattle.cases.specs.Checks.{stepLeft, countOf}
+
+unfoldable pub outOf : Draft → Record → Bool
+outOf d (Declare h) = headerOut h
+outOf d (First w) = leb (d .case .program .locations) (w .location .0)
+outOf d (Instruct t x) = instructionOut (d .case .program) t x
+outOf d (Want w) = leb (d .case .program .locations) (w .location .0)
+outOf d (Passed t n) = passedOut (d .case .program) t n
+outOf d (Take k) = stepOut (d .case .program) k
+
+unfoldable pub leftOf : Record → Bool
+leftOf (Declare h) = false
+leftOf (First w) = eqb (w .word) 0
+leftOf (Instruct t x) = instructionLeft x
+leftOf (Want w) = false
+leftOf (Passed t n) = eqb n 0
+leftOf (Take k) = stepLeft k
+
+unfoldable pub unorderedOf : Draft → Record → Bool
+unorderedOf d (Declare h) = false
+unorderedOf d (First w) = disordered d 2 (w .location .0)
+unorderedOf d (Instruct t x) = disordered d 3 (t .0)
+unorderedOf d (Want w) = disordered d 4 (w .location .0)
+unorderedOf d (Passed t n) = disordered d 5 (t .0)
+unorderedOf d (Take k) = false
+
+unfoldable pub ninthOf : Draft → Record → Bool
+ninthOf d (Declare h) = false
+ninthOf d (First w) = false
+ninthOf d (Instruct t x) = leb mostInstructions (countOf (d .case .program) t)
+ninthOf d (Want w) = false
+ninthOf d (Passed t n) = false
+ninthOf d (Take k) = false
+
+unfoldable pub ninetySeventhOf : Draft → Record → Bool
+ninetySeventhOf d (Declare h) = false
+ninetySeventhOf d (First w) = false
+ninetySeventhOf d (Instruct t x) = false
+ninetySeventhOf d (Want w) = false
+ninetySeventhOf d (Passed t n) = false
+ninetySeventhOf d (Take k) = leb mostSteps (d .case .run .count)

@@ -1,0 +1,141 @@
+-- What an instruction does as it is issued, and an entry as it takes effect, to each part of the state: it adds
+-- to the end of a buffer or of a queue, and leaves the rest. Assumes nothing.
+use Prim.Native.Nat.{ℕ, _+_, _≤_, _<_}
+use mathlib.Core.Path.{_≡_, refl, sym}
+use mathlib.Core.Logic.{_≢_}
+use mathlib.Core.List.{List, [], _∷_, _++_, append-nil}
+use native.Mathlib.Omega.{arith}
+use native.Mathlib.Decide.{ℕ-discrete}
+use borrow.Author.Tests.{eq-eqb, ne-eqb}
+use lib.Dec.{eqb}
+use lib.ListN.{length, length-append}
+use Rattle.cases.specs.declared.case.Location.{Location}
+use Rattle.cases.specs.declared.case.Register.{Register}
+use Rattle.cases.specs.declared.case.Program.{Program}
+use Rattle.cases.specs.Choice.{pick, both, either}
+use Rattle.cases.specs.Sizes.{mostThreads, mostInstructions, mostLocations}
+use Rattle.machine.specs.declared.cells.State.{State}
+use Rattle.machine.specs.declared.cells.Waiting.{Waiting}
+use Rattle.machine.specs.declared.cells.Entry.{Entry}
+use Rattle.machine.specs.declared.cells.Entry.the-variants.{Store, Flush, FlushOpt, Sfence}
+use Rattle.machine.specs.Sizes.{room}
+use Rattle.machine.specs.View.{Slot, writeSlot, markerSlot, queue, queueLen, withQueue, buffer}
+use Rattle.machine.specs.View.{withBuffer, wordOf, withRegister, issuedOf}
+use Rattle.machine.specs.Rules.{enqueue, await, isBarrier, entryOf, loaded, exchanged, performed}
+use Rattle.machine.specs.Rules.{effectOf}
+use Rattle.machine.specs.Joins.{joins, exchanges, enters}
+use Rattle.machine.specs.Fit.{Named}
+use Rattle.machine.proofs.OperationLaws.{each-operation, of}
+use Rattle.machine.proofs.ViewLaws.{queue-length, queue-same, queue-other, buffer-length, buffer-same}
+use Rattle.machine.proofs.ViewLaws.{buffer-other}
+use Rattle.machine.proofs.KeepLaws.{queue-within, buffer-within}
+use Rattle.machine.proofs.SpareLaws.{Spare, register-spare}
+
+-- u is s with b at the end of thread t's buffer and q l at the end of each queue l; registers aside
+pub record Adds (s u : State) (t : ℕ) (b : List Waiting) (q : ℕ → List Slot) : Type 0 where
+  pub own : buffer u t ≡ buffer s t ++ b
+  pub others : (k : ℕ) → k < mostThreads → k ≢ t → buffer u k ≡ buffer s k
+  pub queues : (l : ℕ) → l < mostLocations → queue u l ≡ queue s l ++ q l
+  pub counts : (k : ℕ) → issuedOf u k ≡ issuedOf s k
+  pub words : (l : ℕ) → wordOf u l ≡ wordOf s l
+
+-- nothing; what is added to a state with a register put
+adds-none : (s : State) (t : ℕ) → Adds s s t [] (λ l. [])
+adds-none s t =
+    record {
+      own = sym (append-nil _);
+      others = λ k h e. refl;
+      queues = λ l h. sym (append-nil _);
+      counts = λ k. refl;
+      words = λ l. refl;
+    }
+
+adds-register : (s u : State) (t r w : ℕ) (b : List Waiting) (q : ℕ → List Slot)
+    → Adds (withRegister s t r w) u t b q
+    → Adds s u t b q
+unfolding withRegister
+adds-register s u t r w b q a =
+    record { own = a .own; others = a .others; queues = a .queues; counts = a .counts; words = a .words }
+
+-- one more in the buffer, or in a queue
+module _ (p : Program) (s : State) (t : ℕ) (o : Spare p s t) where
+  adds-await : t < p .threads → (e : Entry) → Adds s (await s t e) t (record { entry = e } ∷ []) (λ l. [])
+  unfolding await
+  adds-await low e =
+      let z = o .fit .program .few-threads in
+      let m : t < mostThreads = omega arith in
+      let n = buffer-within p s (o .fit) t m in
+      let h = buffer-length s (o .fit .sized) t m n in
+      let w = o .place in
+      let b : List Waiting = buffer s t ++ (record { entry = e } ∷ []) in
+      let k : length b ≤ mostInstructions = simp (length-append, h) (omega arith) in
+      record {
+        own = buffer-same s (o .fit .sized) t m n b k;
+        others = λ j a d. buffer-other s (o .fit .sized) t m n b k j d (buffer-within p s (o .fit) j a);
+        queues = λ l a. unfold withBuffer in sym (append-nil _);
+        counts = λ j. unfold withBuffer in refl;
+        words = λ l. unfold withBuffer in refl;
+      }
+
+  adds-enqueue : (l : ℕ) → l < p .locations → (h : Slot)
+      → Adds s (enqueue s l h) t [] (λ k. pick (eqb l k) (h ∷ []) [])
+  unfolding enqueue
+  adds-enqueue l low h =
+      record {
+        own = unfold withQueue in sym (append-nil _);
+        others = λ k a e. unfold withQueue in refl;
+        queues = λ k a. queues k a (ℕ-discrete k l);
+        counts = λ k. unfold withQueue in refl;
+        words = λ k. unfold withQueue in refl;
+      }
+    where
+      q : List Slot
+      q = queue s l ++ (h ∷ [])
+
+      in-range : l < mostLocations
+      in-range = let z = o .fit .program .few-locations in omega arith
+
+      within : queueLen s l ≤ room
+      within = queue-within p s (o .fit) l in-range
+
+      short : length q ≤ room
+      short =
+          let n = queue-length s (o .fit .sized) l in-range within in
+          let w = o .queues l in-range in
+          simp (length-append, n) (omega arith)
+
+      queues : (k : ℕ) → k < mostLocations → Dec (k ≡ l)
+          → queue (withQueue s l q) k ≡ queue s k ++ pick (eqb l k) (h ∷ []) []
+      queues k a (yes e) = unfold pick in
+          rw (e, eq-eqb l l refl) (queue-same s (o .fit .sized) l in-range within q short)
+      queues k a (no e) = unfold pick in
+          rw (ne-eqb l k (λ d. e (sym d)), append-nil)
+          (queue-other s (o .fit .sized) l in-range within q short k e (queue-within p s (o .fit) k a))
+
+-- an instruction that is counted already; an entry that is out of its buffer
+module _ (p : Program) (s : State) (t : ℕ) (o : Spare p s t) (low : t < p .threads) where
+  pub performed-adds : (l : Location) (r : Register) (w : ℕ) → l .0 < p .locations
+      → (op : ℕ) → 1 ≤ op → op ≤ 8
+      → Adds s (performed s t (of op l r w)) t (joins (s .registers) t (of op l r w))
+      (λ m. exchanges m (of op l r w))
+  unfolding performed pick both either isBarrier entryOf loaded exchanged joins exchanges
+  performed-adds l r w there =
+      each-operation
+      (λ op. Adds s (performed s t (of op l r w)) t (joins (s .registers) t (of op l r w))
+      (λ m. exchanges m (of op l r w)))
+      (adds-await p s t o low _)
+      (adds-await p s t o low _)
+      (adds-register s _ t _ _ _ _ (adds-none _ t))
+      (adds-register s _ t _ _ _ _
+      (adds-enqueue p _ t (register-spare p s t o _ _) (l .0) there (writeSlot w)))
+      (adds-await p s t o low _)
+      (adds-await p s t o low _)
+      (adds-await p s t o low _)
+      (adds-none s t)
+
+  pub effect-adds : (e : Entry) → Named (p .locations) e → Adds s (effectOf s t e) t [] (λ l. enters t l e)
+  unfolding effectOf Named enters
+  effect-adds (Store w) h = adds-enqueue p s t o (w .location .0) h (writeSlot (w .word))
+  effect-adds (Flush l) h = adds-none s t
+  effect-adds (FlushOpt l) h = adds-enqueue p s t o (l .0) h (markerSlot t)
+  effect-adds Sfence h = adds-none s t

@@ -1,0 +1,122 @@
+-- What each step does to each part of the state, registers aside, with buffers and queues seen as lists: beside
+-- Promises, all that the layers above may cite of the machine. Each law is stated in full. Assumes nothing.
+use Prim.Native.Nat.{ℕ, suc, _<_}
+use mathlib.Core.Path.{_≡_}
+use mathlib.Core.Logic.{_⊎_, _≢_}
+use mathlib.Core.List.{[], _∷_, _++_}
+use lib.ListN.{length, getD}
+use Rattle.cases.specs.declared.case.Location.{Location}
+use Rattle.cases.specs.declared.case.Step.{Step}
+use Rattle.cases.specs.declared.case.Program.{Program}
+use Rattle.cases.specs.Sizes.{mostThreads, mostLocations}
+use Rattle.cases.specs.Checks.{stepFault}
+use Rattle.machine.specs.declared.cells.State.{State}
+use Rattle.machine.specs.declared.cells.Entry.the-variants.{FlushOpt}
+use Rattle.machine.specs.View.{Slot, without, queue, buffer, wordOf, issuedOf}
+use Rattle.machine.specs.Look.{wordOr}
+use Rattle.machine.specs.Rules.{countAt, instructionAt, entryAt, ruleOf, nextOf, startOf}
+use Rattle.machine.specs.Joins.{joins, exchanges, enters}
+use Rattle.machine.specs.Fit.{Fits}
+use Rattle.machine.specs.Next.{issueStep, moveStep, persistStep}
+use Rattle.machine.proofs.RangeLaws as RangeLaws
+use Rattle.machine.proofs.StartLaws as StartLaws
+use Rattle.machine.proofs.EffectLaws as EffectLaws
+use Rattle.machine.proofs.PersistLaws as PersistLaws
+
+-- a step that 5 and 8 have nothing against is an issue, a move or a persist
+pub step-kinds : (p : Program) (k : Step) → stepFault p k ≡ 0
+    → ((t : ℕ) × (t < p .threads) × (k ≡ issueStep t))
+    ⊎ ((t : ℕ) × (i : ℕ) × (t < p .threads) × (k ≡ moveStep t i))
+    ⊎ ((l : ℕ) × (l < p .locations) × (k ≡ persistStep l))
+step-kinds = RangeLaws.step-kinds
+
+-- "a run starts from the first contents, nothing queued, waiting or issued"
+module _ (p : Program) where
+  pub start-buffer : (t : ℕ) → buffer (startOf p) t ≡ []
+  start-buffer = StartLaws.start-buffer p
+
+  pub start-queue : (l : ℕ) → queue (startOf p) l ≡ []
+  start-queue = StartLaws.start-queue p
+
+  pub start-issued : (t : ℕ) → issuedOf (startOf p) t ≡ 0
+  start-issued = StartLaws.start-issued p
+
+  pub start-word : (l : ℕ) → wordOf (startOf p) l ≡ getD (p .first) l 0
+  start-word = StartLaws.start-word p
+
+-- A state that fits its program
+module _ (p : Program) (s : State) (fit : Fits p s) where
+  -- what an issue does to each part
+  module _ (t : ℕ) (low : t < p .threads) (legal : ruleOf p s (issueStep t) ≡ 0) where
+    pub issue-left : issuedOf s t < countAt p t
+    issue-left = EffectLaws.issue-left p s fit t low legal
+
+    pub issue-issued : issuedOf (nextOf p s (issueStep t)) t ≡ suc (issuedOf s t)
+    issue-issued = EffectLaws.issue-issued p s fit t low legal
+
+    pub issue-issued-other : (k : ℕ) → k ≢ t → issuedOf (nextOf p s (issueStep t)) k ≡ issuedOf s k
+    issue-issued-other = EffectLaws.issue-issued-other p s fit t low legal
+
+    pub issue-buffer : buffer (nextOf p s (issueStep t)) t
+        ≡ buffer s t ++ joins (s .registers) t (instructionAt p t (issuedOf s t))
+    issue-buffer = EffectLaws.issue-buffer p s fit t low legal
+
+    pub issue-buffer-other : (k : ℕ) → k < mostThreads → k ≢ t
+        → buffer (nextOf p s (issueStep t)) k ≡ buffer s k
+    issue-buffer-other = EffectLaws.issue-buffer-other p s fit t low legal
+
+    pub issue-queue : (l : ℕ) → l < mostLocations
+        → queue (nextOf p s (issueStep t)) l ≡ queue s l ++ exchanges l (instructionAt p t (issuedOf s t))
+    issue-queue = EffectLaws.issue-queue p s fit t low legal
+
+    pub issue-word : (l : ℕ) → wordOf (nextOf p s (issueStep t)) l ≡ wordOf s l
+    issue-word = EffectLaws.issue-word p s fit t low legal
+
+    -- "Exchange and mfence need the own buffer empty (else 22)": of the exchange
+    pub exchange-alone : instructionAt p t (issuedOf s t) .operation ≡ 4 → buffer s t ≡ []
+    exchange-alone = EffectLaws.exchange-alone p s fit t low legal
+
+  -- what a move does to each part
+  module _ (t i : ℕ) (low : t < p .threads) (legal : ruleOf p s (moveStep t i) ≡ 0) where
+    pub move-within : i < length (buffer s t)
+    move-within = EffectLaws.move-within p s fit t i low legal
+
+    -- "Behind position 0 only a flush-opt may go (else 25)"
+    pub move-first-or : (i ≡ 0) ⊎ ((l : Location) × (entryAt (buffer s t) i ≡ FlushOpt l))
+    move-first-or = EffectLaws.move-first-or p s fit t i low legal
+
+    pub move-issued : (k : ℕ) → issuedOf (nextOf p s (moveStep t i)) k ≡ issuedOf s k
+    move-issued = EffectLaws.move-issued p s fit t i low legal
+
+    pub move-buffer : buffer (nextOf p s (moveStep t i)) t ≡ without i (buffer s t)
+    move-buffer = EffectLaws.move-buffer p s fit t i low legal
+
+    pub move-buffer-other : (k : ℕ) → k < mostThreads → k ≢ t
+        → buffer (nextOf p s (moveStep t i)) k ≡ buffer s k
+    move-buffer-other = EffectLaws.move-buffer-other p s fit t i low legal
+
+    pub move-queue : (l : ℕ) → l < mostLocations
+        → queue (nextOf p s (moveStep t i)) l ≡ queue s l ++ enters t l (entryAt (buffer s t) i)
+    move-queue = EffectLaws.move-queue p s fit t i low legal
+
+    pub move-word : (l : ℕ) → wordOf (nextOf p s (moveStep t i)) l ≡ wordOf s l
+    move-word = EffectLaws.move-word p s fit t i low legal
+
+  -- what a persist does to each part
+  module _ (l : ℕ) (low : l < p .locations) (legal : ruleOf p s (persistStep l) ≡ 0) where
+    pub persist-issued : (k : ℕ) → issuedOf (nextOf p s (persistStep l)) k ≡ issuedOf s k
+    persist-issued = PersistLaws.persist-issued p s fit l low legal
+
+    pub persist-buffer : (t : ℕ) → buffer (nextOf p s (persistStep l)) t ≡ buffer s t
+    persist-buffer = PersistLaws.persist-buffer p s fit l low legal
+
+    pub persist-queue : (h : Slot) × (queue s l ≡ h ∷ queue (nextOf p s (persistStep l)) l)
+        × (wordOf (nextOf p s (persistStep l)) l ≡ wordOr h (wordOf s l))
+    persist-queue = PersistLaws.persist-queue p s fit l low legal
+
+    pub persist-queue-other : (m : ℕ) → m < mostLocations → m ≢ l
+        → queue (nextOf p s (persistStep l)) m ≡ queue s m
+    persist-queue-other = PersistLaws.persist-queue-other p s fit l low legal
+
+    pub persist-word-other : (m : ℕ) → m ≢ l → wordOf (nextOf p s (persistStep l)) m ≡ wordOf s m
+    persist-word-other = PersistLaws.persist-word-other p s fit l low legal

@@ -1,0 +1,25 @@
+-- Operations are eight: what holds of each holds of all. Assumes nothing.
+use Prim.Native.Nat.{ℕ, zero, suc, _≤_}
+use native.Mathlib.Omega.{arith}
+use Rattle.cases.specs.declared.case.Location.{Location}
+use Rattle.cases.specs.declared.case.Register.{Register}
+use Rattle.cases.specs.declared.case.Instruction.{Instruction}
+
+-- an operation is one of eight
+pub each-operation {ℓ} : (P : ℕ → Type ℓ) → P 1 → P 2 → P 3 → P 4 → P 5 → P 6 → P 7 → P 8
+    → (op : ℕ) → 1 ≤ op → op ≤ 8 → P op
+each-operation P a b c d e f g i zero h k = absurd (omega arith)
+each-operation P a b c d e f g i (suc zero) h k = a
+each-operation P a b c d e f g i (suc (suc zero)) h k = b
+each-operation P a b c d e f g i (suc (suc (suc zero))) h k = c
+each-operation P a b c d e f g i (suc (suc (suc (suc zero)))) h k = d
+each-operation P a b c d e f g i (suc (suc (suc (suc (suc zero))))) h k = e
+each-operation P a b c d e f g i (suc (suc (suc (suc (suc (suc zero)))))) h k = f
+each-operation P a b c d e f g i (suc (suc (suc (suc (suc (suc (suc zero))))))) h k = g
+each-operation P a b c d e f g i (suc (suc (suc (suc (suc (suc (suc (suc zero)))))))) h k = i
+each-operation P a b c d e f g i (suc (suc (suc (suc (suc (suc (suc (suc (suc n))))))))) h k = absurd
+    (omega arith)
+
+-- an instruction of the operation op
+abbrev pub of : ℕ → Location → Register → ℕ → Instruction
+of op l r w = record { operation = op; location = l; register = r; word = w }
