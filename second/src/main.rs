@@ -14,6 +14,7 @@ mod reading;
 mod refusal;
 mod tally;
 mod trial;
+mod whole;
 mod writing;
 
 #[cfg(test)]
@@ -29,9 +30,10 @@ use std::process::ExitCode;
 use tally::Counts;
 use trial::counts::TrialCounts;
 use trial::frame::Trial;
+use whole::counts::WholeCounts;
 
 const USAGE: &str = "usage: second answer | second generate SEED COUNT | second counts, \
-                     or machine- or question- in front of the mode";
+                     or machine-, question- or whole- in front of the mode";
 
 type Stream = BufReader<StdinLock<'static>>;
 type Out = BufWriter<StdoutLock<'static>>;
@@ -43,7 +45,9 @@ fn main() -> ExitCode {
         ["answer"] => answer_all(Frame::read_from, |frame| answer::answer(frame).line()),
         ["counts"] => count(Frame::read_from, FrameCounts::new()),
         ["generate", seed, count] => generate(generate::frames, Frame::write_to, seed, count),
-        ["machine-answer"] => answer_all(Trial::read_from, |one| trial::answer::answer(one).line()),
+        ["machine-answer"] | ["whole-answer"] => {
+            answer_all(Trial::read_from, |one| trial::answer::answer(one).line())
+        }
         ["machine-counts"] => count(Trial::read_from, TrialCounts::new()),
         ["machine-generate", seed, count] => {
             generate(trial::generate::frames, Trial::write_to, seed, count)
@@ -57,6 +61,13 @@ fn main() -> ExitCode {
                 case.iter().try_for_each(|query| query.write_to(out))
             };
             generate(question::generate::cases, write, seed, count)
+        }
+        ["whole-counts"] => count(Trial::read_from, WholeCounts::new()),
+        ["whole-generate", seed, count] => {
+            let write = |program: &Vec<Trial>, out: &mut Out| {
+                program.iter().try_for_each(|one| one.write_to(out))
+            };
+            generate(whole::generate::programs, write, seed, count)
         }
         _ => Err(usage()),
     };

@@ -2,24 +2,26 @@
 
 pub struct Row {
     name: String,
-    count: u64,
+    count: u128,
     least: u64,
 }
 
-pub fn row(name: &str, count: u64, least: u64) -> Row {
+pub fn row(name: &str, count: impl Into<u128>, least: u64) -> Row {
     Row {
         name: name.to_string(),
-        count,
+        count: count.into(),
         least,
     }
 }
 
 fn table(rows: &[Row], frames: u64) -> String {
-    let mut table = format!("{:<34} {:>8} {:>8}\n", "frames", "count", "least");
+    let digits = rows.iter().map(|row| row.count.to_string().len()).max();
+    let width = digits.unwrap_or(0).max(8);
+    let mut table = format!("{:<34} {:>width$} {:>8}\n", "frames", "count", "least");
     for Row { name, count, least } in rows {
-        table += &format!("{name:<34} {count:>8} {least:>8}\n");
+        table += &format!("{name:<34} {count:>width$} {least:>8}\n");
     }
-    table + &format!("{:<34} {:>8}\n", "all frames", frames)
+    table + &format!("{:<34} {frames:>width$}\n", "all frames")
 }
 
 /// The counts of one stream's frames.
@@ -46,7 +48,7 @@ pub trait Counts<F> {
 
 /// What is said of each count that is too low.
 fn missing(rows: &[Row]) -> Vec<String> {
-    let few = rows.iter().filter(|row| row.count < row.least);
-    few.map(|Row { name, count, least }| format!("{name}: {count} frames, at least {least} wanted"))
+    let few = rows.iter().filter(|row| row.count < row.least.into());
+    few.map(|Row { name, count, least }| format!("{name}: {count}, at least {least} wanted"))
         .collect()
 }

@@ -4,6 +4,7 @@ mod machine;
 mod question;
 mod states;
 mod walk;
+mod whole;
 
 use crate::answer::answer;
 use crate::case::Case;

@@ -14,13 +14,14 @@ use Rattle.machine.specs.Judge.{Leads, Faultless}
 use Rattle.machine.proofs.Promises.{begin-fits}
 use Rattle.machine.proofs.Effects.{start-buffer, start-queue, start-issued}
 use Rattle.demands.specs.Runs.{FinishedRun}
-use Rattle.demands.specs.Writes.{fixedFrom, fixedIn, LastWrite}
+use Rattle.demands.specs.Writes.{fixedFrom, fixedIn, Writer, LastWrite}
 use Rattle.demands.specs.Carried.{carriedAll, othersFrom, lastRun}
 use Rattle.demands.proofs.LastLaws.{lastOr, Settles}
 use Rattle.demands.proofs.WriteLaws.{storesIn, fixesFrom}
 use Rattle.demands.proofs.PassLaws.{coming}
 use Rattle.demands.proofs.SettleLaws.{Done, newest, run-settles}
-use Rattle.demands.proofs.LastWriteLaws.{never-both, fixes-last, fixes-unwritten, last-one}
+use Rattle.demands.proofs.LastWriteLaws.{never-both, fixes-last, fixes-unwritten, writer-last}
+use Rattle.demands.proofs.LastWriteLaws.{last-one}
 use Rattle.demands.proofs.FixedLaws.{leads-append, faultless-append, fixed-behind}
 use Rattle.demands.proofs.EndLaws.{work-stuck, done-work}
 use Rattle.demands.proofs.MemoryLaws.{in-threads, unissued-coming, written-low}
@@ -107,7 +108,7 @@ module _ (p : Program) (fits : ProgramFits p) where
         go (inl x) = absurd (some (x .0 t (in-threads p fits t i (last .there))))
         go (inr x) = at (x .0) (x .1) (x .2) (x .3) (ℕ-discrete (x .0) t)
 
-    pub thread-last : (u : State)
+    thread-last : (u : State)
         × FinishedRun p (lastRun p t) u
         × (wordOf u l ≡ fixedIn p (lastRun p t) t i)
     unfolding lastRun fixedIn
@@ -127,3 +128,13 @@ module _ (p : Program) (fits : ProgramFits p) where
           ∙ sym (fixed-behind p (startOf p) (othersFrom p t 0 (p .threads)) middle (carriedAll p t) t i
           (begin-fits p fits) (first .1) (first .2) (let m = first .3 .mine in omega arith)),
     )
+
+  pub any-thread : (t l : ℕ) → Writer p t l
+      → (i : ℕ) × (u : State)
+      × LastWrite p t l i
+      × FinishedRun p (lastRun p t) u
+      × (wordOf u l ≡ fixedIn p (lastRun p t) t i)
+  any-thread t l w =
+      let last = writer-last p t l w in
+      let run = thread-last t l (last .0) (last .1) in
+      (last .0, run .0, last .1, run .1, run .2)

@@ -1,6 +1,6 @@
 -- An instruction carried through, and all of a thread's, one after the other: every step is legal, and nothing
 -- waits behind them. Assumes nothing.
-use Prim.Native.Nat.{ℕ, suc, _<_, zero, _+_}
+use Prim.Native.Nat.{ℕ, zero, suc, _+_, _<_}
 use mathlib.Core.Path.{_≡_, refl, _∙_}
 use mathlib.Core.Logic.{_≢_}
 use mathlib.Core.List.{List, [], _∷_, _++_}

@@ -22,7 +22,7 @@ use Rattle.machine.specs.Work.{work, Unfinished, fullLength, programWeight}
 use Rattle.machine.specs.Judge.{judged, judgeOf}
 use Rattle.machine.proofs.Promises.{program-fits, full-length-weighs}
 use Rattle.demands.specs.Runs.{LegalRun, CannotGoOn, FinishedRun}
-use Rattle.demands.specs.Writes.{fixedIn, LastWrite, Unwritten, Alone}
+use Rattle.demands.specs.Writes.{fixedIn, Writer, LastWrite, Unwritten, Alone}
 use Rattle.demands.specs.Carried.{lastRun}
 use Rattle.demands.proofs.EndLaws as EndLaws
 use Rattle.demands.proofs.JudgedLaws as JudgedLaws
@@ -83,12 +83,13 @@ module _ (c : Case) (readable : readsBack c ≡ true) where
   end-of-run = MemoryLaws.end-holds (c .program) (program-fits c readable)
 
   -- "taking one location alone, any of those threads can be the one." In the run that `lastRun` writes out.
-  pub any-thread : (t l i : ℕ)
-      → LastWrite (c .program) t l i
-      → (u : State)
+  pub any-thread : (t l : ℕ)
+      → Writer (c .program) t l
+      → (i : ℕ) × (u : State)
+      × LastWrite (c .program) t l i
       × FinishedRun (c .program) (lastRun (c .program) t) u
       × (wordOf u l ≡ fixedIn (c .program) (lastRun (c .program) t) t i)
-  any-thread = AnyThreadLaws.thread-last (c .program) (program-fits c readable)
+  any-thread = AnyThreadLaws.any-thread (c .program) (program-fits c readable)
 
   -- A location that one thread alone writes, its last write there being a store of a word or an exchange: every
   -- run that cannot go on leaves that word, known from the program.

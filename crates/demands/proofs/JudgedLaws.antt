@@ -14,8 +14,8 @@ use Rattle.cases.specs.Draft.{noStep, runWith, withRun}
 use Rattle.cases.specs.Writing.{readsBack}
 use Rattle.cases.proofs.Promises.{other-run-reads-back}
 use Rattle.machine.specs.declared.cells.State.{State}
-use Rattle.machine.specs.declared.runs.Verdict.the-variants.{Legal}
 use Rattle.machine.specs.declared.runs.Judged.{Judged}
+use Rattle.machine.specs.declared.runs.Verdict.the-variants.{Legal}
 use Rattle.machine.specs.Rules.{startOf}
 use Rattle.machine.specs.Judge.{Leads, Faultless, verdictNo, judged, runOf, stopped, judgeOf}
 use Rattle.machine.proofs.Promises.{program-fits, full-length-most, run-faultless, judge-legal}

@@ -9,7 +9,7 @@ use native.Mathlib.Nat.{eq-or-lt-of-le, eq-zero-or-pos}
 use Rattle.cases.specs.declared.case.Program.{Program}
 use Rattle.cases.specs.Choice.{pick}
 use Rattle.machine.specs.Rules.{countAt, instructionAt}
-use Rattle.demands.specs.Writes.{writes, LastWrite}
+use Rattle.demands.specs.Writes.{writes, Writer, LastWrite}
 use Rattle.demands.proofs.LastLaws.{lastOr, last-append, cons-some, append-some}
 use Rattle.demands.proofs.WriteLaws.{onlyIf, fixesFrom}
 
@@ -116,7 +116,16 @@ module _ (p : Program) where
       go (inl o) i h = o .none i (omega arith) (omega arith)
       go (inr o) i h = absurd (o .1 .something none)
 
-  -- a thread has one last write to a location
+  -- a thread that writes a location has a last write there, and one
+  pub writer-last : (t l : ℕ) → Writer p t l → (i : ℕ) × LastWrite p t l i
+  unfolding Writer
+  writer-last t l w = go (last-or-none p t l (λ i. 0) 0 (countAt p t))
+    where
+      go : NoneFrom p t l (λ i. 0) 0 (countAt p t) ⊎ ((j : ℕ) × LastFrom p t l (λ i. 0) 0 (countAt p t) j)
+          → (i : ℕ) × LastWrite p t l i
+      go (inl o) = let low = w .1 in absurd (never-both (w .2) (o .none (w .0) (omega arith) (omega arith)))
+      go (inr o) = (o .0, last-is t l (λ i. 0) (o .0) (o .1))
+
   pub last-one : (t l i j : ℕ) → LastWrite p t l i → LastWrite p t l j → i ≡ j
   last-one t l i j a b = go (eq-zero-or-pos (j - i)) (eq-zero-or-pos (i - j))
     where

@@ -7,8 +7,8 @@ use mathlib.Core.List.{[], _∷_}
 use native.Mathlib.Omega.{arith}
 use lib.ListN.{length, replicate}
 use Rattle.cases.specs.declared.case.Case.{Case}
-use Rattle.cases.specs.declared.writer.Wrote.the-variants.{Stored, Untouched}
 use Rattle.cases.specs.declared.reader.Reading.{Reading}
+use Rattle.cases.specs.declared.writer.Wrote.the-variants.{Stored, Untouched}
 use Rattle.cases.specs.Choice.{pick, both, either, refuse}
 use Rattle.cases.specs.Bytes.{IsBytes, half, wordAt, halfBytes, wordBytes}
 use Rattle.cases.specs.Record.{payloadOf, headerIn, writeIn, instructionIn, stepIn, payloadBytes, recordBytes}
@@ -36,7 +36,7 @@ use Rattle.search.specs.Question.{misses, missesAt, lacksAt, reachesIn, reaches
 use Rattle.search.proofs.Promises.{walk-first}
 use Rattle.demands.specs.Example.{example, threadless}
 use Rattle.demands.specs.Runs.{LegalRun, FinishedRun}
-use Rattle.demands.specs.Writes.{isWrite, writes, LastWrite, Unwritten, Alone}
+use Rattle.demands.specs.Writes.{isWrite, writes, Writer, LastWrite, Unwritten, Alone}
 use Rattle.demands.specs.Carried.{lastRun}
 use Rattle.demands.proofs.DemandThree.{any-thread}
 
@@ -80,6 +80,11 @@ example-legal = record { faultless = tt; leads = refl }
 pub example-unfinished : Unfinished (example .program) (startOf (example .program))
 unfolding example Unfinished
 example-unfinished = inl (0, omega arith, (let none = start-issued (example .program) 0 in omega arith))
+
+-- a thread that writes location 0
+pub example-writer : Writer (example .program) 0 0
+unfolding example writes isWrite both either Writer
+example-writer = (0, omega arith, refl)
 
 -- last writes: of both threads to location 0, and of thread 0, which writes it alone, to location 1
 pub example-last : LastWrite (example .program) 0 0 0
@@ -129,7 +134,7 @@ example-unwritten (suc (suc (suc (suc t)))) i h = absurd (omega arith)
 
 -- a run that cannot go on: the one in which thread 0 comes last
 pub example-finished : (u : State) × FinishedRun (example .program) (lastRun (example .program) 0) u
-example-finished = let r = any-thread example example-readable 0 0 0 example-last in (r .0, r .1)
+example-finished = let r = any-thread example example-readable 0 0 example-writer in (r .1, r .3)
 
 -- a run that stops: nothing is queued at the start, so that a persist is illegal there
 pub example-stops : StopsAt (example .program) (startOf (example .program)) (persistStep 0 ∷ []) 0

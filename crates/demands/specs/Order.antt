@@ -8,9 +8,9 @@
 -- Assumes nothing.
 use mathlib.Core.Bool.{Bool, false}
 use lib.Dec.{eqb, leb}
-use Rattle.cases.specs.declared.record.Record.the-variants.{Declare, First, Instruct, Want, Passed, Take}
-use Rattle.cases.specs.declared.record.Record.{Record}
 use Rattle.cases.specs.declared.draft.Draft.{Draft}
+use Rattle.cases.specs.declared.record.Record.{Record}
+use Rattle.cases.specs.declared.record.Record.the-variants.{Declare, First, Instruct, Want, Passed, Take}
 use Rattle.cases.specs.Sizes.{mostInstructions, mostSteps}
 use Rattle.cases.specs.Checks.{disordered, headerOut, instructionOut, instructionLeft, passedOut, stepOut}
 use Rattle.cases.specs.Checks.{stepLeft, countOf}

@@ -5,6 +5,7 @@
 --   issuesAt s k t i       the step k, taken in the state s, issues instruction i of thread t
 --   fixedFrom p s ks t i   the word that instruction i of thread t fixes in the run ks from the state s
 --   fixedIn p ks t i       the same from the start
+--   Writer p t l           thread t writes location l: one of its instructions does
 --   LastWrite p t l i      instruction i of thread t is its last, in program order, that writes location l
 --   Unwritten p l          no instruction of any thread writes location l
 --   Alone p t l            no instruction of another thread than t does
@@ -46,6 +47,9 @@ fixedFrom p s (k ∷ ks) t i =
 
 unfoldable pub fixedIn : Program → List Step → ℕ → ℕ → ℕ
 fixedIn p ks t i = fixedFrom p (startOf p) ks t i
+
+unfoldable pub Writer : Program → ℕ → ℕ → Type 0
+Writer p t l = (i : ℕ) × (i < countAt p t) × (writes (instructionAt p t i) l ≡ true)
 
 pub record LastWrite (p : Program) (t l i : ℕ) : Type 0 where
   pub there : i < countAt p t

@@ -38,3 +38,13 @@ pub fn all_steps(case: &Case) -> Vec<Step> {
     steps.extend((0..case.locations).map(persist));
     steps
 }
+
+/// A run as document 01 prints it, in one line.
+pub fn printed(run: &[Step]) -> String {
+    let one = |step: &Step| match step.code {
+        ISSUE => format!("I{}", step.thread),
+        MOVE => format!("M{}.{}", step.thread, step.position),
+        _ => format!("P{}", step.location),
+    };
+    run.iter().map(one).collect::<Vec<String>>().join(" ")
+}

@@ -19,7 +19,8 @@ pub fn full_length(case: &Case) -> Result<u32, u8> {
     Ok(sum(case, &State::start(case)))
 }
 
-fn sum(case: &Case, state: &State) -> u32 {
+/// The case is readable and the state fits it.
+pub fn sum(case: &Case, state: &State) -> u32 {
     let mut sum = 0;
     for (thread, buffer) in state.buffers.iter().enumerate() {
         sum += state

@@ -18,7 +18,7 @@ pub fn store(location: u8, word: u32) -> Instruction {
 }
 
 /// Of operations 2, 3, 5 and 6; those without a register have 0.
-fn at(operation: u8, location: u8, register: u8) -> Instruction {
+pub fn at(operation: u8, location: u8, register: u8) -> Instruction {
     Instruction::new(operation, location, register, 0)
 }
 
@@ -26,7 +26,7 @@ pub fn load(location: u8, register: u8) -> Instruction {
     at(3, location, register)
 }
 
-fn exchange(location: u8, register: u8, word: u32) -> Instruction {
+pub fn exchange(location: u8, register: u8, word: u32) -> Instruction {
     Instruction::new(4, location, register, word)
 }
 

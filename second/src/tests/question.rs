@@ -1,10 +1,9 @@
 //! The question: the rows of document 01 that ask one, the order of refusals, the lent bytes.
 
 use super::machine::{flush, flush_opt, program, store, MFENCE, SFENCE, X, Y};
-use super::walk::printed;
 use crate::case::{Case, Instruction};
 use crate::generate::valid::ROW;
-use crate::machine::steps::{issue, persist};
+use crate::machine::steps::{issue, persist, printed};
 use crate::machine::work::full_length;
 use crate::question::answer::answer;
 use crate::question::ask::{question, search, End};

@@ -6,20 +6,11 @@ use crate::fields::check_step;
 use crate::generate::random::Random;
 use crate::machine::judge::{judge, LEGAL};
 use crate::machine::state::State;
+use crate::machine::steps::printed;
 use crate::machine::work::full_length;
 use crate::question::ask::{search, End};
 use crate::question::walk::Walk;
 use crate::trial::generate::programs::{self, set_run, EVERY};
-
-/// A run as document 01 prints it.
-pub fn printed(run: &[Step]) -> String {
-    let one = |step: &Step| match step.code {
-        0 => format!("I{}", step.thread),
-        1 => format!("M{}.{}", step.thread, step.position),
-        _ => format!("P{}", step.location),
-    };
-    run.iter().map(one).collect::<Vec<String>>().join(" ")
-}
 
 fn walked(case: &Case) -> Vec<Vec<Step>> {
     let mut walk = Walk::new(case);

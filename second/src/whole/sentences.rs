@@ -1,0 +1,72 @@
+//! The sentences of demand 3 that speak of one state and its legal steps, one by one. Those that
+//! speak of the whole program are in `confirm`.
+
+use super::explore::Visit;
+use super::program::Program;
+
+pub struct Sentence {
+    pub name: &'static str,
+    pub broken: fn(&Program, &Visit) -> bool,
+}
+
+const fn sentence(name: &'static str, broken: fn(&Program, &Visit) -> bool) -> Sentence {
+    Sentence { name, broken }
+}
+
+pub const WEDGED: &str = "never wedged";
+pub const GOES_ON: &str = "nothing left, no step";
+pub const STEP: &str = "each step lowers the work left by one";
+pub const DEPTH: &str = "all runs to a state have one length";
+pub const LENGTH: &str = "a run that cannot go on has the full length";
+pub const LAST_WRITE: &str = "at the end a last write of a thread that writes there";
+pub const ONE_WRITER: &str = "one writer, whose last word is there at the end";
+pub const NO_WRITER: &str = "no writer, the first content in every state";
+
+pub const OF_STATES: [Sentence; 8] = [
+    sentence(WEDGED, |program, visit| {
+        visit.point.has_more(&program.case) && visit.is_end()
+    }),
+    sentence(GOES_ON, |program, visit| {
+        !visit.point.has_more(&program.case) && !visit.is_end()
+    }),
+    sentence(STEP, |_, visit| {
+        visit.edges.iter().any(|edge| edge.work + 1 != visit.work)
+    }),
+    sentence(DEPTH, |_, visit| {
+        let mut edges = visit.edges.iter();
+        edges.any(|edge| edge.depth != visit.depth + 1)
+    }),
+    sentence(LENGTH, |program, visit| {
+        visit.is_end() && visit.depth != program.full
+    }),
+    sentence(LAST_WRITE, |program, visit| {
+        visit.is_end() && locations(program).any(|at| !holds_last_write(program, visit, at))
+    }),
+    sentence(ONE_WRITER, |program, visit| {
+        let other = |at| match program.only_word(at) {
+            Some(word) => visit.point.state.words[at] != word,
+            None => false,
+        };
+        visit.is_end() && locations(program).any(other)
+    }),
+    sentence(NO_WRITER, |program, visit| {
+        let mut unwritten = locations(program).filter(|&at| program.writers[at].is_empty());
+        unwritten.any(|at| !holds_first(program, visit, at))
+    }),
+];
+
+fn locations(program: &Program) -> std::ops::Range<usize> {
+    0..program.writers.len()
+}
+
+fn holds_first(program: &Program, visit: &Visit, at: usize) -> bool {
+    visit.point.state.words[at] == program.case.first[at]
+}
+
+fn holds_last_write(program: &Program, visit: &Visit, at: usize) -> bool {
+    if program.writers[at].is_empty() {
+        holds_first(program, visit, at)
+    } else {
+        !visit.winners(program, at).is_empty()
+    }
+}
