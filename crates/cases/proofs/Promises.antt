@@ -10,18 +10,21 @@ use borrow.Author.Tests.{eqb-true, eq-eqb}
 use native.Mathlib.Omega.{arith}
 use Rattle.cases.specs.declared.case.Step.{Step}
 use Rattle.cases.specs.declared.case.Case.{Case}
+use Rattle.cases.specs.declared.draft.Draft.{Draft}
 use Rattle.cases.specs.declared.reader.Answer.the-variants.{Whole}
 use Rattle.cases.specs.declared.writer.Wrote.the-variants.{Stored, Untouched}
 use Rattle.cases.specs.Sizes.{mostSteps, longest, longestRecord}
 use Rattle.cases.specs.Choice.{both}
-use Rattle.cases.specs.Bytes.{IsBytes}
-use Rattle.cases.specs.Checks.{stepFault}
-use Rattle.cases.specs.Draft.{noStep, emptyCase, runWith, withRun, blankDraft}
-use Rattle.cases.specs.Reading.{numberOf, offsetOf, readFrom, readOf, unreadOf}
+use Rattle.cases.specs.Bytes.{IsBytes, half}
+use Rattle.cases.specs.Record.{recordOf, openNo, sizeOf}
+use Rattle.cases.specs.Checks.{stepFault, faultOf}
+use Rattle.cases.specs.Draft.{noStep, emptyCase, runWith, withRun, blankDraft, addOf}
+use Rattle.cases.specs.Reading.{numberOf, offsetOf, refusedOf, readFrom, readOf, unreadOf}
 use Rattle.cases.specs.Places.{encodeOf, stepsBytes}
 use Rattle.cases.specs.Ranges.{Ranged}
 use Rattle.cases.specs.Writing.{readsAs, readsBack, wroteOf, writtenOf}
 use Rattle.cases.proofs.ChoiceLaws.{both-true}
+use Rattle.cases.proofs.ReadLaws as ReadLaws
 use Rattle.cases.proofs.RoundTrip.{read-all}
 use Rattle.cases.proofs.PrefixLaws.{read-prefix, fuel-same}
 use Rattle.cases.proofs.BytewiseLaws.{sound-bytes}
@@ -70,6 +73,23 @@ module _ (s : List ℕ) where
   pub fuel-never-decides : (n : ℕ) → length s < n → readFrom n blankDraft 0 s ≡ readOf s
   unfolding readOf
   fuel-never-decides n h = fuel-same (suc (length s)) n blankDraft 0 s (omega arith) h
+
+-- "Records are checked from the left; the first faulty one decides." s is what is left to read, `at` its offset,
+-- d what was read before it
+module _ (n : ℕ) (d : Draft) (at : ℕ) (s : List ℕ) (some : length s ≢ 0) where
+  pub unopened-decides : openNo s ≢ 0 → readFrom (suc n) d at s ≡ refusedOf (openNo s) at
+  unopened-decides = ReadLaws.unopened-decides n d at s some
+
+  pub faulty-decides : openNo s ≡ 0
+      → faultOf d (recordOf (half s 2) s) ≢ 0
+      → readFrom (suc n) d at s ≡ refusedOf (faultOf d (recordOf (half s 2) s)) at
+  faulty-decides = ReadLaws.faulty-decides n d at s some
+
+  pub sound-goes-on : openNo s ≡ 0
+      → faultOf d (recordOf (half s 2) s) ≡ 0
+      → readFrom (suc n) d at s
+      ≡ readFrom n (addOf d (recordOf (half s 2) s)) (at + sizeOf s) (drop (sizeOf s) s)
+  sound-goes-on = ReadLaws.sound-goes-on n d at s some
 
 -- "A case written and read back is the same case, and the same bytes."
 -- any bytes that read give, written, the same bytes

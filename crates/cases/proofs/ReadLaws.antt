@@ -65,6 +65,35 @@ read-cases P n d at t ended bad fault next = go (length t) (openNo t) (faultOf d
     go (suc l) zero (suc m) p q r = fault m (λ z. omega arith) q r
     go (suc l) zero zero p q r = next (λ z. omega arith) q r
 
+-- the first faulty record decides; behind a sound one reading goes on
+module _ (n : ℕ) (d : Draft) (at : ℕ) (t : List ℕ) (some : length t ≢ 0) where
+  pub unopened-decides : openNo t ≢ 0 → readFrom (suc n) d at t ≡ refusedOf (openNo t) at
+  unopened-decides bad =
+      read-cases (λ (y : Reading). y ≡ refusedOf (openNo t) at) n d at t
+      (λ e. absurd (some e))
+      (λ m h o. ap (λ k. refusedOf k at) (sym o))
+      (λ m h o f. absurd (bad o))
+      (λ h o f. absurd (bad o))
+
+  module _ (opens : openNo t ≡ 0) where
+    pub faulty-decides : faultOf d (recordIn t) ≢ 0
+        → readFrom (suc n) d at t ≡ refusedOf (faultOf d (recordIn t)) at
+    faulty-decides bad =
+        read-cases (λ (y : Reading). y ≡ refusedOf (faultOf d (recordIn t)) at) n d at t
+        (λ e. absurd (some e))
+        (λ m h o. absurd (let z = opens in omega arith))
+        (λ m h o f. ap (λ k. refusedOf k at) (sym f))
+        (λ h o f. absurd (bad f))
+
+    pub sound-goes-on : faultOf d (recordIn t) ≡ 0
+        → readFrom (suc n) d at t ≡ readFrom n (addOf d (recordIn t)) (at + sizeOf t) (behind t)
+    sound-goes-on sound =
+        read-cases (λ (y : Reading). y ≡ readFrom n (addOf d (recordIn t)) (at + sizeOf t) (behind t)) n d at t
+        (λ e. absurd (some e))
+        (λ m h o. absurd (let z = opens in omega arith))
+        (λ m h o f. absurd (let z = sound in omega arith))
+        (λ h o f. refl)
+
 -- openedAs, back from what the code has: the record, or the number
 opened-as : (k : ℕ) (q r : Record) → Opens r ≡ openedAs k q → (k ≡ 0) × (r ≡ q)
 unfolding openedAs

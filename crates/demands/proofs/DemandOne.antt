@@ -1,34 +1,38 @@
 -- Demand 1, sentence by sentence. What a function answers is a definition's value, so that each input has one
 -- answer (the contracts: docs/SIGNATURES.md); here is what these values are. Assumes nothing.
-use Prim.Native.Nat.{ℕ, _-_, _≤_}
+use Prim.Native.Nat.{ℕ, suc, _+_, _-_, _*_, _≤_}
 use mathlib.Core.Path.{_≡_, refl}
 use mathlib.Core.Logic.{_⊎_, _≢_, _↔_}
 use mathlib.Core.Bool.{true, false, not}
 use mathlib.Core.List.{List}
-use lib.ListN.{length}
+use lib.ListN.{length, drop}
 use lib.Dec.{eqb, ltb}
 use Rattle.cases.specs.declared.case.Step.{Step}
 use Rattle.cases.specs.declared.case.Case.{Case}
 use Rattle.cases.specs.declared.draft.Draft.{Draft}
 use Rattle.cases.specs.declared.record.Record.{Record}
 use Rattle.cases.specs.declared.record.Record.the-variants.{Declare, First, Instruct, Want, Passed, Take}
-use Rattle.cases.specs.declared.writer.Wrote.the-variants.{Untouched}
-use Rattle.cases.specs.Choice.{refuse}
+use Rattle.cases.specs.declared.writer.Wrote.the-variants.{Stored, Untouched}
+use Rattle.cases.specs.Choice.{pick, refuse}
 use Rattle.cases.specs.Bytes.{IsBytes, half}
-use Rattle.cases.specs.Record.{kindOf, payloadOf, openNo}
-use Rattle.cases.specs.Checks.{misplaced, faultOf}
-use Rattle.cases.specs.Reading.{numberOf, offsetOf, readOf}
+use Rattle.cases.specs.Record.{kindOf, payloadOf, recordOf, openNo, sizeOf}
+use Rattle.cases.specs.Checks.{misplaced, stepFault, faultOf}
+use Rattle.cases.specs.Draft.{addOf}
+use Rattle.cases.specs.Reading.{numberOf, offsetOf, refusedOf, readFrom, readOf}
+use Rattle.cases.specs.Places.{encodeOf}
 use Rattle.cases.specs.Writing.{readsBack, wroteOf, writtenOf}
 use Rattle.cases.proofs.Promises as Cases
 use Rattle.cases.proofs.ChoiceLaws.{pick-true, false-not}
 use Rattle.machine.specs.declared.cells.State.{State}
-use Rattle.machine.specs.declared.steps.Ruling.the-variants.{Declined}
+use Rattle.machine.specs.declared.steps.Ruling.the-variants.{Allowed, Broken, Declined}
 use Rattle.machine.specs.declared.work.Weighed.the-variants.{Unweighed}
-use Rattle.machine.specs.Work.{workOf, fullOf}
-use Rattle.machine.specs.Judge.{verdictNo, rulingNo, told, stepOf, stopped, judgeOf, judgeBytes}
+use Rattle.machine.specs.Rules.{ruleOf, nextOf}
+use Rattle.machine.specs.Fit.{misfits}
+use Rattle.machine.specs.Work.{fullLength, workOf, fullOf}
+use Rattle.machine.specs.Judge.{verdictNo, rulingNo, told, steppedOf, stepOf, stopped, judgeOf, judgeBytes}
 use Rattle.machine.proofs.Promises as Machine
 use Rattle.search.specs.declared.ask.Outcome.the-variants.{Refused}
-use Rattle.search.specs.Question.{outcomeNo, questionOf, shownOf}
+use Rattle.search.specs.Question.{askOf, outcomeNo, toldOf, questionOf, shownOf}
 use Rattle.search.proofs.Promises as Search
 use Rattle.demands.specs.Order.{outOf, leftOf, unorderedOf, ninthOf, ninetySeventhOf}
 use Rattle.demands.proofs.TableLaws as TableLaws
@@ -55,7 +59,24 @@ module _ (s : List ℕ) (bytes : IsBytes s) where
       × (questionOf s room b ≡ Refused (numberOf (readOf s .answer)) (offsetOf (readOf s .answer)))
   refused-as-read unread room b = (Machine.judge-refused s unread, TableLaws.question-refused s unread room b)
 
--- "in the stated order of checks,": a record opens, 1 (head), 2, 3, 1 (payload)
+-- "in the stated order of checks,": records from the left, and the first faulty one decides, at its own offset.
+-- s is what is left to read, `at` its offset, d what was read before it
+module _ (n : ℕ) (d : Draft) (at : ℕ) (s : List ℕ) (some : length s ≢ 0) where
+  pub faulty-opening-decides : openNo s ≢ 0 → readFrom (suc n) d at s ≡ refusedOf (openNo s) at
+  faulty-opening-decides = Cases.unopened-decides n d at s some
+
+  pub faulty-record-decides : openNo s ≡ 0
+      → faultOf d (recordOf (half s 2) s) ≢ 0
+      → readFrom (suc n) d at s ≡ refusedOf (faultOf d (recordOf (half s 2) s)) at
+  faulty-record-decides = Cases.faulty-decides n d at s some
+
+  pub sound-record-passes : openNo s ≡ 0
+      → faultOf d (recordOf (half s 2) s) ≡ 0
+      → readFrom (suc n) d at s
+      ≡ readFrom n (addOf d (recordOf (half s 2) s)) (at + sizeOf s) (drop (sizeOf s) s)
+  sound-record-passes = Cases.sound-goes-on n d at s some
+
+-- a record opens, 1 (head), 2, 3, 1 (payload)
 pub order-of-opening : (s : List ℕ)
     → openNo s
     ≡ refuse (ltb (length s) 4) 1
@@ -83,6 +104,33 @@ order-of-checks d (Instruct t x) = refl
 order-of-checks d (Want w) = refl
 order-of-checks d (Passed t n) = refl
 order-of-checks d (Take k) = refl
+
+-- the writer tests 32, then 31; the question reading, then 31; a single step 32, 33, 5 and 8, then the rules
+pub order-of-writing : (c : Case) (out : List ℕ)
+    → wroteOf c out
+    ≡ pick (not (readsBack c)) (Untouched 32)
+    (pick (ltb (length out) (length (encodeOf c))) (Untouched 31)
+    (Stored (length (encodeOf c))))
+unfolding wroteOf
+order-of-writing c out = refl
+
+pub order-of-asking : (s : List ℕ) (room b : ℕ)
+    → questionOf s room b
+    ≡ pick (not (eqb (numberOf (readOf s .answer)) 0))
+    (Refused (numberOf (readOf s .answer)) (offsetOf (readOf s .answer)))
+    (pick (ltb room (8 * fullLength (readOf s .case .program))) (Refused 31 0)
+    (toldOf (askOf (readOf s .case .program) (readOf s .case .ask) b)))
+order-of-asking = TableLaws.asking-order
+
+pub order-of-stepping : (c : Case) (s : State) (k : Step)
+    → stepOf c s k
+    ≡ pick (not (readsBack c)) (told (Declined 32) s)
+    (pick (misfits (c .program) s) (told (Declined 33) s)
+    (pick (not (eqb (stepFault (c .program) k) 0)) (told (Declined (stepFault (c .program) k)) s)
+    (pick (not (eqb (ruleOf (c .program) s k) 0)) (told (Broken (ruleOf (c .program) s k)) s)
+    (told Allowed (nextOf (c .program) s k)))))
+unfolding stepOf steppedOf
+order-of-stepping c s k = refl
 
 -- "and a refusal changes no byte we lent." The reader and the judge are lent bytes to look at only. The writer,
 -- the question, and a single step, which gives back the state:

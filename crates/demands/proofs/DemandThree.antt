@@ -16,7 +16,7 @@ use Rattle.cases.specs.Writing.{readsBack}
 use Rattle.machine.specs.declared.cells.State.{State}
 use Rattle.machine.specs.declared.runs.Verdict.the-variants.{Legal}
 use Rattle.machine.specs.View.{wordOf}
-use Rattle.machine.specs.Rules.{instructionAt, ruleOf, nextOf}
+use Rattle.machine.specs.Rules.{countAt, instructionAt, ruleOf, nextOf}
 use Rattle.machine.specs.Fit.{sumTo}
 use Rattle.machine.specs.Work.{work, Unfinished, fullLength, programWeight}
 use Rattle.machine.specs.Judge.{judged, judgeOf}
@@ -61,6 +61,10 @@ module _ (c : Case) (readable : readsBack c ≡ true) where
     pub one-length : CannotGoOn (c .program) u → length ks ≡ fullLength (c .program)
     one-length = EndLaws.one-length (c .program) (program-fits c readable) ks u run
 
+    -- Where it cannot go on, every instruction is issued and no entry waits.
+    pub nothing-left : CannotGoOn (c .program) u → Unfinished (c .program) u → ⊥
+    nothing-left = EndLaws.nothing-left (c .program) (program-fits c readable) ks u run
+
     -- And where a run has that length, it cannot go on; no run is longer; every run can be made that long.
     pub full-length-ends : length ks ≡ fullLength (c .program) → CannotGoOn (c .program) u
     full-length-ends = EndLaws.full-length-ends (c .program) (program-fits c readable) ks u run
@@ -81,6 +85,14 @@ module _ (c : Case) (readable : readsBack c ≡ true) where
       → ((t : ℕ) × (i : ℕ) × LastWrite (c .program) t l i × (wordOf u l ≡ fixedIn (c .program) ks t i))
       ⊎ (Unwritten (c .program) l × (wordOf u l ≡ getD (c .program .first) l 0))
   end-of-run = MemoryLaws.end-holds (c .program) (program-fits c readable)
+
+  -- Of a store of a word or an exchange that is the word that stands in the program.
+  pub word-of-the-program : (ks : List Step) (u : State)
+      → FinishedRun (c .program) ks u
+      → (t i : ℕ) → i < countAt (c .program) t
+      → instructionAt (c .program) t i .operation ≢ 2
+      → fixedIn (c .program) ks t i ≡ instructionAt (c .program) t i .word
+  word-of-the-program = MemoryLaws.own-word (c .program) (program-fits c readable)
 
   -- "taking one location alone, any of those threads can be the one." In the run that `lastRun` writes out.
   pub any-thread : (t l : ℕ)

@@ -96,6 +96,9 @@ module _ (p : Program) (fits : ProgramFits p) (ks : List Step) (u : State) (run 
       let z = stuck-work p u run-fits stuck in
       omega arith
 
+  pub nothing-left : CannotGoOn p u → Unfinished p u → ⊥
+  nothing-left = stuck-not p u run-fits
+
   pub full-length-ends : length ks ≡ fullLength p → CannotGoOn p u
   full-length-ends e = let w = run-work in work-stuck p u run-fits (omega arith)
 

@@ -14,8 +14,8 @@ use Rattle.cases.proofs.ChoiceLaws.{both-true}
 use Rattle.machine.specs.declared.cells.State.{State}
 use Rattle.machine.specs.View.{queue, buffer, wordOf, issuedOf}
 use Rattle.machine.specs.Rules.{countAt, instructionAt, startOf}
-use Rattle.machine.specs.Fit.{ProgramFits, Fits}
-use Rattle.machine.proofs.Promises.{begin-fits, leads-fits}
+use Rattle.machine.specs.Fit.{ProgramFits}
+use Rattle.machine.proofs.Promises.{begin-fits}
 use Rattle.machine.proofs.Effects.{start-buffer, start-queue, start-issued, start-word}
 use Rattle.demands.specs.Runs.{LegalRun, FinishedRun}
 use Rattle.demands.specs.Writes.{writes, fixedFrom, fixedIn, LastWrite, Unwritten, Alone}
@@ -26,7 +26,7 @@ use Rattle.demands.proofs.SettleLaws.{newest, run-settles, run-keeps}
 use Rattle.demands.proofs.LastWriteLaws.{NoneFrom, LastFrom, last-or-none, never-both, fixes-last}
 use Rattle.demands.proofs.LastWriteLaws.{fixes-unwritten, last-one}
 use Rattle.demands.proofs.FixedLaws.{fixed-word}
-use Rattle.demands.proofs.EndLaws.{stuck-done}
+use Rattle.demands.proofs.EndLaws.{stuck-done, run-fits}
 
 module _ (p : Program) (fits : ProgramFits p) where
   pub in-threads : (t i : ℕ) → i < countAt p t → t < p .threads
@@ -52,14 +52,10 @@ module _ (p : Program) (fits : ProgramFits p) where
 
   -- At the end of a run that cannot go on
   module _ (ks : List Step) (u : State) (run : FinishedRun p ks u) (l : ℕ) (low : l < p .locations) where
-    end-fits : Fits p u
-    end-fits =
-        leads-fits p (startOf p) (begin-fits p fits) ks u (run .legal .faultless) (run .legal .leads)
-
     end-settles : Settles (p .threads) (coming p (startOf p) ks l) (newest (startOf p) l) (wordOf u l)
     end-settles =
         run-settles p l low (startOf p) ks u (begin-fits p fits) (run .legal .faultless) (run .legal .leads)
-        (stuck-done p u end-fits (run .over))
+        (stuck-done p u (run-fits p fits ks u (run .legal)) (run .over))
 
     pub end-holds :
         ((t : ℕ) × (i : ℕ) × LastWrite p t l i × (wordOf u l ≡ fixedIn p ks t i))
@@ -82,6 +78,16 @@ module _ (p : Program) (fits : ProgramFits p) where
             let w = fixes-last p (x .0) l (fixedFrom p (startOf p) ks (x .0)) (rw e at (x .2)) in
             inl (x .0, w .0, w .1, x .3 ∙ ap (λ (y : List ℕ). lastOr y 0) e ∙ w .2)
 
+  -- a store of a word and an exchange fix the word that the program has
+  pub own-word : (ks : List Step) (u : State) → FinishedRun p ks u → (t i : ℕ) → i < countAt p t
+      → instructionAt p t i .operation ≢ 2
+      → fixedIn p ks t i ≡ instructionAt p t i .word
+  unfolding fixedIn
+  own-word ks u run t i there word =
+      let d = stuck-done p u (run-fits p fits ks u (run .legal)) (run .over) .issued t (in-threads t i there) in
+      fixed-word p (startOf p) ks u t i (begin-fits p fits) (run .legal .faultless) (run .legal .leads)
+      (let z = start-issued p t in omega arith) (omega arith) word
+
   pub written-low : (t l i : ℕ) → LastWrite p t l i → l < p .locations
   unfolding writes
   written-low t l i o =
@@ -92,27 +98,19 @@ module _ (p : Program) (fits : ProgramFits p) where
   -- A location that one thread alone writes, and whose last write there has its word in the program
   pub alone-holds : (t l i : ℕ) → LastWrite p t l i → Alone p t l → instructionAt p t i .operation ≢ 2
       → (ks : List Step) (u : State) → FinishedRun p ks u → wordOf u l ≡ instructionAt p t i .word
-  unfolding Alone Unwritten fixedIn
+  unfolding Alone Unwritten
   alone-holds t l i last alone word ks u run = go (end-holds ks u run l (written-low t l i last))
     where
-      all-issued : i < issuedOf u t
-      all-issued =
-          let d = stuck-done p u (end-fits ks u run l (written-low t l i last)) (run .over) .issued t
-          (in-threads t i (last .there)) in
-          let h = last .there in
-          omega arith
-
-      own : (k j : ℕ) → LastWrite p k l j → wordOf u l ≡ fixedFrom p (startOf p) ks k j → Dec (k ≡ t)
+      own : (k j : ℕ) → LastWrite p k l j → wordOf u l ≡ fixedIn p ks k j → Dec (k ≡ t)
           → wordOf u l ≡ instructionAt p t i .word
       own k j o e (no d) = absurd (never-both (o .writing) (alone k j d (o .there)))
       own k j o e (yes d) =
           e
-          ∙ ap (λ (m : ℕ). fixedFrom p (startOf p) ks m j) d
-          ∙ ap (fixedFrom p (startOf p) ks t) (last-one p t l j i (subst (λ m. LastWrite p m l j) d o) last)
-          ∙ fixed-word p (startOf p) ks u t i (begin-fits p fits) (run .legal .faultless) (run .legal .leads)
-          (let z = start-issued p t in omega arith) all-issued word
+          ∙ ap (λ (m : ℕ). fixedIn p ks m j) d
+          ∙ ap (fixedIn p ks t) (last-one p t l j i (subst (λ m. LastWrite p m l j) d o) last)
+          ∙ own-word ks u run t i (last .there) word
 
-      go : ((k : ℕ) × (j : ℕ) × LastWrite p k l j × (wordOf u l ≡ fixedFrom p (startOf p) ks k j))
+      go : ((k : ℕ) × (j : ℕ) × LastWrite p k l j × (wordOf u l ≡ fixedIn p ks k j))
           ⊎ (((k j : ℕ) → j < countAt p k → writes (instructionAt p k j) l ≡ false)
           × (wordOf u l ≡ getD (p .first) l 0))
           → wordOf u l ≡ instructionAt p t i .word

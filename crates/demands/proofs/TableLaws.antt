@@ -1,15 +1,17 @@
 -- The numbers that the judge and the question can answer. Assumes nothing.
-use Prim.Native.Nat.{ℕ, _≤_, _<_}
+use Prim.Native.Nat.{ℕ, _-_, _*_, _≤_, _<_}
 use mathlib.Core.Path.{_≡_, refl, sym, ap, subst, _∙_}
 use mathlib.Core.Logic.{_⊎_, inl, inr, _≢_}
-use mathlib.Core.Bool.{true}
+use mathlib.Core.Bool.{Bool, true, false, not}
 use mathlib.Core.List.{List}
 use native.Mathlib.Omega.{arith}
 use native.Mathlib.Nat.{eq-zero-or-pos}
 use borrow.Author.Tests.{eqb-false, ne-eqb}
+use lib.Dec.{eqb, ltb}
 use lib.ListN.{getD}
 use Rattle.cases.specs.declared.case.Step.{Step}
 use Rattle.cases.specs.declared.case.Case.{Case}
+use Rattle.cases.specs.Choice.{pick}
 use Rattle.cases.specs.Bytes.{IsBytes}
 use Rattle.cases.specs.Draft.{noStep}
 use Rattle.cases.specs.Reading.{numberOf, offsetOf, readOf}
@@ -19,13 +21,14 @@ use Rattle.cases.proofs.ChoiceLaws.{pick-false, pick-cases}
 use Rattle.machine.specs.declared.cells.State.{State}
 use Rattle.machine.specs.declared.runs.Judged.{Judged}
 use Rattle.machine.specs.Rules.{ruleOf, startOf}
+use Rattle.machine.specs.Work.{fullLength}
 use Rattle.machine.specs.Judge.{Leads, StopsAt, verdictNo, judged, runOf, stopped, judgeOf, judgeBytes}
 use Rattle.machine.proofs.Promises.{judge-legal, judge-illegal, legal-or-not, judge-refused, judge-read}
 use Rattle.machine.proofs.Promises.{rule-in-table}
 use Rattle.search.specs.declared.ask.Outcome.{Outcome}
 use Rattle.search.specs.declared.ask.Outcome.the-variants.{Refused}
-use Rattle.search.specs.Question.{Decided, reached, unreachable, undecided, toldOf, outcomeNo, answerOf}
-use Rattle.search.specs.Question.{questionOf}
+use Rattle.search.specs.Question.{Decided, reached, unreachable, undecided, toldOf, outcomeNo, askOf, short}
+use Rattle.search.specs.Question.{answerOf, questionOf}
 
 -- a verdict's number: 103, 21 to 29, or 1 to 9
 unfoldable Told : ℕ → Type 0
@@ -99,3 +102,16 @@ pub question-refused : (s : List ℕ) → numberOf (readOf s .answer) ≢ 0 → 
     → questionOf s room b ≡ Refused (numberOf (readOf s .answer)) (offsetOf (readOf s .answer))
 unfolding questionOf
 question-refused s h room b = pick-false _ _ _ (ne-eqb _ _ h)
+
+pub asking-order : (s : List ℕ) (room b : ℕ)
+    → questionOf s room b
+    ≡ pick (not (eqb (numberOf (readOf s .answer)) 0))
+    (Refused (numberOf (readOf s .answer)) (offsetOf (readOf s .answer)))
+    (pick (ltb room (8 * fullLength (readOf s .case .program))) (Refused 31 0)
+    (toldOf (askOf (readOf s .case .program) (readOf s .case .ask) b)))
+unfolding questionOf answerOf short pick
+asking-order s room b = swapped (eqb (numberOf (readOf s .answer)) 0) _ _
+  where
+    swapped : (t : Bool) (x y : Outcome) → pick t x y ≡ pick (not t) y x
+    swapped true x y = refl
+    swapped false x y = refl
