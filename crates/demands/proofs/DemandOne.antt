@@ -54,10 +54,10 @@ module _ (s : List ℕ) (bytes : IsBytes s) where
   asked-or-refused = TableLaws.question-table s
 
   -- both tell the reader's number and offset where reading refuses
-  pub refused-as-read : numberOf (readOf s .answer) ≢ 0 → (room b : ℕ)
+  pub refused-as-read : numberOf (readOf s .answer) ≢ 0 → (b : ℕ) (out : List ℕ)
       → (judgeBytes s ≡ stopped (numberOf (readOf s .answer)) (offsetOf (readOf s .answer)))
-      × (questionOf s room b ≡ Refused (numberOf (readOf s .answer)) (offsetOf (readOf s .answer)))
-  refused-as-read unread room b = (Machine.judge-refused s unread, TableLaws.question-refused s unread room b)
+      × (questionOf s (length out) b ≡ Refused (numberOf (readOf s .answer)) (offsetOf (readOf s .answer)))
+  refused-as-read unread b out = (Machine.judge-refused s unread, Search.question-unread s b out unread)
 
 -- "in the stated order of checks,": records from the left, and the first faulty one decides, at its own offset.
 -- s is what is left to read, `at` its offset, d what was read before it

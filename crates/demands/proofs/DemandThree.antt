@@ -1,5 +1,6 @@
 -- Demand 3, sentence by sentence: "No program of ours can wedge the machine." A program of ours is that of a
--- case that can be read; a run is legal where the judge passes it. Assumes nothing.
+-- case that can be read (one that some bytes read as: `readable-exactly`, DemandOne); a run is legal where the
+-- judge passes it. Assumes nothing.
 use Prim.Native.Nat.{ℕ, _+_, _≤_, _<_}
 use mathlib.Core.Path.{_≡_}
 use mathlib.Core.Logic.{_⊎_, _≢_, _↔_}

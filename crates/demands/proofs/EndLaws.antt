@@ -1,6 +1,6 @@
 -- A legal run goes on while there is something to do, and ends where there is nothing. Assumes nothing.
 use Prim.Native.Nat.{ℕ, zero, suc, _+_, _-_, _≤_, _<_}
-use mathlib.Core.Path.{_≡_, refl, ap}
+use mathlib.Core.Path.{_≡_, refl}
 use mathlib.Core.Logic.{_⊎_, inl, inr, _≢_}
 use mathlib.Core.List.{List, [], _∷_, _++_}
 use native.Mathlib.Omega.{arith}
@@ -18,14 +18,14 @@ use Rattle.machine.specs.Judge.{Leads, Faultless}
 use Rattle.machine.proofs.Promises.{begin-fits, step-fits, step-work, leads-fits, leads-work, progress}
 use Rattle.machine.proofs.Promises.{work-some}
 use Rattle.demands.specs.Runs.{LegalRun, CannotGoOn, FinishedRun}
+use Rattle.demands.proofs.LastLaws.{cons-some}
 use Rattle.demands.proofs.SettleLaws.{Done}
 use Rattle.demands.proofs.FixedLaws.{leads-append, faultless-append}
 
 -- is a list empty?
 empty-or : {A : Type 0} (xs : List A) → (xs ≡ []) ⊎ (xs ≢ [])
 empty-or [] = inl refl
-empty-or (x ∷ xs) =
-    inr (λ e. let k : _≡_ {A = ℕ} (suc (length xs)) 0 = ap length e in absurd (omega arith))
+empty-or (x ∷ xs) = inr (cons-some x xs)
 
 module _ (p : Program) (u : State) (f : Fits p u) where
   pub work-stuck : work p u ≡ 0 → CannotGoOn p u

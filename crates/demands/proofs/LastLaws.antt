@@ -23,7 +23,7 @@ unfolding lastOr
 last-some [] v w h = absurd (h refl)
 last-some (x ∷ xs) v w h = refl
 
-pub cons-some : (x : ℕ) (xs : List ℕ) → (x ∷ xs) ≢ []
+pub cons-some : {A : Type 0} (x : A) (xs : List A) → (x ∷ xs) ≢ []
 cons-some x xs e = let k : _≡_ {A = ℕ} (suc (length xs)) 0 = ap length e in absurd (omega arith)
 
 pub append-some : (xs ys : List ℕ) → ys ≢ [] → (xs ++ ys) ≢ []

@@ -1,11 +1,11 @@
--- The user's demands, one page each, sentence by sentence. Behind them, for this crate alone, the laws that no
--- layer has.
+-- The user's demands, one page each, sentence by sentence
 pub mod DemandOne
 pub mod DemandTwo
 pub mod DemandThree
+-- That what they ask for can be met, and that the wrong implementations which document 01 names do not meet them
 pub mod Witness
 pub mod ShutOut
--- numbers that are answered, and what the question says
+-- For these pages alone, the laws that no layer has: numbers that are answered, and what the question says
 mod TableLaws
 mod AskedLaws
 -- a location's writes, from thread to queue to memory

@@ -12,6 +12,7 @@ use Rattle.cases.specs.declared.case.Program.{Program}
 use Rattle.cases.specs.declared.case.Ask.{Ask}
 use Rattle.cases.specs.declared.case.Case.{Case}
 use Rattle.cases.specs.declared.reader.Reading.{Reading}
+use Rattle.cases.specs.Sizes.{mostSteps}
 use Rattle.cases.specs.Choice.{pick, refuse}
 use Rattle.cases.specs.Bytes.{IsBytes, half}
 use Rattle.cases.specs.Record.{payloadOf, openNo}
@@ -50,16 +51,16 @@ not-all-passed e =
     (λ i. record { verdict = e i; state = told .state }) in
     example-stops .broken (run .leads .0)
 
--- 768 lent bytes
+-- lent bytes with room for any run
 abbrev lent : List ℕ
-lent = replicate 768 0
+lent = replicate (8 * mostSteps) 0
 
 -- "a question that always says undecided": here it says reached
-pub not-always-undecided : questionOf (encodeOf example) 768 1 ≡ Reached 0
+pub not-always-undecided : questionOf (encodeOf example) (8 * mostSteps) 1 ≡ Reached 0
 not-always-undecided =
     let is : readOf (encodeOf example) .case ≡ example
     = ap (λ (r : Reading). r .case) (read-after-write example example-readable) in
-    let many : length lent ≡ 768 = length-replicate {A = ℕ} 768 0 in
+    let many : length lent ≡ 8 * mostSteps = length-replicate {A = ℕ} (8 * mostSteps) 0 in
     let room : 8 * fullLength (readOf (encodeOf example) .case .program) ≤ length lent
     = rw (is, many) (room-enough example example-readable) in
     let first : FirstThat (reaches (readOf (encodeOf example) .case .ask))

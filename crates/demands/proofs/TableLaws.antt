@@ -6,7 +6,7 @@ use mathlib.Core.Bool.{Bool, true, false, not}
 use mathlib.Core.List.{List}
 use native.Mathlib.Omega.{arith}
 use native.Mathlib.Nat.{eq-zero-or-pos}
-use borrow.Author.Tests.{eqb-false, ne-eqb}
+use borrow.Author.Tests.{eqb-false}
 use lib.Dec.{eqb, ltb}
 use lib.ListN.{getD}
 use Rattle.cases.specs.declared.case.Step.{Step}
@@ -17,7 +17,7 @@ use Rattle.cases.specs.Draft.{noStep}
 use Rattle.cases.specs.Reading.{numberOf, offsetOf, readOf}
 use Rattle.cases.specs.Writing.{readsBack}
 use Rattle.cases.proofs.Promises.{number-in-table, read-reads-back}
-use Rattle.cases.proofs.ChoiceLaws.{pick-false, pick-cases}
+use Rattle.cases.proofs.ChoiceLaws.{pick-cases}
 use Rattle.machine.specs.declared.cells.State.{State}
 use Rattle.machine.specs.declared.runs.Judged.{Judged}
 use Rattle.machine.specs.Rules.{ruleOf, startOf}
@@ -97,11 +97,6 @@ question-table s room b =
     pick-cases Answered _ _ _
     (λ e. pick-cases Answered _ _ _ (λ k. inr (inl refl)) (λ k. decided-table _))
     (λ e. inr (inr (refused-table s (eqb-false _ _ e))))
-
-pub question-refused : (s : List ℕ) → numberOf (readOf s .answer) ≢ 0 → (room b : ℕ)
-    → questionOf s room b ≡ Refused (numberOf (readOf s .answer)) (offsetOf (readOf s .answer))
-unfolding questionOf
-question-refused s h room b = pick-false _ _ _ (ne-eqb _ _ h)
 
 pub asking-order : (s : List ℕ) (room b : ℕ)
     → questionOf s room b

@@ -1,6 +1,6 @@
 -- Where nothing waits, what an issue leaves behind it goes through to the memory: every step is legal, and
 -- nothing waits behind it. Assumes nothing.
-use Prim.Native.Nat.{ℕ, suc, _≤_, _<_}
+use Prim.Native.Nat.{ℕ, _≤_, _<_}
 use mathlib.Core.Path.{_≡_, refl, sym, ap, _∙_}
 use mathlib.Core.Logic.{_≢_}
 use mathlib.Core.List.{List, [], _∷_}
@@ -8,7 +8,7 @@ use native.Mathlib.Omega.{arith}
 use native.Mathlib.Decide.{ℕ-discrete}
 use borrow.Author.Tests.{eq-eqb, ne-eqb}
 use lib.Dec.{eqb}
-use lib.ListN.{length, drop}
+use lib.ListN.{drop}
 use Rattle.cases.specs.declared.case.Location.{Location}
 use Rattle.cases.specs.declared.case.Register.{Register}
 use Rattle.cases.specs.declared.case.Step.{Step}
@@ -29,6 +29,7 @@ use Rattle.machine.proofs.Effects.{move-issued, move-buffer, move-buffer-other,
 use Rattle.machine.proofs.Effects.{persist-buffer, persist-queue, persist-queue-other}
 use Rattle.machine.proofs.OperationLaws.{each-operation, of}
 use Rattle.demands.specs.Carried.{carried}
+use Rattle.demands.proofs.LastLaws.{cons-some}
 
 -- nothing waits in a buffer or a queue
 pub record Quiet (p : Program) (s : State) : Type 0 where
@@ -54,9 +55,6 @@ through-none : (p : Program) (s : State) → Quiet p s → Through p s []
 unfolding Faultless Leads
 through-none p s q = record { end = s; faultless = tt; leads = refl; quiet = q; issued = λ t. refl }
 
-some-slot : (h : Slot) (q : List Slot) → (h ∷ q) ≢ []
-some-slot h q e = let k : _≡_ {A = ℕ} (suc (length q)) 0 = ap length e in absurd (omega arith)
-
 -- what is queued persists
 through-persist : (p : Program) (s : State) (m : ℕ) (h : Slot) → m < p .locations → Queued p s m h
     → Through p s (persistStep m ∷ [])
@@ -78,7 +76,7 @@ through-persist p s m h low o =
     one = o .queues m low ∙ pick-true _ _ _ (eq-eqb m m refl)
 
     legal : (stepFault p (persistStep m) ≡ 0) × (ruleOf p s (persistStep m) ≡ 0)
-    legal = persist-legal p s (o .fit) m low (rw one (some-slot h []))
+    legal = persist-legal p s (o .fit) m low (rw one (cons-some h []))
 
     gone : (l : ℕ) → l < p .locations → Dec (l ≡ m) → queue (nextOf p s (persistStep m)) l ≡ []
     gone l a (yes e) =
@@ -98,13 +96,8 @@ record Waits (p : Program) (s : State) (t : ℕ) (e : Entry) : Type 0 where
 
 -- it moves
 module _ (p : Program) (s : State) (t : ℕ) (low : t < p .threads) (e : Entry) (o : Waits p s t e) where
-  some-entry : buffer s t ≢ []
-  some-entry z =
-      let k : _≡_ {A = ℕ} 1 0 = ap length (sym (o .here) ∙ z) in
-      absurd (omega arith)
-
   may-move : (stepFault p (moveStep t 0) ≡ 0) × (ruleOf p s (moveStep t 0) ≡ 0)
-  may-move = move-legal p s (o .fit) (o .queues) t low some-entry
+  may-move = move-legal p s (o .fit) (o .queues) t low (rw (o .here) (cons-some (record { entry = e }) []))
 
   abbrev moved : State
   moved = nextOf p s (moveStep t 0)
@@ -180,6 +173,7 @@ module _ (p : Program) (registers : List ℕ) (t : ℕ) (low : t < p .threads) (
   quiet : buffer v t ≡ [] → ((k : ℕ) → k < p .locations → queue v k ≡ []) → Quiet p v
   quiet b q = record { fit = fit; buffers = empty b; queues = q }
 
+  -- store word, store register, load, exchange, flush, flush-opt, sfence, mfence
   pub behind : (op : ℕ) → 1 ≤ op → op ≤ 8 → Behind op
   unfolding carried joins exchanges enters isBarrier entryOf both either pick
   behind =

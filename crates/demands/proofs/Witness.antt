@@ -9,6 +9,7 @@ use lib.ListN.{length, replicate}
 use Rattle.cases.specs.declared.case.Case.{Case}
 use Rattle.cases.specs.declared.reader.Reading.{Reading}
 use Rattle.cases.specs.declared.writer.Wrote.the-variants.{Stored, Untouched}
+use Rattle.cases.specs.Sizes.{mostSteps}
 use Rattle.cases.specs.Choice.{pick, both, either, refuse}
 use Rattle.cases.specs.Bytes.{IsBytes, half, wordAt, halfBytes, wordBytes}
 use Rattle.cases.specs.Record.{payloadOf, headerIn, writeIn, instructionIn, stepIn, payloadBytes, recordBytes}
@@ -68,8 +69,8 @@ pub nothing-unread : numberOf (readOf [] .answer) ≢ 0
 unfolding readOf readFrom endedOf refusedOf blankDraft pick
 nothing-unread e = absurd (omega arith)
 
--- lent bytes with room for a run of the full length: 768, for any case
-pub room-enough : (c : Case) → readsBack c ≡ true → 8 * fullLength (c .program) ≤ 768
+-- lent bytes with room for a run of the full length, of any case: 8 for each step that a case can have
+pub room-enough : (c : Case) → readsBack c ≡ true → 8 * fullLength (c .program) ≤ 8 * mostSteps
 room-enough c readable = let most = full-length-most c readable in omega arith
 
 -- a legal run, after which an instruction is unissued: the empty one

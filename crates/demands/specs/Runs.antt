@@ -1,6 +1,6 @@
 -- Demand 3's words about runs.
---   LegalRun p ks u    the steps ks are a legal run of the program p, and lead from its start to the state u
---   CannotGoOn p u     no step is legal in u
+--   LegalRun p ks u      the steps ks are a legal run of the program p, and lead from its start to the state u
+--   CannotGoOn p u       no step is legal in u
 --   FinishedRun p ks u   a legal run that cannot go on
 -- Assumes nothing.
 use mathlib.Core.Path.{_≡_}

@@ -1,10 +1,10 @@
 -- Document 01, "Work left and the walk".
---   work p s        the work left
---   Unfinished p s  there is something to do: an instruction is unissued or an entry waits
---   fullLength p    "The sum at the start is the program's full length"
+--   work p s            the work left
+--   Unfinished p s      there is something to do: an instruction is unissued or an entry waits
+--   fullLength p        "The sum at the start is the program's full length"
 --   programWeight p t   thread t's part of it, from the program alone
---   cost            what a legal step uses up of it
---   workOf, fullOf  what is told of a case and a state in memory
+--   cost                what a legal step uses up of it
+--   workOf, fullOf      what is told of a case and a state in memory
 -- Assumes nothing.
 use Prim.Native.Nat.{ℕ, _+_, _*_, _<_}
 use mathlib.Core.Logic.{_⊎_, _≢_}
