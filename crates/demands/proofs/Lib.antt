@@ -2,7 +2,7 @@
 pub mod DemandOne
 pub mod DemandTwo
 pub mod DemandThree
--- That what they ask for can be met, and that the wrong implementations which document 01 names do not meet them
+-- That what they ask for can be met, and that no wrong implementation which document 01 names meets them
 pub mod Witness
 pub mod ShutOut
 -- For these pages alone, the laws that no layer has: numbers that are answered, and what the question says

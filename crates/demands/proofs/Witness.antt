@@ -6,6 +6,8 @@ use mathlib.Core.Bool.{true, false}
 use mathlib.Core.List.{[], _∷_}
 use native.Mathlib.Omega.{arith}
 use lib.ListN.{length, replicate}
+use Rattle.cases.specs.declared.case.Program.{Program}
+use Rattle.cases.specs.declared.case.Ask.{Ask}
 use Rattle.cases.specs.declared.case.Case.{Case}
 use Rattle.cases.specs.declared.reader.Reading.{Reading}
 use Rattle.cases.specs.declared.writer.Wrote.the-variants.{Stored, Untouched}
@@ -26,7 +28,7 @@ use Rattle.cases.proofs.Promises.{file-bytes, read-after-write}
 use Rattle.cases.proofs.ChoiceLaws.{true-not}
 use Rattle.machine.specs.declared.cells.State.{State}
 use Rattle.machine.specs.Rules.{countAt, instructionAt, persistRule, ruleIn, ruleOf, startOf}
-use Rattle.machine.specs.Fit.{anyFrom}
+use Rattle.machine.specs.Fit.{ProgramFits, anyFrom}
 use Rattle.machine.specs.Work.{fullLength, Unfinished}
 use Rattle.machine.specs.Judge.{Leads, Faultless, StopsAt}
 use Rattle.machine.specs.Next.{persistStep, Listed}
@@ -34,8 +36,9 @@ use Rattle.machine.proofs.Promises.{program-fits, full-length-most}
 use Rattle.machine.proofs.Effects.{start-issued}
 use Rattle.search.specs.Walk.{here}
 use Rattle.search.specs.Question.{misses, missesAt, lacksAt, reachesIn, reaches, None, FirstThat, walkFrom}
-use Rattle.search.proofs.Promises.{walk-first}
-use Rattle.demands.specs.Example.{example, threadless}
+use Rattle.search.specs.Question.{askOf, undecided}
+use Rattle.search.proofs.Promises.{walk-first, undecided-exactly}
+use Rattle.demands.specs.Example.{example, threadless, stepFirst, programFirst}
 use Rattle.demands.specs.Runs.{LegalRun, FinishedRun}
 use Rattle.demands.specs.Writes.{isWrite, writes, Writer, LastWrite, Unwritten, Alone}
 use Rattle.demands.specs.Carried.{lastRun}
@@ -68,6 +71,22 @@ threadless-unreadable = refl
 pub nothing-unread : numberOf (readOf [] .answer) ≢ 0
 unfolding readOf readFrom endedOf refusedOf blankDraft pick
 nothing-unread e = absurd (omega arith)
+
+-- records that do not open, that are faulty and that are sound: one byte; a step before any program; a program
+pub one-byte-unopened : openNo (0 ∷ []) ≢ 0
+unfolding openNo refuse
+one-byte-unopened e = absurd (omega arith)
+
+pub step-first-faulty : (openNo stepFirst ≡ 0)
+    × (faultOf blankDraft (recordOf (half stepFirst 2) stepFirst) ≢ 0)
+unfolding openNo payloadOf half recordOf stepIn faultOf misplaced blankDraft pick refuse
+step-first-faulty = (refl, (λ e. absurd (omega arith)))
+
+pub program-first-sound : (openNo programFirst ≡ 0)
+    × (faultOf blankDraft (recordOf (half programFirst 2) programFirst) ≡ 0)
+unfolding openNo payloadOf half recordOf headerIn faultOf misplaced headerOut outside either blankDraft pick
+    refuse
+program-first-sound = (refl, refl)
 
 -- lent bytes with room for a run of the full length, of any case: 8 for each step that a case can have
 pub room-enough : (c : Case) → readsBack c ≡ true → 8 * fullLength (c .program) ≤ 8 * mostSteps
@@ -150,6 +169,13 @@ unfolding example emptyCase reaches reachesIn anyFrom missesAt misses lacksAt st
 example-first =
     let w = walk-first (example .program) (program-fits example example-readable) in
     record { after = w .0; stands = w .1; passes = refl; none = λ v h. absurd h }
+
+-- a question that is not, whatever is asked: of a budget of none
+pub budget-none : (p : Program) → ProgramFits p → (a : Ask) → askOf p a 0 ≡ undecided
+unfolding None Listed
+budget-none p fits a =
+    let w = walk-first p fits in
+    undecided-exactly p a 0 .1 (rw (w .1) (omega arith), (λ v h. absurd h))
 
 -- lent bytes that are long enough for the file, and none
 pub example-length : length (encodeOf example) ≡ 44

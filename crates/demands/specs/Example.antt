@@ -1,11 +1,13 @@
 -- A case that meets what the theorems ask for: two threads, three locations. Thread 0 stores 500 to location 0
 -- and then 1 to location 1, thread 1 stores 7 to location 0; nobody writes location 2. It asks for nothing and
 -- has no steps.
---   example      the case
---   threadless   a case in memory that no byte string reads as: it has no thread
+--   example        the case
+--   threadless     a case in memory that no byte string reads as: it has no thread
+--   stepFirst      bytes whose first record is a step
+--   programFirst   bytes whose first record is a program
 -- Assumes nothing.
 use Prim.Native.Nat.{ℕ, _-_}
-use mathlib.Core.List.{_∷_, _++_}
+use mathlib.Core.List.{List, [], _∷_, _++_}
 use lib.ListN.{replicate}
 use Rattle.cases.specs.declared.case.Instruction.{Instruction}
 use Rattle.cases.specs.declared.case.Case.{Case}
@@ -45,3 +47,10 @@ threadless =
       ask = emptyCase .ask;
       run = emptyCase .run;
     }
+
+-- length, kind and payload: a step, the issue of thread 0; a program of one thread and one location
+abbrev pub stepFirst : List ℕ
+stepFirst = 4 ∷ 0 ∷ 6 ∷ 0 ∷ 0 ∷ 0 ∷ 0 ∷ 0 ∷ []
+
+abbrev pub programFirst : List ℕ
+programFirst = 4 ∷ 0 ∷ 1 ∷ 0 ∷ 1 ∷ 0 ∷ 1 ∷ 1 ∷ []
