@@ -3,18 +3,7 @@
 use crate::answer::{answer, Answer};
 use crate::frame::{Frame, FIELDS_END};
 use crate::marks::{mark_of, FAMILIES};
-use crate::tally::{row, Counts, Row};
-
-/// A sort of frames: its name, the least number of them, and how one is told.
-struct Sort {
-    name: &'static str,
-    least: u64,
-    is: fn(&Frame, &Answer) -> bool,
-}
-
-const fn sort(name: &'static str, least: u64, is: fn(&Frame, &Answer) -> bool) -> Sort {
-    Sort { name, least, is }
-}
+use crate::tally::{row, sort, Counts, Row, Sort};
 
 /// Accepted and written again as it was read.
 fn rewritten(frame: &Frame, answer: &Answer) -> bool {
@@ -29,7 +18,7 @@ fn length_in(frame: &Frame, answer: &Answer, least: usize, most: usize) -> bool 
     rewritten(frame, answer) && (least..=most).contains(&frame.input.len())
 }
 
-const SORTS: [Sort; 24] = [
+const SORTS: [Sort<fn(&Frame, &Answer) -> bool>; 24] = [
     sort("written: 0", 500, |_, a| a.number == 0),
     sort("written: 31", 500, |_, a| a.number == 31),
     sort("written: 32", 500, |_, a| a.number == 32),
@@ -136,7 +125,7 @@ impl Counts<Frame> for FrameCounts {
         self.frames += 1;
         self.read[usize::from(answer.reading.number)] += 1;
         for (sort, count) in SORTS.iter().zip(&mut self.sorts) {
-            *count += u64::from((sort.is)(frame, &answer));
+            *count += u64::from((sort.told)(frame, &answer));
         }
         if let Some(seen) = self.lengths.get_mut(frame.input.len()) {
             *seen = true;

@@ -1,5 +1,16 @@
 //! The table of counts: each with its name and the least it must be.
 
+/// Something to be counted: its name, the least number of it, and how it is told.
+pub struct Sort<F> {
+    pub name: &'static str,
+    pub least: u64,
+    pub told: F,
+}
+
+pub const fn sort<F: Copy>(name: &'static str, least: u64, told: F) -> Sort<F> {
+    Sort { name, least, told }
+}
+
 pub struct Row {
     name: String,
     count: u128,

@@ -5,12 +5,10 @@ use mathlib.Core.Logic.{_↔_}
 use mathlib.Core.Bool.{Bool, true, false}
 use mathlib.Core.List.{List}
 use native.Mathlib.Omega.{arith}
-use lib.ListN.{length, replicate}
-use lib.Seq.{take-at}
+use lib.ListN.{length}
 use Rattle.cases.specs.declared.case.Step.{Step}
 use Rattle.cases.specs.declared.case.Case.{Case}
-use Rattle.cases.specs.Sizes.{mostSteps}
-use Rattle.cases.specs.Draft.{noStep, runWith, withRun}
+use Rattle.cases.specs.Draft.{runWith, withRun}
 use Rattle.cases.specs.Writing.{readsBack}
 use Rattle.cases.proofs.Promises.{other-run-reads-back}
 use Rattle.machine.specs.declared.cells.State.{State}
@@ -19,17 +17,13 @@ use Rattle.machine.specs.declared.runs.Verdict.the-variants.{Legal}
 use Rattle.machine.specs.Rules.{startOf}
 use Rattle.machine.specs.Judge.{Leads, Faultless, verdictNo, judged, runOf, stopped, judgeOf}
 use Rattle.machine.proofs.Promises.{program-fits, full-length-most, run-faultless, judge-legal}
-use Rattle.machine.proofs.Promises.{judge-legal-state, judge-unreadable, faultless-at}
+use Rattle.machine.proofs.Promises.{judge-legal-state, judge-unreadable, run-again, faultless-at}
 use Rattle.demands.specs.Runs.{LegalRun}
 use Rattle.demands.proofs.EndLaws.{none-longer}
 
 module _ (c : Case) (readable : readsBack c ≡ true) (ks : List Step) (u : State) where
   abbrev rerun : Case
   rerun = withRun c (runWith ks)
-
-  rerun-steps : runOf rerun ≡ ks
-  unfolding withRun runWith
-  rerun-steps = take-at ks (replicate (mostSteps - length ks) noStep) (length ks) refl
 
   -- a legal run is short and faultless, so that the case with it reads
   legal-readable : LegalRun (c .program) ks u → readsBack rerun ≡ true
@@ -43,9 +37,9 @@ module _ (c : Case) (readable : readsBack c ≡ true) (ks : List Step) (u : Stat
   legal-judged run =
       let r = legal-readable run in
       let leads : Leads (c .program) (startOf (c .program)) (runOf rerun) u
-      = subst (λ js. Leads (c .program) (startOf (c .program)) js u) (sym rerun-steps) (run .leads) in
+      = subst (λ js. Leads (c .program) (startOf (c .program)) js u) (sym (run-again c ks)) (run .leads) in
       let verdict
-      = judge-legal rerun r .1 (u, leads) ∙ ap (λ (js : List Step). Legal (length js)) rerun-steps in
+      = judge-legal rerun r .1 (u, leads) ∙ ap (λ (js : List Step). Legal (length js)) (run-again c ks) in
       let state = judge-legal-state rerun r u leads in
       λ i. record { verdict = verdict i; state = state i }
 
@@ -67,12 +61,12 @@ module _ (c : Case) (readable : readsBack c ≡ true) (ks : List Step) (u : Stat
       let verdict : judgeOf rerun .verdict ≡ Legal (length ks) = ap (λ (j : Judged). j .verdict) e in
       let r = judged-readable verdict in
       let v = judge-legal rerun r .0
-      (verdict ∙ ap (λ (js : List Step). Legal (length js)) (sym rerun-steps)) in
+      (verdict ∙ ap (λ (js : List Step). Legal (length js)) (sym (run-again c ks))) in
       let end : v .0 ≡ u
       = sym (judge-legal-state rerun r (v .0) (v .1)) ∙ ap (λ (j : Judged). j .state) e in
       record {
-        faultless = subst (Faultless (c .program)) rerun-steps (run-faultless rerun r);
-        leads = subst (λ js. Leads (c .program) (startOf (c .program)) js u) rerun-steps
+        faultless = subst (Faultless (c .program)) (run-again c ks) (run-faultless rerun r);
+        leads = subst (λ js. Leads (c .program) (startOf (c .program)) js u) (run-again c ks)
             (subst (Leads (c .program) (startOf (c .program)) (runOf rerun)) end (v .1));
       }
 

@@ -1,11 +1,12 @@
 -- What the machine promises to the layers above: all that they may cite, but for what each step does to each
 -- part of the state, which is Effects. Each law is stated in full. Assumes nothing.
-use Prim.Native.Nat.{ℕ, _+_, _<_, _≤_}
+use Prim.Native.Nat.{ℕ, _+_, _-_, _<_, _≤_}
 use mathlib.Core.Path.{_≡_, refl, sym, _∙_}
 use mathlib.Core.Logic.{_⊎_, _≢_, _↔_}
 use mathlib.Core.List.{List, [], _∷_, map}
 use mathlib.Core.Bool.{true, false}
-use lib.ListN.{length, getD, take, drop}
+use lib.ListN.{length, getD, take, drop, replicate}
+use lib.Seq.{take-at}
 use borrow.Author.Tests.{eq-eqb, ne-eqb}
 use Rattle.cases.specs.declared.case.Step.{Step}
 use Rattle.cases.specs.declared.case.Program.{Program}
@@ -14,7 +15,7 @@ use Rattle.cases.specs.declared.case.Case.{Case}
 use Rattle.cases.specs.Sizes.{mostThreads, mostSteps, longest}
 use Rattle.cases.specs.Bytes.{IsBytes}
 use Rattle.cases.specs.Checks.{stepFault}
-use Rattle.cases.specs.Draft.{noStep, withAsk}
+use Rattle.cases.specs.Draft.{noStep, runWith, withAsk, withRun}
 use Rattle.cases.specs.Reading.{numberOf, offsetOf, readOf}
 use Rattle.cases.specs.Writing.{readsBack}
 use Rattle.cases.proofs.Promises.{read-ranged, readable-ranged, read-reads-back}
@@ -159,6 +160,11 @@ module _ (s : List ℕ) where
 pub ask-not-looked-at : (c : Case) (a : Ask) → judgeRun (withAsk c a) ≡ judgeRun c
 unfolding judgeRun withAsk
 ask-not-looked-at c a = refl
+
+-- the run of a case with the steps ks is ks
+pub run-again : (c : Case) (ks : List Step) → runOf (withRun c (runWith ks)) ≡ ks
+unfolding withRun runWith
+run-again c ks = take-at ks (replicate (mostSteps - length ks) noStep) (length ks) refl
 
 -- 5 and 8 have nothing against any step of a faultless run
 pub faultless-at : (p : Program) (ks : List Step) → Faultless p ks → (i : ℕ) → i < length ks

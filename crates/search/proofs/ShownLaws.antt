@@ -1,9 +1,9 @@
 -- The run that is shown: it passes the judge, and ends where the question is reached. Assumes nothing.
 use Prim.Native.Nat.{ℕ, _-_, _*_, _≤_}
-use mathlib.Core.Path.{_≡_, refl, sym, ap, subst, _∙_}
+use mathlib.Core.Path.{_≡_, sym, ap, subst, _∙_}
 use mathlib.Core.Bool.{true}
 use mathlib.Core.List.{List, [], _++_}
-use lib.ListN.{length, take, drop, replicate}
+use lib.ListN.{length, take, drop}
 use lib.Seq.{take-at}
 use native.Mathlib.Omega.{arith}
 use Rattle.cases.specs.declared.case.Step.{Step}
@@ -11,7 +11,7 @@ use Rattle.cases.specs.declared.case.Case.{Case}
 use Rattle.cases.specs.declared.reader.Reading.{Reading}
 use Rattle.cases.specs.Sizes.{mostSteps}
 use Rattle.cases.specs.Bytes.{IsBytes}
-use Rattle.cases.specs.Draft.{noStep, runWith, withRun}
+use Rattle.cases.specs.Draft.{runWith, withRun}
 use Rattle.cases.specs.Reading.{numberOf, readOf}
 use Rattle.cases.specs.Places.{encodeOf, stepsBytes}
 use Rattle.cases.specs.Writing.{readsBack}
@@ -24,7 +24,7 @@ use Rattle.machine.specs.Rules.{startOf}
 use Rattle.machine.specs.Work.{fullLength}
 use Rattle.machine.specs.Judge.{Leads, Faultless, judgeOf, judgeBytes, runOf}
 use Rattle.machine.proofs.Promises.{program-fits, begin-fits, full-length-most, judge-legal}
-use Rattle.machine.proofs.Promises.{judge-legal-state, judge-read, faultless-at}
+use Rattle.machine.proofs.Promises.{judge-legal-state, judge-read, run-again, faultless-at}
 use Rattle.search.specs.Walk.{walkOf}
 use Rattle.search.specs.Question.{reaches, reached, walkFrom, askOf, shownOf}
 use Rattle.search.proofs.PtsoLaws.{walk-leads}
@@ -69,20 +69,16 @@ module _ (c : Case) (h : readsBack c ≡ true) (b : ℕ) (run : List Step)
       let l = reached-leads c h b run q in
       other-run-reads-back c h run few (faultless-at (c .program) run (l .1))
 
-  shown-run : runOf shown ≡ run
-  unfolding withRun runWith
-  shown-run = take-at run (replicate (mostSteps - length run) noStep) (length run) refl
-
   leads : (u : State) → Leads (c .program) (startOf (c .program)) run u
       → Leads (shown .program) (startOf (shown .program)) (runOf shown) u
   unfolding withRun
-  leads u l = subst (λ ks. Leads (c .program) (startOf (c .program)) ks u) (sym shown-run) l
+  leads u l = subst (λ ks. Leads (c .program) (startOf (c .program)) ks u) (sym (run-again c run)) l
 
   pub shown-legal : judgeOf shown .verdict ≡ Legal (length run)
   shown-legal =
       let l = reached-leads c h b run q in
       judge-legal shown shown-readable .1 (l .0, leads (l .0) (l .2))
-      ∙ ap (λ (ks : List Step). Legal (length ks)) shown-run
+      ∙ ap (λ (ks : List Step). Legal (length ks)) (run-again c run)
 
   pub shown-reaches : reaches (c .ask) (judgeOf shown .state) ≡ true
   shown-reaches =

@@ -148,7 +148,7 @@ impl Counts<Query> for QueryCounts {
         self.runs += u64::from(answer.reply.runs);
         self.numbers[usize::from(answer.reply.number)] += 1;
         for (sort, count) in SORTS.iter().zip(&mut self.sorts) {
-            *count += u64::from((sort.is)(&sight));
+            *count += u64::from((sort.told)(&sight));
         }
         self.check(&sight);
         self.check_run(&sight);

@@ -5,19 +5,9 @@ use super::counts::Sight;
 use crate::machine::work::full_length;
 use crate::reading::read;
 use crate::refusal::BUFFER_TOO_SHORT;
+use crate::tally::{sort, Sort};
 
-/// Its name, the least number of its frames, and how one is told.
-pub struct Sort {
-    pub name: &'static str,
-    pub least: u64,
-    pub is: fn(&Sight) -> bool,
-}
-
-const fn sort(name: &'static str, least: u64, is: fn(&Sight) -> bool) -> Sort {
-    Sort { name, least, is }
-}
-
-pub const SORTS: [Sort; 54] = [
+pub const SORTS: [Sort<fn(&Sight) -> bool>; 54] = [
     sort("100, room just enough", 200, |s| {
         reached(s) && room(s) == s.need
     }),

@@ -136,7 +136,7 @@ impl Counts<Trial> for TrialCounts {
         self.take_number(&answer);
         self.take_clause(&answer);
         for (sort, count) in SORTS.iter().zip(&mut self.sorts) {
-            *count += u64::from((sort.is)(trial, &answer));
+            *count += u64::from((sort.told)(trial, &answer));
         }
         self.check(trial, &answer);
     }

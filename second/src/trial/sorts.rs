@@ -7,19 +7,9 @@ use super::raw::{ENTRIES_AT, ENTRY_BYTES};
 use crate::machine::fit::to_come;
 use crate::machine::judge::LEGAL;
 use crate::machine::state::State;
+use crate::tally::{sort, Sort};
 
-/// Its name, the least number of its frames, and how one is told.
-pub struct Sort {
-    pub name: &'static str,
-    pub least: u64,
-    pub is: fn(&Trial, &Answer) -> bool,
-}
-
-const fn sort(name: &'static str, least: u64, is: fn(&Trial, &Answer) -> bool) -> Sort {
-    Sort { name, least, is }
-}
-
-pub const SORTS: [Sort; 32] = [
+pub const SORTS: [Sort<fn(&Trial, &Answer) -> bool>; 32] = [
     sort("job 0", 3000, |t, _| t.job == Job::Bytes),
     sort("job 1", 2000, |t, _| t.job == Job::Case),
     sort("job 2", 6000, |_, a| a.given.is_some()),

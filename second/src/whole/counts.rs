@@ -4,7 +4,7 @@
 use super::ledger::Known;
 use super::program::Program;
 use super::sorts::{Sight, SORTS};
-use super::sums::{Sum, SUMS};
+use super::sums::SUMS;
 use crate::reading::read;
 use crate::tally::{row, Counts, Row};
 use crate::trial::answer::answer;
@@ -64,7 +64,7 @@ impl Counts<Trial> for WholeCounts {
             program: &Program::of(&reading.case),
         };
         for (sort, count) in SORTS.iter().zip(&mut self.sorts) {
-            *count += u64::from((sort.is)(&sight));
+            *count += u64::from((sort.told)(&sight));
         }
         let known = self.explore(sight.program);
         if let Some(what) = known.take(&sight, &answer(trial)) {
@@ -74,9 +74,9 @@ impl Counts<Trial> for WholeCounts {
 
     fn rows(&self) -> Vec<Row> {
         let mut rows = Vec::new();
-        for Sum { name, least, of } in SUMS {
-            let all = self.programs.values().map(of);
-            rows.push(row(name, all.sum::<u128>(), least));
+        for sum in SUMS {
+            let all = self.programs.values().map(sum.told);
+            rows.push(row(sum.name, all.sum::<u128>(), sum.least));
         }
         let most = self.greatest(|known| known.found.states);
         rows.push(row("most states of a program", most, 5000));

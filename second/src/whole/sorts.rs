@@ -4,6 +4,7 @@ use super::program::Program;
 use crate::case::{Case, Step};
 use crate::machine::judge::LEGAL;
 use crate::machine::rules::{ISSUE, MOVE, NONE_LEFT, NO_ENTRY, PERSIST, QUEUE_EMPTY};
+use crate::tally::{sort, Sort};
 
 /// A frame's case and its program.
 pub struct Sight<'a> {
@@ -11,18 +12,7 @@ pub struct Sight<'a> {
     pub program: &'a Program,
 }
 
-/// Its name, the least number of its frames, and how one is told.
-pub struct Sort {
-    pub name: &'static str,
-    pub least: u64,
-    pub is: fn(&Sight) -> bool,
-}
-
-const fn sort(name: &'static str, least: u64, is: fn(&Sight) -> bool) -> Sort {
-    Sort { name, least, is }
-}
-
-pub const SORTS: [Sort; 6] = [
+pub const SORTS: [Sort<fn(&Sight) -> bool>; 6] = [
     sort("run written out", 500, |s| s.wanted()),
     sort("run that cannot go on", 500, |s| {
         !s.wanted() && s.run().len() == s.full()

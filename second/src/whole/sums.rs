@@ -2,19 +2,9 @@
 
 use super::ledger::Known;
 use super::program::code;
+use crate::tally::{sort as sum, Sort as Sum};
 
-/// Its name, the least that it must be, and a program's part of it.
-pub struct Sum {
-    pub name: &'static str,
-    pub least: u64,
-    pub of: fn(&Known) -> u128,
-}
-
-const fn sum(name: &'static str, least: u64, of: fn(&Known) -> u128) -> Sum {
-    Sum { name, least, of }
-}
-
-pub const SUMS: [Sum; 35] = [
+pub const SUMS: [Sum<fn(&Known) -> u128>; 35] = [
     sum("different programs", 300, |_| 1),
     sum("threads 1, locations 3", 50, |k| sized(k, 1, 3)),
     sum("threads 2, locations 2", 50, |k| sized(k, 2, 2)),
