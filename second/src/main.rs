@@ -33,7 +33,7 @@ use trial::frame::Trial;
 use whole::counts::WholeCounts;
 
 const USAGE: &str = "usage: second answer | second generate SEED COUNT | second counts, \
-                     or machine-, question- or whole- in front of the mode";
+                     or machine-, question- or whole- in front of the mode, or second question-runs";
 
 type Stream = BufReader<StdinLock<'static>>;
 type Out = BufWriter<StdoutLock<'static>>;
@@ -55,6 +55,7 @@ fn main() -> ExitCode {
         ["question-answer"] => {
             answer_all(Query::read_from, |one| question::answer::answer(one).line())
         }
+        ["question-runs"] => answer_all(Query::read_from, question::answer::runs_line),
         ["question-counts"] => count(Query::read_from, QueryCounts::new()),
         ["question-generate", seed, count] => {
             let write = |case: &Vec<Query>, out: &mut Out| {

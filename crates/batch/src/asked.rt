@@ -6,7 +6,7 @@ use search::ask;
 ghost use Prim.Native.Nat.{_≤_};
 
 // Asks the question of a buffer's first n bytes; false where so much room is not to be had.
-pub fn answer(input: [u8; INPUT], n: usize, room: usize, budget: u32) -> bool
+pub(crate) fn answer(input: [u8; INPUT], n: usize, room: usize, budget: u32) -> bool
     requires { ⌜ n ≤ 65536 ⌝ }
 {
     if ROOM < room {

@@ -110,7 +110,7 @@ fn in_run(r: Run, field: usize, value: u32) -> Run {
     s
 }
 
-pub fn changed(c: Case, field: usize, value: u32) -> Case {
+pub(crate) fn changed(c: Case, field: usize, value: u32) -> Case {
     if field < 15 {
         let p = c.program;
         return Case {

@@ -27,7 +27,7 @@ fn bytes(lent: [u8; ROOM], count: usize)
 }
 
 // Ends a line with those bytes, or with `-` where there are none.
-pub fn buffer(lent: [u8; ROOM], count: usize)
+pub(crate) fn buffer(lent: [u8; ROOM], count: usize)
     requires { ⌜ count ≤ 2048 ⌝ }
 {
     if count == 0 {
@@ -37,7 +37,7 @@ pub fn buffer(lent: [u8; ROOM], count: usize)
     io::write_all(STDOUT_FILENO, b"\n");
 }
 
-pub fn number(n: usize) {
+pub(crate) fn number(n: usize) {
     io::print_decimal(STDOUT_FILENO, n as u64);
     io::write_all(STDOUT_FILENO, b" ");
 }

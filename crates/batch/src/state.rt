@@ -143,7 +143,7 @@ fn read_threads(s: State, raw: &[u8; ROOM]) -> State {
 }
 
 // The state of those bytes; `blank` is any state.
-pub fn from_bytes(blank: State, raw: &[u8; ROOM]) -> State {
+pub(crate) fn from_bytes(blank: State, raw: &[u8; ROOM]) -> State {
     let queues = read_queues(blank, raw);
     let locations = read_locations(queues, raw);
     let buffers = read_buffers(locations, raw);
@@ -202,7 +202,7 @@ fn put_threads(raw: &mut [u8; ROOM], s: State) {
 }
 
 // The bytes of a state, into bytes that are all 0.
-pub fn to_bytes(raw: &mut [u8; ROOM], s: State) {
+pub(crate) fn to_bytes(raw: &mut [u8; ROOM], s: State) {
     put_queues(raw, s);
     put_locations(raw, s);
     put_buffers(raw, s);

@@ -90,7 +90,7 @@ fn take_step(c: Case) -> bool {
 }
 
 // Answers for the first n bytes of a buffer; false where the stream ends in the frame.
-pub fn answer(job: u32, input: [u8; INPUT], n: usize, field: usize, value: u32) -> bool
+pub(crate) fn answer(job: u32, input: [u8; INPUT], n: usize, field: usize, value: u32) -> bool
     requires { ⌜ n ≤ 65536 ⌝ }
 {
     if job == 0 {

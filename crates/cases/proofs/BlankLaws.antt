@@ -3,7 +3,6 @@ use Prim.Native.Nat.{ℕ, zero, suc, _/_, _%_, _≤_}
 use mathlib.Core.Path.{_≡_, refl, ap, _∙_}
 use mathlib.Core.List.{[]}
 use mathlib.Core.Bool.{false}
-use lib.ListN.{getD, replicate}
 use lib.Dec.{leb·zero}
 use borrow.Author.Tests.{eqb-true, not-false}
 use native.Mathlib.Omega.{arith}
@@ -22,6 +21,7 @@ use Rattle.cases.specs.Places.{headerPlace, firstPlace, instructionPlace
 use Rattle.cases.specs.Places.{wantPlace, passedPlace, stepPlace}
 use Rattle.cases.specs.Places.{places, placeOf, placeBytes, bytesAt, encodeOf}
 use Rattle.cases.proofs.ChoiceLaws.{either-false, refuse-none}
+use Rattle.cases.proofs.ArrayLaws.{getD-blank}
 use Rattle.cases.proofs.EachLaws.{each-more, each-none}
 use Rattle.cases.proofs.PlaceLaws.{place-cases, place-header}
 use Rattle.cases.proofs.FitLaws.{RecordFits, PlaceFits, outside-low}
@@ -37,13 +37,6 @@ blank-first (Instruct t x) f = absurd (omega arith)
 blank-first (Want w) f = absurd (omega arith)
 blank-first (Passed t n) f = absurd (omega arith)
 blank-first (Take k) f = absurd (omega arith)
-
--- a list of blanks has a blank at every index
-nothing : {A : Type 0} (n j : ℕ) (d : A) → getD (replicate n d) j d ≡ d
-nothing zero zero d = refl
-nothing zero (suc j) d = refl
-nothing (suc n) zero d = refl
-nothing (suc n) (suc j) d = nothing n j d
 
 -- the empty case with other sizes: nothing stands behind the program
 module _ (h : Header) (fit : headerOut h ≡ false) where
@@ -63,10 +56,10 @@ module _ (h : Header) (fit : headerOut h ≡ false) where
   begun-blank j low =
       place-cases (λ (x : Place). x ≡ Empty) (begun .case) j
       (λ e. absurd (omega arith))
-      (λ l e m. rw (nothing {A = ℕ} mostLocations l 0))
-      (λ m e n. rw (nothing {A = ℕ} mostThreads (m / mostInstructions) 0, leb·zero (m % mostInstructions)))
-      (λ l e m. rw (nothing mostLocations l false))
-      (λ t e m. rw (nothing {A = ℕ} mostThreads t 0))
+      (λ l e m. rw (getD-blank {A = ℕ} mostLocations l 0))
+      (λ m e n. rw (getD-blank {A = ℕ} mostThreads (m / mostInstructions) 0, leb·zero (m % mostInstructions)))
+      (λ l e m. rw (getD-blank mostLocations l false))
+      (λ t e m. rw (getD-blank {A = ℕ} mostThreads t 0))
       (λ k e. rw (leb·zero k))
 
   begun-fits : (j : ℕ) → PlaceFits (begun .case .program) (placeOf (begun .case) j)
@@ -99,7 +92,7 @@ module _ (h : Header) (fit : headerOut h ≡ false) where
             few-threads = t .1;
             some-locations = l .0;
             few-locations = l .1;
-            few-instructions = λ u. omega (arith, nothing {A = ℕ} mostThreads u 0);
+            few-instructions = λ u. omega (arith, getD-blank {A = ℕ} mostThreads u 0);
           };
           of-ask = record { wanted-long = refl; want-long = refl; passed-long = refl };
           of-run = record { steps-long = refl; few-steps = omega arith };

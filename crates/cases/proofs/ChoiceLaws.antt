@@ -18,6 +18,10 @@ pub pick-false {ℓ} : {A : Type ℓ} (t : Bool) (x y : A) → t ≡ false → p
 unfolding pick
 pick-false t x y h = rw h
 
+-- no test is both
+pub never-both : {b : Bool} → b ≡ true → b ≡ false → ⊥
+never-both e d = let z : _≡_ {A = ℕ} 0 1 = cc in omega arith
+
 -- both tests are true; neither is
 pub both-true : (a b : Bool) → both a b ≡ true → (a ≡ true) × (b ≡ true)
 unfolding both

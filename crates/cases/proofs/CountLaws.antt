@@ -1,25 +1,18 @@
 -- Laws of the counts of instructions, with one more for a thread. Assumes nothing.
 use Prim.Native.Nat.{ℕ, suc, _+_, _*_, _<_, _≤_}
-use mathlib.Core.Path.{_≡_, refl, sym, ap}
+use mathlib.Core.Path.{_≡_, refl, ap}
 use mathlib.Core.Logic.{_≢_, _⊎_, inl, inr}
 use mathlib.Core.Bool.{Bool, true, false}
 use lib.ListN.{length, getD, set}
 use lib.Seq.{getD-set-same, getD-set-other}
-use lib.Dec.{eqb, ltb}
-use borrow.Author.Tests.{ltb-true, ltb-false, eqb-true, eqb-false}
+use lib.Dec.{eqb}
+use borrow.Author.Tests.{eqb-true, eqb-false}
 use native.Mathlib.Omega.{arith}
 use Rattle.cases.specs.declared.case.Program.{Program}
 use Rattle.cases.specs.declared.case.Thread.{Thread}
 use Rattle.cases.specs.Sizes.{mostInstructions}
 use Rattle.cases.specs.Checks.{countOf}
 use Rattle.cases.specs.Places.{fromCode}
-
-below-of : (a b : ℕ) → a ≤ b → a ≢ b → a < b
-below-of a b h n = go (ltb a b) refl
-  where
-    go : (t : Bool) → ltb a b ≡ t → a < b
-    go true e = ltb-true a b e
-    go false e = absurd (n (omega (arith, ltb-false a b e)))
 
 -- The counts with one more for thread t: whose count it is, and what the counts stay below
 module _ (p : Program) (t : Thread) (low : t .0 < length (p .counts)) where
@@ -70,5 +63,5 @@ module _ (p : Program) (t : Thread) (low : t .0 < length (p .counts)) where
       go : CountedAs u → Behind u
       go (inl e) = omega arith
       go (inr e) =
-          let below : t .0 < u = below-of (t .0) u h (λ z. e .0 (sym z)) in
+          let other : u ≢ t .0 = e .0 in
           omega arith

@@ -5,7 +5,7 @@ use mathlib.Core.Path.{_≡_, refl, sym, ap, _∙_}
 use mathlib.Core.List.{List, [], _++_}
 use lib.ListN.{length, drop, length-append}
 use lib.Seq.{sets, length-sets}
-use native.Mathlib.Nat.{add-zero}
+use native.Mathlib.Nat.{add-zero, zero-add}
 use native.Mathlib.Omega.{arith}
 use Rattle.cases.specs.declared.case.Case.{Case}
 use Rattle.cases.specs.declared.record.Record.{Record}
@@ -47,8 +47,8 @@ module _ {c : Case} {d : List ℕ} {k at : ℕ} {out : List ℕ} (put : Encoded 
       record {
         ends = rw (e, put .ends, each-next, here) (sym (length-append (each k (bytesAt c)) bs));
         holds =
-            f ∙ rw (put .holds, each-next, here)
-            (sets-append d 0 at (each k (bytesAt c)) bs (omega (arith, put .ends)));
+            f ∙ rw (put .holds, each-next, here, put .ends)
+            (sym (rw zero-add at (sets-append d 0 (each k (bytesAt c)) bs)));
       }
 
   -- a place that holds a record: its bytes fit; they are put

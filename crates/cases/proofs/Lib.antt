@@ -1,8 +1,9 @@
--- The laws of cases. Other crates can name Promises, and the laws that every layer needs, of how definitions
--- choose, of what owning an array tells and of bytes put into lent bytes, alone.
+-- The laws of cases. Other crates can name Promises, the laws that every layer needs, of how definitions choose
+-- and of lists, and what to unfold so that a definition computes. No other.
 pub mod Promises
 pub mod ChoiceLaws
 pub mod ArrayLaws
+pub mod Computing
 -- definitions' own laws: bytes, records, places, checks, drafts
 mod BytesLaws
 mod RecordLaws

@@ -3,10 +3,10 @@
 -- Assumes nothing.
 use Prim.Native.Nat.{ℕ, zero, suc, _+_, _-_, _<_, _≤_}
 use mathlib.Core.Path.{_≡_, refl, sym, ap, _∙_}
-use mathlib.Core.List.{List, [], _∷_, _++_}
+use mathlib.Core.List.{List, [], _++_}
 use mathlib.Core.Bool.{Bool, true, false, not}
-use lib.ListN.{length, getD, take, drop, length-take, length-drop}
-use lib.Seq.{getD-take, take-all, take-nil}
+use lib.ListN.{length, getD, take, length-take, length-drop}
+use lib.Seq.{getD-take, take-all}
 use lib.Dec.{eqb, ltb}
 use borrow.Author.Tests.{le-ltb, ltb-true, ltb-false, eqb-true}
 use native.Mathlib.Omega.{arith}
@@ -22,6 +22,7 @@ use Rattle.cases.specs.Draft.{blankDraft, addOf}
 use Rattle.cases.specs.Reading.{endedOf, refusedOf, readFrom, readOf}
 use Rattle.cases.specs.Places.{encodeOf}
 use Rattle.cases.proofs.ChoiceLaws.{pick-cases}
+use Rattle.cases.proofs.ArrayLaws.{drop-take}
 use Rattle.cases.proofs.SoundLaws.{Sound}
 use Rattle.cases.proofs.AddLaws.{add-record}
 use Rattle.cases.proofs.LengthLaws.{encode-length}
@@ -29,12 +30,6 @@ use Rattle.cases.proofs.BytesLaws.{half-same, word-same, open-whole}
 use Rattle.cases.proofs.ReadLaws.{recordIn, behind, read-cases}
 use Rattle.cases.proofs.BlankLaws.{blank-first, begun-longer, begun-sound}
 use Rattle.cases.proofs.RoundTrip.{longer-by, less-left}
-
-drop-take : {A : Type 0} (i m : ℕ) (l : List A) → drop i (take m l) ≡ take (m - i) (drop i l)
-drop-take zero m l = let e : m - 0 ≡ m = omega arith in rw e
-drop-take (suc i) zero l = let e : 0 - suc i ≡ 0 = omega arith in rw e
-drop-take (suc i) (suc m) [] = sym (take-nil (suc m - suc i))
-drop-take (suc i) (suc m) (x ∷ l) = let e : suc m - suc i ≡ m - i = omega arith in rw e (drop-take i m l)
 
 -- no payload, and so no record, is longer than the longest
 payload-most : (k : ℕ) → payloadOf k ≤ 8

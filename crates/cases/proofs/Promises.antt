@@ -74,8 +74,8 @@ module _ (s : List ℕ) where
   unfolding readOf
   fuel-never-decides n h = fuel-same (suc (length s)) n blankDraft 0 s (omega arith) h
 
--- "Records are checked from the left; the first faulty one decides." s is what is left to read, `at` its offset,
--- d what was read before it
+-- "Records are checked from the left; the first faulty one decides." s is what is left to read, `at` its
+-- offset, d what was read before it
 module _ (n : ℕ) (d : Draft) (at : ℕ) (s : List ℕ) (some : length s ≢ 0) where
   pub unopened-decides : openNo s ≢ 0 → readFrom (suc n) d at s ≡ refusedOf (openNo s) at
   unopened-decides = ReadLaws.unopened-decides n d at s some

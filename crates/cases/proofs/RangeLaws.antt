@@ -23,7 +23,7 @@ use Rattle.cases.specs.Places.{fromCode, fromWants, fromPassed, fromStep
 use Rattle.cases.specs.Places.{instructionPlace, wantPlace, passedPlace, stepPlace}
 use Rattle.cases.specs.Places.{placeOf}
 use Rattle.cases.specs.Ranges.{InstructionFits, Ranged}
-use Rattle.cases.proofs.ChoiceLaws.{either-false, pick-true, pick-false}
+use Rattle.cases.proofs.ChoiceLaws.{never-both, either-false, pick-true, pick-false}
 use Rattle.cases.proofs.PlaceLaws.{place-code, place-want, place-passed, place-step}
 use Rattle.cases.proofs.FitLaws.{RecordFits, PlaceFits}
 use Rattle.cases.proofs.SoundLaws.{Sound}
@@ -36,9 +36,6 @@ within l i blank h = go (ltb i (length l)) refl
     go : (b : Bool) → ltb i (length l) ≡ b → i < length l
     go true e = ltb-true i (length l) e
     go false e = absurd (h (List·getD-eq-default l blank (ltb-false i (length l) e)))
-
-true-is-not-false : (b : Bool) → b ≡ true → b ≢ false
-true-is-not-false b h e = let z : _≡_ {A = ℕ} 0 1 = cc in omega arith
 
 -- A sound draft
 module _ (d : Draft) (front : ℕ) (s : Sound d front) where
@@ -74,7 +71,7 @@ module _ (d : Draft) (front : ℕ) (s : Sound d front) where
   unfolding RecordFits wantPlace
   want-ranged l h =
       let a = s .sized .of-ask in
-      let there = within (d .case .ask .wanted) l false (true-is-not-false _ h) in
+      let there = within (d .case .ask .wanted) l false (never-both h) in
       let low : l < mostLocations = omega (arith, there, a .wanted-long) in
       let e = place-want (d .case) (fromWants + l) l refl low
       ∙ pick-true (getD (d .case .ask .wanted) l false) _ _ h in

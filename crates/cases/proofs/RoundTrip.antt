@@ -6,7 +6,7 @@
 use Prim.Native.Nat.{ℕ, zero, suc, _+_, _<_, _≤_}
 use mathlib.Core.Path.{_≡_, refl, sym, ap, _∙_}
 use mathlib.Core.Logic.{_≢_}
-use mathlib.Core.List.{List, [], _∷_, _++_, append-assoc, append-nil}
+use mathlib.Core.List.{List, [], _++_, append-assoc, append-nil}
 use lib.ListN.{length, take, length-append, length-drop, take-append-drop}
 use lib.Dec.{eqb}
 use borrow.Author.Tests.{ne-eqb}
@@ -26,6 +26,7 @@ use Rattle.cases.specs.Draft.{emptyCase, blankDraft, addOf}
 use Rattle.cases.specs.Reading.{numberOf, offsetOf, refusedOf, endedOf, readFrom, readOf}
 use Rattle.cases.specs.Places.{encodeOf}
 use Rattle.cases.proofs.ChoiceLaws.{refuse-most, pick-false}
+use Rattle.cases.proofs.ArrayLaws.{length-none}
 use Rattle.cases.proofs.SoundLaws.{Sound}
 use Rattle.cases.proofs.AddLaws.{add-record}
 use Rattle.cases.proofs.LengthLaws.{encode-length}
@@ -70,10 +71,6 @@ told-refused done t m low most =
       sound = λ z. absurd (omega arith);
       back = λ b z. absurd (omega arith);
     }
-
-length-none : {A : Type 0} (t : List A) → length t ≡ 0 → t ≡ []
-length-none [] h = refl
-length-none (x ∷ t) h = absurd (omega arith)
 
 -- a record was read, and what follows is told
 told-next : (done t : List ℕ) (r : Reading) (more : List ℕ) → openNo t ≡ 0

@@ -6,6 +6,7 @@ use mathlib.Core.List.{List, []}
 use native.Mathlib.Omega.{arith}
 use native.Mathlib.Decide.{ℕ-discrete}
 use Rattle.cases.specs.declared.case.Program.{Program}
+use Rattle.cases.proofs.ChoiceLaws.{never-both}
 use Rattle.machine.specs.declared.cells.State.{State}
 use Rattle.machine.specs.View.{wordOf, issuedOf}
 use Rattle.machine.specs.Rules.{countAt, startOf}
@@ -20,8 +21,7 @@ use Rattle.demands.proofs.LastLaws.{lastOr, Settles}
 use Rattle.demands.proofs.WriteLaws.{storesIn, fixesFrom}
 use Rattle.demands.proofs.PassLaws.{coming}
 use Rattle.demands.proofs.SettleLaws.{Done, newest, run-settles}
-use Rattle.demands.proofs.LastWriteLaws.{never-both, fixes-last, fixes-unwritten, writer-last}
-use Rattle.demands.proofs.LastWriteLaws.{last-one}
+use Rattle.demands.proofs.LastWriteLaws.{fixes-last, fixes-unwritten, writer-last, last-one}
 use Rattle.demands.proofs.FixedLaws.{leads-append, faultless-append, fixed-behind}
 use Rattle.demands.proofs.EndLaws.{work-stuck, done-work}
 use Rattle.demands.proofs.MemoryLaws.{in-threads, unissued-coming, written-low}

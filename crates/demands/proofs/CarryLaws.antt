@@ -18,7 +18,6 @@ use Rattle.machine.specs.Next.{issueStep}
 use Rattle.machine.proofs.Promises.{step-fits, issue-legal}
 use Rattle.machine.proofs.Effects.{issue-issued, issue-issued-other, issue-buffer, issue-buffer-other}
 use Rattle.machine.proofs.Effects.{issue-queue}
-use Rattle.machine.proofs.OperationLaws.{of}
 use Rattle.demands.specs.Carried.{carried, carriedFrom, carriedAll}
 use Rattle.demands.proofs.FixedLaws.{leads-append, faultless-append}
 use Rattle.demands.proofs.ThroughLaws.{Quiet, Through, behind}

@@ -17,7 +17,7 @@ use Rattle.cases.specs.Choice.{pick, refuse}
 use Rattle.cases.specs.Bytes.{IsBytes, half}
 use Rattle.cases.specs.Record.{kindOf, payloadOf, recordOf, openNo, sizeOf}
 use Rattle.cases.specs.Checks.{misplaced, stepFault, faultOf}
-use Rattle.cases.specs.Draft.{addOf}
+use Rattle.cases.specs.Draft.{emptyCase, addOf}
 use Rattle.cases.specs.Reading.{numberOf, offsetOf, refusedOf, readFrom, readOf}
 use Rattle.cases.specs.Places.{encodeOf}
 use Rattle.cases.specs.Writing.{readsBack, wroteOf, writtenOf}
@@ -26,10 +26,11 @@ use Rattle.cases.proofs.ChoiceLaws.{pick-true, false-not}
 use Rattle.machine.specs.declared.cells.State.{State}
 use Rattle.machine.specs.declared.steps.Ruling.the-variants.{Allowed, Broken, Declined}
 use Rattle.machine.specs.declared.work.Weighed.the-variants.{Unweighed}
-use Rattle.machine.specs.Rules.{ruleOf, nextOf}
+use Rattle.machine.specs.Rules.{ruleOf, nextOf, startOf}
 use Rattle.machine.specs.Fit.{misfits}
 use Rattle.machine.specs.Work.{fullLength, workOf, fullOf}
-use Rattle.machine.specs.Judge.{verdictNo, rulingNo, told, steppedOf, stepOf, stopped, judgeOf, judgeBytes}
+use Rattle.machine.specs.Judge.{verdictNo, rulingNo, told, startedOf, steppedOf, stepOf, stopped, judgeOf}
+use Rattle.machine.specs.Judge.{judgeBytes}
 use Rattle.machine.proofs.Promises as Machine
 use Rattle.search.specs.declared.ask.Outcome.the-variants.{Refused}
 use Rattle.search.specs.Question.{askOf, outcomeNo, toldOf, questionOf, shownOf}
@@ -162,6 +163,10 @@ module _ (c : Case) (unreadable : readsBack c ≡ false) where
 
   pub unchecked-judging : judgeOf c ≡ stopped 32 0
   unchecked-judging = Machine.judge-unreadable c unreadable
+
+  pub unchecked-starting : startedOf c ≡ told (Declined 32) (startOf (emptyCase .program))
+  unfolding startedOf
+  unchecked-starting = pick-true _ _ _ (false-not _ unreadable)
 
   pub unchecked-stepping : (s : State) (k : Step) → stepOf c s k ≡ told (Declined 32) s
   unfolding stepOf

@@ -10,38 +10,21 @@ use Rattle.cases.specs.declared.case.Step.{Step}
 use Rattle.cases.specs.declared.case.Case.{Case}
 use Rattle.cases.specs.Draft.{runWith, withRun}
 use Rattle.cases.specs.Writing.{readsBack}
-use Rattle.cases.proofs.Promises.{other-run-reads-back}
 use Rattle.machine.specs.declared.cells.State.{State}
 use Rattle.machine.specs.declared.runs.Judged.{Judged}
 use Rattle.machine.specs.declared.runs.Verdict.the-variants.{Legal}
 use Rattle.machine.specs.Rules.{startOf}
 use Rattle.machine.specs.Judge.{Leads, Faultless, verdictNo, judged, runOf, stopped, judgeOf}
-use Rattle.machine.proofs.Promises.{program-fits, full-length-most, run-faultless, judge-legal}
-use Rattle.machine.proofs.Promises.{judge-legal-state, judge-unreadable, run-again, faultless-at}
+use Rattle.machine.proofs.Promises.{run-faultless, judge-legal, judge-legal-state, judge-unreadable}
+use Rattle.machine.proofs.Promises.{run-again, rerun-passes}
 use Rattle.demands.specs.Runs.{LegalRun}
-use Rattle.demands.proofs.EndLaws.{none-longer}
 
 module _ (c : Case) (readable : readsBack c ≡ true) (ks : List Step) (u : State) where
   abbrev rerun : Case
   rerun = withRun c (runWith ks)
 
-  -- a legal run is short and faultless, so that the case with it reads
-  legal-readable : LegalRun (c .program) ks u → readsBack rerun ≡ true
-  legal-readable run =
-      let few = none-longer (c .program) (program-fits c readable) ks u run in
-      let most = full-length-most c readable in
-      other-run-reads-back c readable ks (omega arith) (faultless-at (c .program) ks (run .faultless))
-
   legal-judged : LegalRun (c .program) ks u → judgeOf rerun ≡ judged (Legal (length ks)) u
-  unfolding judged withRun
-  legal-judged run =
-      let r = legal-readable run in
-      let leads : Leads (c .program) (startOf (c .program)) (runOf rerun) u
-      = subst (λ js. Leads (c .program) (startOf (c .program)) js u) (sym (run-again c ks)) (run .leads) in
-      let verdict
-      = judge-legal rerun r .1 (u, leads) ∙ ap (λ (js : List Step). Legal (length js)) (run-again c ks) in
-      let state = judge-legal-state rerun r u leads in
-      λ i. record { verdict = verdict i; state = state i }
+  legal-judged run = rerun-passes c readable ks u (run .faultless) (run .leads)
 
   -- where the judge passes it the case with it reads, and so it is faultless
   judged-readable : judgeOf rerun .verdict ≡ Legal (length ks) → readsBack rerun ≡ true

@@ -8,6 +8,7 @@ use native.Mathlib.Omega.{arith}
 use native.Mathlib.Nat.{eq-or-lt-of-le, eq-zero-or-pos}
 use Rattle.cases.specs.declared.case.Program.{Program}
 use Rattle.cases.specs.Choice.{pick}
+use Rattle.cases.proofs.ChoiceLaws.{never-both}
 use Rattle.machine.specs.Rules.{countAt, instructionAt}
 use Rattle.demands.specs.Writes.{writes, Writer, LastWrite}
 use Rattle.demands.proofs.LastLaws.{lastOr, last-append, cons-some, append-some}
@@ -81,10 +82,6 @@ module _ (p : Program) (t l : ℕ) (f : ℕ → ℕ) where
       go w e (inr o) = inr (o .0, more-last i n (o .0) (o .1))
       go true e (inl o) = inr (i, more-here i n e o)
       go false e (inl o) = inl (more-none i n e o)
-
--- an instruction doesn't both write a location and not write it
-pub never-both : {b : Bool} → b ≡ true → b ≡ false → ⊥
-never-both e d = let z : _≡_ {A = ℕ} 0 1 = cc in absurd (omega arith)
 
 module _ (p : Program) where
   -- the last of what a thread has to come is what its last write fixes

@@ -10,7 +10,7 @@ use borrow.Author.Tests.{eqb-true}
 use lib.ListN.{getD}
 use Rattle.cases.specs.declared.case.Step.{Step}
 use Rattle.cases.specs.declared.case.Program.{Program}
-use Rattle.cases.proofs.ChoiceLaws.{both-true}
+use Rattle.cases.proofs.ChoiceLaws.{never-both, both-true}
 use Rattle.machine.specs.declared.cells.State.{State}
 use Rattle.machine.specs.View.{queue, buffer, wordOf, issuedOf}
 use Rattle.machine.specs.Rules.{countAt, instructionAt, startOf}
@@ -23,8 +23,8 @@ use Rattle.demands.proofs.LastLaws.{lastOr, Settles}
 use Rattle.demands.proofs.WriteLaws.{writesIn, storesIn, fixesFrom}
 use Rattle.demands.proofs.PassLaws.{coming}
 use Rattle.demands.proofs.SettleLaws.{newest, run-settles, run-keeps}
-use Rattle.demands.proofs.LastWriteLaws.{NoneFrom, LastFrom, last-or-none, never-both, fixes-last}
-use Rattle.demands.proofs.LastWriteLaws.{fixes-unwritten, last-one}
+use Rattle.demands.proofs.LastWriteLaws.{NoneFrom, LastFrom, last-or-none, fixes-last, fixes-unwritten}
+use Rattle.demands.proofs.LastWriteLaws.{last-one}
 use Rattle.demands.proofs.FixedLaws.{fixed-word}
 use Rattle.demands.proofs.EndLaws.{stuck-done, run-fits}
 

@@ -28,7 +28,7 @@ use Rattle.machine.proofs.Effects.{issue-buffer-other, issue-queue, issue-word,
 use Rattle.machine.proofs.Effects.{move-first-or, move-issued, move-buffer, move-buffer-other, move-queue}
 use Rattle.machine.proofs.Effects.{move-word, persist-issued, persist-buffer, persist-queue}
 use Rattle.machine.proofs.Effects.{persist-queue-other, persist-word-other}
-use Rattle.demands.specs.Writes.{writes, issuesAt, fixedFrom}
+use Rattle.demands.specs.Writes.{issuesAt, fixedFrom}
 use Rattle.demands.proofs.LastLaws.{lastOr}
 use Rattle.demands.proofs.WriteLaws.{onlyIf, writesIn, storeOf, storesIn, fixesFrom, writes-append}
 use Rattle.demands.proofs.WriteLaws.{stores-append, stores-without, fixes-same, enters-writes, splits}

@@ -13,19 +13,16 @@ use Rattle.cases.specs.declared.reader.Reading.{Reading}
 use Rattle.cases.specs.declared.writer.Wrote.the-variants.{Stored, Untouched}
 use Rattle.cases.specs.Sizes.{mostSteps}
 use Rattle.cases.specs.Choice.{pick, both, either, refuse}
-use Rattle.cases.specs.Bytes.{IsBytes, half, wordAt, halfBytes, wordBytes}
-use Rattle.cases.specs.Record.{payloadOf, headerIn, writeIn, instructionIn, stepIn, payloadBytes, recordBytes}
-use Rattle.cases.specs.Record.{recordOf, openNo, sizeOf}
-use Rattle.cases.specs.Checks.{misplaced, disordered, outside, beyond, leftOver, headerOut, usesRegister}
-use Rattle.cases.specs.Checks.{usesWord, instructionOut, instructionLeft, faultOf}
-use Rattle.cases.specs.Draft.{emptyCase, addOf, blankDraft, withInstruction, withProgram, withSizes}
-use Rattle.cases.specs.Reading.{numberOf, readFrom, readOf, endedOf, refusedOf}
-use Rattle.cases.specs.Places.{bytesAt, each, firstPlace, headerPlace, instructionPlace, passedPlace}
-use Rattle.cases.specs.Places.{placeBytes, placeOf, stepPlace, wantPlace, encodeOf}
-use Rattle.cases.specs.Writing.{sameAsk, sameCase, sameInstruction, sameList, sameProgram, sameRun, sameStep}
-use Rattle.cases.specs.Writing.{readsAs, readsBack, wroteOf}
+use Rattle.cases.specs.Bytes.{IsBytes, half}
+use Rattle.cases.specs.Record.{recordOf, openNo}
+use Rattle.cases.specs.Checks.{faultOf}
+use Rattle.cases.specs.Draft.{emptyCase, blankDraft}
+use Rattle.cases.specs.Reading.{numberOf, readOf}
+use Rattle.cases.specs.Places.{encodeOf}
+use Rattle.cases.specs.Writing.{readsBack, wroteOf}
 use Rattle.cases.proofs.Promises.{file-bytes, read-after-write}
 use Rattle.cases.proofs.ChoiceLaws.{true-not}
+use Rattle.cases.proofs.Computing.{reading-computes, writing-computes, testing-computes}
 use Rattle.machine.specs.declared.cells.State.{State}
 use Rattle.machine.specs.Rules.{countAt, instructionAt, persistRule, ruleIn, ruleOf, startOf}
 use Rattle.machine.specs.Fit.{ProgramFits, anyFrom}
@@ -46,12 +43,7 @@ use Rattle.demands.proofs.DemandThree.{any-thread}
 
 -- a case that can be read; its file, of bytes; one that cannot
 pub example-readable : readsBack example ≡ true
-unfolding example readsBack readsAs sameCase sameProgram sameAsk sameRun sameInstruction sameStep sameList
-    encodeOf each bytesAt placeBytes placeOf headerPlace firstPlace instructionPlace wantPlace passedPlace
-    stepPlace recordBytes payloadBytes halfBytes wordBytes readOf readFrom endedOf refusedOf openNo sizeOf
-    payloadOf half wordAt recordOf headerIn writeIn instructionIn stepIn faultOf misplaced disordered outside
-    beyond leftOver headerOut usesRegister usesWord instructionOut instructionLeft blankDraft emptyCase addOf
-    withProgram withSizes withInstruction pick both either refuse
+unfolding example testing-computes
 example-readable = refl
 
 pub example-bytes : IsBytes (encodeOf example) × (numberOf (readOf (encodeOf example) .answer) ≡ 0)
@@ -61,31 +53,27 @@ example-bytes = (
 )
 
 pub threadless-unreadable : readsBack threadless ≡ false
-unfolding threadless readsBack readsAs encodeOf each bytesAt placeBytes placeOf headerPlace firstPlace
-    instructionPlace wantPlace passedPlace stepPlace recordBytes payloadBytes halfBytes wordBytes readOf
-    readFrom refusedOf openNo sizeOf payloadOf half wordAt recordOf headerIn faultOf misplaced outside headerOut
-    blankDraft emptyCase pick both either refuse
+unfolding threadless testing-computes
 threadless-unreadable = refl
 
 -- bytes that do not read: none at all
 pub nothing-unread : numberOf (readOf [] .answer) ≢ 0
-unfolding readOf readFrom endedOf refusedOf blankDraft pick
+unfolding reading-computes
 nothing-unread e = absurd (omega arith)
 
 -- records that do not open, that are faulty and that are sound: one byte; a step before any program; a program
 pub one-byte-unopened : openNo (0 ∷ []) ≢ 0
-unfolding openNo refuse
+unfolding reading-computes
 one-byte-unopened e = absurd (omega arith)
 
 pub step-first-faulty : (openNo stepFirst ≡ 0)
     × (faultOf blankDraft (recordOf (half stepFirst 2) stepFirst) ≢ 0)
-unfolding openNo payloadOf half recordOf stepIn faultOf misplaced blankDraft pick refuse
+unfolding reading-computes
 step-first-faulty = (refl, (λ e. absurd (omega arith)))
 
 pub program-first-sound : (openNo programFirst ≡ 0)
     × (faultOf blankDraft (recordOf (half programFirst 2) programFirst) ≡ 0)
-unfolding openNo payloadOf half recordOf headerIn faultOf misplaced headerOut outside either blankDraft pick
-    refuse
+unfolding reading-computes
 program-first-sound = (refl, refl)
 
 -- lent bytes with room for a run of the full length, of any case: 8 for each step that a case can have
@@ -179,8 +167,7 @@ budget-none p fits a =
 
 -- lent bytes that are long enough for the file, and none
 pub example-length : length (encodeOf example) ≡ 44
-unfolding example emptyCase encodeOf each bytesAt placeBytes placeOf headerPlace firstPlace instructionPlace
-    wantPlace passedPlace stepPlace recordBytes payloadBytes halfBytes wordBytes pick
+unfolding example emptyCase writing-computes
 example-length = refl
 
 pub example-stored : wroteOf example (replicate 100 0) ≡ Stored 44

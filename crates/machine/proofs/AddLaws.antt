@@ -26,9 +26,8 @@ use Rattle.machine.specs.Rules.{effectOf}
 use Rattle.machine.specs.Joins.{joins, exchanges, enters}
 use Rattle.machine.specs.Fit.{Named}
 use Rattle.machine.proofs.OperationLaws.{each-operation, of}
-use Rattle.machine.proofs.ViewLaws.{queue-length, queue-same, queue-other, buffer-length, buffer-same}
-use Rattle.machine.proofs.ViewLaws.{buffer-other}
-use Rattle.machine.proofs.KeepLaws.{queue-within, buffer-within}
+use Rattle.machine.proofs.ViewLaws.{queue-same, queue-other, buffer-same, buffer-other}
+use Rattle.machine.proofs.KeepLaws.{queue-within, buffer-within, queue-long, buffer-long}
 use Rattle.machine.proofs.SpareLaws.{Spare, register-spare}
 
 -- u is s with b at the end of thread t's buffer and q l at the end of each queue l; registers aside
@@ -65,7 +64,7 @@ module _ (p : Program) (s : State) (t : ℕ) (o : Spare p s t) where
       let z = o .fit .program .few-threads in
       let m : t < mostThreads = omega arith in
       let n = buffer-within p s (o .fit) t m in
-      let h = buffer-length s (o .fit .sized) t m n in
+      let h = buffer-long p s (o .fit) t m in
       let w = o .place in
       let b : List Waiting = buffer s t ++ (record { entry = e } ∷ []) in
       let k : length b ≤ mostInstructions = simp (length-append, h) (omega arith) in
@@ -100,7 +99,7 @@ module _ (p : Program) (s : State) (t : ℕ) (o : Spare p s t) where
 
       short : length q ≤ room
       short =
-          let n = queue-length s (o .fit .sized) l in-range within in
+          let n = queue-long p s (o .fit) l in-range in
           let w = o .queues l in-range in
           simp (length-append, n) (omega arith)
 

@@ -1,11 +1,32 @@
--- Laws of the loops that ask whether something is true of one of n numbers. Assumes nothing.
-use Prim.Native.Nat.{ℕ, suc, _+_, _-_, _≤_, _<_}
-use mathlib.Core.Path.{_≡_}
+-- Laws of `anyFrom`: what it says of each number, and the loops that ask one after the other. Assumes nothing.
+use Prim.Native.Nat.{ℕ, zero, suc, _+_, _-_, _≤_, _<_}
+use mathlib.Core.Path.{_≡_, refl}
+use mathlib.Core.Logic.{_⊎_, inl, inr}
 use mathlib.Core.Bool.{Bool, true, false}
 use native.Mathlib.Omega.{arith}
+use native.Mathlib.Nat.{eq-or-lt-of-le}
 use native.Mathlib.Numerals.{add-one}
 use Rattle.cases.specs.Choice.{either}
+use Rattle.cases.proofs.ChoiceLaws.{either-false}
 use Rattle.machine.specs.Fit.{anyFrom}
+
+-- a test that is true of none of the n numbers from i on is false of each, and back
+pub any-none : (f : ℕ → Bool) (i n k : ℕ) → anyFrom i n f ≡ false → i ≤ k → k < i + n → f k ≡ false
+unfolding anyFrom
+any-none f i zero k h a b = absurd (omega arith)
+any-none f i (suc n) k h a b = go (eq-or-lt-of-le a) (either-false _ _ h) (any-none f (suc i) n k)
+  where
+    go : (i ≡ k) ⊎ (i < k) → (f i ≡ false) × (anyFrom (suc i) n f ≡ false)
+        → (anyFrom (suc i) n f ≡ false → suc i ≤ k → k < suc i + n → f k ≡ false)
+        → f k ≡ false
+    go (inl e) d next = rw e at (d .0)
+    go (inr l) d next = next (d .1) l (omega arith)
+
+pub none-any : (f : ℕ → Bool) (i n : ℕ) → ((k : ℕ) → i ≤ k → k < i + n → f k ≡ false) → anyFrom i n f ≡ false
+unfolding anyFrom either
+none-any f i zero h = refl
+none-any f i (suc n) h =
+    rw (h i (omega arith) (omega arith)) (none-any f (suc i) n (λ k a b. h k (omega arith) (omega arith)))
 
 -- a loop has asked the first i of n: those still to ask say what all say
 pub record AskedSoFar (f : ℕ → Bool) (n i : ℕ) : Type 0 where

@@ -29,9 +29,8 @@ use Rattle.machine.specs.Joins.{joins, exchanges, enters}
 use Rattle.machine.specs.Next.{issueStep, moveStep}
 use Rattle.machine.specs.Fit.{Fits}
 use Rattle.machine.proofs.PartLaws.{part-none, length-without}
-use Rattle.machine.proofs.ViewLaws.{buffer-length, buffer-same, buffer-other, issued-same}
-use Rattle.machine.proofs.ViewLaws.{issued-other}
-use Rattle.machine.proofs.KeepLaws.{buffer-within}
+use Rattle.machine.proofs.ViewLaws.{buffer-same, buffer-other, issued-same, issued-other}
+use Rattle.machine.proofs.KeepLaws.{buffer-within, buffer-long}
 use Rattle.machine.proofs.SpareLaws.{counted-spare, taken-spare}
 use Rattle.machine.proofs.IssueLaws as IssueLaws
 use Rattle.machine.proofs.StepLaws.{move-there, move-named}
@@ -110,13 +109,13 @@ module _ (p : Program) (s : State) (f : Fits p s) (t i : ℕ) (low : t < p .thre
   pub move-within : i < length (buffer s t)
   unfolding ruleOf ruleIn pick
   move-within =
-      let n = buffer-length s (f .sized) t in-threads within in
+      let n = buffer-long p s f t in-threads in
       let h = move-there p s f t i low legal in
       omega arith
 
   shorter : length (without i (buffer s t)) ≤ mostInstructions
   shorter =
-      let n = buffer-length s (f .sized) t in-threads within in
+      let n = buffer-long p s f t in-threads in
       let m = within in
       let h = length-without i (buffer s t) move-within in
       omega arith

@@ -1,11 +1,9 @@
 -- The test of a state's fit and the facts of it say the same. Assumes nothing.
-use Prim.Native.Nat.{ℕ, zero, suc, _+_, _≤_, _<_}
+use Prim.Native.Nat.{ℕ, _+_, _≤_, _<_}
 use mathlib.Core.Path.{_≡_, refl}
-use mathlib.Core.Logic.{_⊎_, inl, inr}
 use mathlib.Core.Bool.{Bool, true, false}
 use mathlib.Core.List.{List, [], _∷_}
 use native.Mathlib.Omega.{arith}
-use native.Mathlib.Nat.{eq-or-lt-of-le}
 use lib.Dec.{leb, ltb}
 use borrow.Author.Tests.{leb-true, leb-false, lt-leb, le-leb, ltb-false, le-ltb}
 use Rattle.cases.specs.declared.case.Program.{Program}
@@ -22,8 +20,9 @@ use Rattle.machine.specs.declared.cells.Entry.the-variants.{Store, Flush
 use Rattle.machine.specs.Sizes.{room}
 use Rattle.machine.specs.View.{queueLen, marksIn, buffer, bufferLen, issuedOf}
 use Rattle.machine.specs.Rules.{countAt, startOf}
-use Rattle.machine.specs.Fit.{anyFrom, strays, anyStrays, anyForeign, unissued, due, threadMisfits}
+use Rattle.machine.specs.Fit.{strays, anyStrays, anyForeign, unissued, due, threadMisfits}
 use Rattle.machine.specs.Fit.{queueMisfits, misfits, Sized, ProgramFits, Named, AllNamed, AllBorne, Fits}
+use Rattle.machine.proofs.AnyLaws.{any-none, none-any}
 use Rattle.machine.proofs.StartLaws.{ranged-fits, start-fits}
 
 -- two tests of which neither is true
@@ -42,24 +41,6 @@ is-none m i n h = go (leb m i) refl
     go : (b : Bool) → leb m i ≡ b → both b (ltb 0 n) ≡ false
     go true e = unfold both in le-ltb 0 n (let z = h (leb-true m i e) in omega arith)
     go false e = unfold both in refl
-
--- a test that is true of none of the numbers is false of each, and back
-any-none : (i n : ℕ) (f : ℕ → Bool) → anyFrom i n f ≡ false → (k : ℕ) → i ≤ k → k < i + n → f k ≡ false
-unfolding anyFrom
-any-none i zero f e k h l = absurd (omega arith)
-any-none i (suc n) f e k h l = go (either-false _ _ e) (eq-or-lt-of-le h) (any-none (suc i) n f)
-  where
-    go : (f i ≡ false) × (anyFrom (suc i) n f ≡ false) → (i ≡ k) ⊎ (i < k)
-        → (anyFrom (suc i) n f ≡ false → (k : ℕ) → suc i ≤ k → k < suc i + n → f k ≡ false)
-        → f k ≡ false
-    go d (inl p) ih = rw p at (d .0)
-    go d (inr p) ih = ih (d .1) k p (omega arith)
-
-none-any : (i n : ℕ) (f : ℕ → Bool) → ((k : ℕ) → k < i + n → f k ≡ false) → anyFrom i n f ≡ false
-unfolding anyFrom
-none-any i zero f h = refl
-none-any i (suc n) f h =
-    either-none _ _ (h i (omega arith)) (none-any (suc i) n f (λ k l. h k (omega arith)))
 
 -- entries: none is stray, so each names a location that there is, and back
 named-is : (n : ℕ) (e : Entry) → strays n e ≡ false → Named n e
@@ -170,17 +151,17 @@ module _ (p : Program) (s : State) where
       }
     where
       thread : (t : ℕ) → t < mostThreads → ThreadFits p s t
-      thread t k = thread-is t (any-none 0 mostThreads _ (either-false _ _ h .0) t (omega arith) (omega arith))
+      thread t k = thread-is t (any-none _ 0 mostThreads t (either-false _ _ h .0) (omega arith) (omega arith))
 
       queue : (l : ℕ) → l < mostLocations → QueueFits p s l
-      queue l k = queue-is l (any-none 0 mostLocations _ (either-false _ _ h .1) l (omega arith) (omega arith))
+      queue l k = queue-is l (any-none _ 0 mostLocations l (either-false _ _ h .1) (omega arith) (omega arith))
 
   -- and back
   pub is-fits : Fits p s → misfits p s ≡ false
   unfolding misfits
   is-fits f =
-      either-none _ _ (none-any 0 mostThreads _ (λ t k. is-thread t (thread t (omega arith))))
-      (none-any 0 mostLocations _ (λ l k. is-queue l (queue l (omega arith))))
+      either-none _ _ (none-any _ 0 mostThreads (λ t a b. is-thread t (thread t (omega arith))))
+      (none-any _ 0 mostLocations (λ l a b. is-queue l (queue l (omega arith))))
     where
       thread : (t : ℕ) → t < mostThreads → ThreadFits p s t
       thread t k =

@@ -11,20 +11,27 @@ use Rattle.cases.specs.Sizes.{mostThreads, mostInstructions, mostLocations}
 use Rattle.machine.specs.declared.cells.State.{State}
 use Rattle.machine.specs.declared.cells.Waiting.{Waiting}
 use Rattle.machine.specs.Sizes.{room}
-use Rattle.machine.specs.View.{Slot, marksOf, marksIn, queueLen, withQueue}
+use Rattle.machine.specs.View.{Slot, marksOf, marksIn, queue, queueLen, withQueue}
 use Rattle.machine.specs.View.{buffer, bufferLen, withBuffer, withWord, withRegister}
 use Rattle.machine.specs.Fit.{sumTo, unissued, due, Fits, AllNamed, AllBorne}
 use Rattle.machine.proofs.SumLaws.{sum-change}
-use Rattle.machine.proofs.ViewLaws.{queueLen-same, queueLen-other, marks-same, marks-other}
-use Rattle.machine.proofs.ViewLaws.{sized-queue, bufferLen-same, bufferLen-other}
+use Rattle.machine.proofs.ViewLaws.{queue-length, queueLen-same, queueLen-other, marks-same, marks-other}
+use Rattle.machine.proofs.ViewLaws.{sized-queue, buffer-length, bufferLen-same, bufferLen-other}
 use Rattle.machine.proofs.ViewLaws.{buffer-same, buffer-other, sized-buffer, sized-word, sized-register}
 
 module _ (p : Program) (s : State) (f : Fits p s) where
+  -- a queue and a buffer are within their room, and as long as their lengths say
   pub queue-within : (l : ℕ) → l < mostLocations → queueLen s l ≤ room
   queue-within l low = let w = f .few-queued l low in omega arith
 
   pub buffer-within : (t : ℕ) → t < mostThreads → bufferLen s t ≤ mostInstructions
   buffer-within t low = let w = f .few-waiting t low in omega arith
+
+  pub queue-long : (l : ℕ) → l < mostLocations → length (queue s l) ≡ queueLen s l
+  queue-long l low = queue-length s (f .sized) l low (queue-within l low)
+
+  pub buffer-long : (t : ℕ) → t < mostThreads → length (buffer s t) ≡ bufferLen s t
+  buffer-long t low = buffer-length s (f .sized) t low (buffer-within t low)
 
   -- a queue that keeps within the bounds, with markers of threads that there are
   module _ (l : ℕ) (low : l < p .locations) (q : List Slot) (few : length q + due p s ≤ room)

@@ -1,11 +1,12 @@
 -- The laws of the machine. Other crates can name Promises, Effects (what each step does to each part of the
--- state), and laws of general use: of the loops that ask whether something is true of one of n numbers, of being
--- on a list, and of the eight operations. No other.
+-- state), laws of general use: of whether something is true of one of n numbers, of being on a list, and of the
+-- eight operations, and what to unfold so that a definition computes. No other.
 pub mod Promises
 pub mod Effects
 pub mod AnyLaws
 pub mod ListLaws
 pub mod OperationLaws
+pub mod Computing
 -- lists in places, and the state's parts
 mod PartLaws
 mod SlotLaws

@@ -1,18 +1,18 @@
 -- Laws of `part`, `put`, `shift` and `without`, over lists of any type. Assumes nothing.
-use Prim.Native.Nat.{ℕ, zero, suc, _+_, _-_, _≤_, _<_}
-use mathlib.Core.Path.{_≡_, refl, sym, _∙_}
+use Prim.Native.Nat.{ℕ, suc, _+_, _-_, _≤_, _<_}
+use mathlib.Core.Path.{_≡_, refl, _∙_}
 use mathlib.Core.Logic.{_⊎_, inl, inr}
 use mathlib.Core.Bool.{Bool, true, false}
 use mathlib.Core.List.{List, [], _∷_, _++_, append-nil, append-assoc}
 use native.Mathlib.Omega.{arith}
-use native.Mathlib.Nat.{add-zero, add-suc, suc-add, sub-zero, zero-sub, suc-sub-suc}
 use native.Mathlib.Numerals.{add-one}
 use borrow.Author.Tests.{ltb-true, ltb-false}
 use lib.Dec.{ltb}
 use lib.ListN.{length, getD, set, take, drop, replicate, length-append, length-take, length-drop}
 use lib.ListN.{length-replicate, take-append-drop, drop-of-length-le}
-use lib.Seq.{take-nil, sets, sets-eq, drop-cons, take-suc, take-at, drop-at, getD-drop, getD-take, drop-drop}
+use lib.Seq.{sets, sets-eq, drop-cons, take-suc, take-at, drop-at, getD-drop, getD-take, drop-drop}
 use lib.Seq.{take-take, take-set-le, drop-set-lt, getD-set-other, length-take-le}
+use Rattle.cases.proofs.ArrayLaws.{drop-take, sets-append}
 use Rattle.machine.specs.View.{part, put, shift, closeGap, without}
 
 pub lt-or-ge : (a b : ℕ) → (a < b) ⊎ (b ≤ a)
@@ -27,12 +27,6 @@ module _ {ℓ} {A : Type ℓ} where
   pub length-part : (base n : ℕ) (xs : List A) → base + n ≤ length xs → length (part base n xs) ≡ n
   unfolding part
   length-part base n xs h = simp (length-take, length-drop) (omega arith)
-
-  drop-take : (k n : ℕ) (xs : List A) → drop k (take n xs) ≡ take (n - k) (drop k xs)
-  drop-take zero n xs = rw sub-zero
-  drop-take (suc k) zero xs = rw zero-sub
-  drop-take (suc k) (suc n) [] = sym (take-nil (suc n - suc k))
-  drop-take (suc k) (suc n) (x ∷ xs) = rw suc-sub-suc (drop-take k n xs)
 
   pub drop-part : (k base n : ℕ) (xs : List A) → drop k (part base n xs) ≡ part (base + k) (n - k) xs
   unfolding part
@@ -84,12 +78,7 @@ module _ {ℓ} {A : Type ℓ} where
   unfolding part
   part-front b k xs = let e : (b + k) - b ≡ k = omega arith in rw (drop-take b (b + k) xs, e)
 
-  -- sets: one run behind the other; what stands there already; what it leaves alone
-  sets-append : (xs : List A) (i : ℕ) (vs ws : List A)
-      → sets xs i (vs ++ ws) ≡ sets (sets xs i vs) (i + length vs) ws
-  sets-append xs i [] ws = rw add-zero
-  sets-append xs i (v ∷ vs) ws = rw add-suc (sets-append (set xs i v) (suc i) vs ws ∙ rw suc-add refl)
-
+  -- sets: what stands there already; what it leaves alone
   sets-same : (xs : List A) (base n : ℕ) → base + n ≤ length xs → sets xs base (part base n xs) ≡ xs
   unfolding part
   sets-same xs base n h =

@@ -17,8 +17,8 @@ use Rattle.machine.specs.Look.{wordOr}
 use Rattle.machine.specs.Rules.{persistFirst, persistOf, ruleIn, ruleOf, nextOf}
 use Rattle.machine.specs.Next.{persistStep}
 use Rattle.machine.specs.Fit.{Fits}
-use Rattle.machine.proofs.ViewLaws.{queue-length, queue-same, queue-other, sized-word}
-use Rattle.machine.proofs.KeepLaws.{queue-within}
+use Rattle.machine.proofs.ViewLaws.{queue-same, queue-other, sized-word}
+use Rattle.machine.proofs.KeepLaws.{queue-within, queue-long}
 use Rattle.machine.proofs.StepLaws.{persist-there}
 
 module _ (p : Program) (s : State) (f : Fits p s) (l : ℕ) (low : l < p .locations)
@@ -28,9 +28,6 @@ module _ (p : Program) (s : State) (f : Fits p s) (l : ℕ) (low : l < p .locati
 
   few : queueLen s l ≤ room
   few = queue-within p s f l in-locations
-
-  long : length (queue s l) ≡ queueLen s l
-  long = queue-length s (f .sized) l in-locations few
 
   abbrev taken : Slot → List Slot → State
   taken h q = withQueue (withWord s l (wordOr h (wordOf s l))) l q
@@ -42,7 +39,7 @@ module _ (p : Program) (s : State) (f : Fits p s) (l : ℕ) (low : l < p .locati
       go : (q : List Slot) → queue s l ≡ q
           → (h : Slot) × (r : List Slot) × (q ≡ h ∷ r) × (persistFirst s l q ≡ taken h r)
       go [] e =
-          let n = long in
+          let n = queue-long p s f l in-locations in
           let k : length (queue s l) ≡ 0 = ap length e in
           let w = persist-there p s f l low legal in
           absurd (omega arith)
@@ -50,7 +47,7 @@ module _ (p : Program) (s : State) (f : Fits p s) (l : ℕ) (low : l < p .locati
 
   short : length (oldest .1) ≤ room
   short =
-      let n = long in
+      let n = queue-long p s f l in-locations in
       let m = few in
       let k : length (queue s l) ≡ suc (length (oldest .1)) = ap length (oldest .2) in
       omega arith

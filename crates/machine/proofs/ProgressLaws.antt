@@ -5,7 +5,7 @@ use Prim.Native.Nat.{ℕ, zero, suc, _+_, _≤_, _<_}
 use mathlib.Core.Path.{_≡_, refl, sym, ap, _∙_}
 use mathlib.Core.Logic.{_⊎_, inl, inr, _≢_, ⊎-elim}
 use mathlib.Core.Bool.{false}
-use mathlib.Core.List.{List, [], _∷_}
+use mathlib.Core.List.{List, []}
 use native.Mathlib.Omega.{arith}
 use borrow.Author.Tests.{ne-eqb, lt-leb}
 use lib.ListN.{length, getD}
@@ -15,6 +15,7 @@ use Rattle.cases.specs.Choice.{pick, refuse}
 use Rattle.cases.specs.Checks.{stepFault}
 use Rattle.cases.specs.Sizes.{mostThreads, mostLocations}
 use Rattle.cases.proofs.ChoiceLaws.{pick-cases}
+use Rattle.cases.proofs.ArrayLaws.{length-none}
 use Rattle.machine.specs.declared.cells.State.{State}
 use Rattle.machine.specs.declared.cells.Entry.{Entry}
 use Rattle.machine.specs.declared.cells.Entry.the-variants.{Store, Flush, FlushOpt, Sfence}
@@ -29,8 +30,7 @@ use Rattle.machine.specs.Next.{issueStep, moveStep, persistStep}
 use Rattle.machine.specs.Offer.{Movable}
 use Rattle.machine.proofs.SumLaws.{sum-none, some-or-none}
 use Rattle.machine.proofs.PartLaws.{lt-or-ge}
-use Rattle.machine.proofs.ViewLaws.{queue-length, buffer-length}
-use Rattle.machine.proofs.KeepLaws.{queue-within, buffer-within}
+use Rattle.machine.proofs.KeepLaws.{queue-long, buffer-long}
 use Rattle.machine.proofs.ReadyLaws.{movable}
 use Rattle.machine.proofs.CandidateLaws.{issue-fault, move-fault, persist-fault}
 
@@ -58,11 +58,7 @@ module _ (marks lengths : List ℕ) (none : (l : ℕ) → l < mostLocations → 
   unfolding operationRule barrierRule refuse
   operation-none op waiting h = pick-cases (λ n. n ≡ 0) _ _ _ (λ b. rw (h, marked-none)) (λ b. refl)
 
--- a list is empty where its length is 0; one of n lists is not empty, or each is
-length-none : {A : Type 0} (xs : List A) → length xs ≡ 0 → xs ≡ []
-length-none [] h = refl
-length-none (x ∷ xs) h = absurd (omega arith)
-
+-- one of n lists is not empty, or each is
 abbrev EmptyOrNot : {A : Type 0} → ℕ → (ℕ → List A) → Type 0
 EmptyOrNot n f = ((i : ℕ) × (i < n) × (f i ≢ [])) ⊎ ((i : ℕ) → i < n → f i ≡ [])
 
@@ -85,22 +81,15 @@ work-none p s queues buffers code =
     omega arith
 
 module _ (p : Program) (s : State) (f : Fits p s) where
-  -- how long a queue is, and a buffer
-  queue-long : (l : ℕ) → l < mostLocations → length (queue s l) ≡ queueLen s l
-  queue-long l low = queue-length s (f .sized) l low (queue-within p s f l low)
-
-  buffer-long : (t : ℕ) → t < mostThreads → length (buffer s t) ≡ bufferLen s t
-  buffer-long t low = buffer-length s (f .sized) t low (buffer-within p s f t low)
-
   -- where the program's own are empty, every queue's length is 0, and every buffer's
   queues-none : ((l : ℕ) → l < p .locations → queue s l ≡ []) → (l : ℕ) → l < mostLocations → queueLen s l ≡ 0
   queues-none quiet l low =
-      ⊎-elim (λ h. sym (queue-long l low) ∙ ap length (quiet l h)) (f .no-queue l low)
+      ⊎-elim (λ h. sym (queue-long p s f l low) ∙ ap length (quiet l h)) (f .no-queue l low)
       (lt-or-ge l (p .locations))
 
   buffers-none : ((t : ℕ) → t < p .threads → buffer s t ≡ []) → (t : ℕ) → t < mostThreads → bufferLen s t ≡ 0
   buffers-none still t low =
-      ⊎-elim (λ h. sym (buffer-long t low) ∙ ap length (still t h)) (f .no-buffer t low)
+      ⊎-elim (λ h. sym (buffer-long p s f t low) ∙ ap length (still t h)) (f .no-buffer t low)
       (lt-or-ge t (p .threads))
 
   -- a queue that holds something: its oldest may persist
@@ -109,7 +98,7 @@ module _ (p : Program) (s : State) (f : Fits p s) where
   unfolding ruleOf ruleIn pick persistRule refuse
   persist-legal l low h =
       let few = f .program .few-locations in
-      let n = queue-long l (omega arith) in
+      let n = queue-long p s f l (omega arith) in
       (persist-fault p l low, rw (ne-eqb _ _ (λ e. h (length-none _ (n ∙ e)))))
 
   -- where every queue is empty any thread's first entry may move, and a thread with an empty buffer may issue
@@ -119,7 +108,7 @@ module _ (p : Program) (s : State) (f : Fits p s) where
     unfolding ruleOf ruleIn pick moveRule refuse Movable
     move-legal t low h =
         let few = f .program .few-threads in
-        let n = buffer-long t (omega arith) in
+        let n = buffer-long p s f t (omega arith) in
         let held : bufferLen s t ≢ 0 = λ e. h (length-none _ (n ∙ e)) in
         let some : 0 < bufferLen s t = omega arith in
         let named = movable p s f t (omega arith) .1 in (
@@ -132,7 +121,7 @@ module _ (p : Program) (s : State) (f : Fits p s) where
     unfolding ruleOf ruleIn pick issueRule refuse
     issue-legal t low h left =
         let few = f .program .few-threads in
-        let n = sym (buffer-long t (omega arith)) ∙ ap length h in (
+        let n = sym (buffer-long p s f t (omega arith)) ∙ ap length h in (
           issue-fault p t low,
           rw (lt-leb _ _ left) (operation-none (s .marks) (s .lengths) (queues-none quiet) t _ (s .waiting) n),
         )

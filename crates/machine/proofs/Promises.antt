@@ -1,12 +1,11 @@
 -- What the machine promises to the layers above: all that they may cite, but for what each step does to each
 -- part of the state, which is Effects. Each law is stated in full. Assumes nothing.
-use Prim.Native.Nat.{ℕ, _+_, _-_, _<_, _≤_}
+use Prim.Native.Nat.{ℕ, _+_, _<_, _≤_}
 use mathlib.Core.Path.{_≡_, refl, sym, _∙_}
 use mathlib.Core.Logic.{_⊎_, _≢_, _↔_}
 use mathlib.Core.List.{List, [], _∷_, map}
 use mathlib.Core.Bool.{true, false}
-use lib.ListN.{length, getD, take, drop, replicate}
-use lib.Seq.{take-at}
+use lib.ListN.{length, getD, take, drop}
 use borrow.Author.Tests.{eq-eqb, ne-eqb}
 use Rattle.cases.specs.declared.case.Step.{Step}
 use Rattle.cases.specs.declared.case.Program.{Program}
@@ -28,7 +27,8 @@ use Rattle.machine.specs.Rules.{countAt, ruleOf, nextOf, startOf}
 use Rattle.machine.specs.Fit.{sumTo, misfits, Sized, ProgramFits, Fits, Shallow}
 use Rattle.machine.specs.Work.{work, Unfinished, fullLength, programWeight, cost}
 use Rattle.machine.specs.Judge.{Leads, Faultless, StopsAt, rulingNo, told, steppedOf, stepOf, verdictNo}
-use Rattle.machine.specs.Judge.{verdictPlace, judgeFrom, runOf, judgeRun, stopped, judgeOf, judgeBytes}
+use Rattle.machine.specs.Judge.{verdictPlace, judged, judgeFrom, runOf, judgeRun, stopped, judgeOf}
+use Rattle.machine.specs.Judge.{judgeBytes}
 use Rattle.machine.specs.Next.{issueStep, moveStep, persistStep, legalSteps, rankOf, stepAt, nextSteps}
 use Rattle.machine.specs.Next.{Listed, Ascending}
 use Rattle.machine.specs.Offer.{Movable}
@@ -163,13 +163,17 @@ ask-not-looked-at c a = refl
 
 -- the run of a case with the steps ks is ks
 pub run-again : (c : Case) (ks : List Step) → runOf (withRun c (runWith ks)) ≡ ks
-unfolding withRun runWith
-run-again c ks = take-at ks (replicate (mostSteps - length ks) noStep) (length ks) refl
+run-again = RunLaws.run-again
 
--- 5 and 8 have nothing against any step of a faultless run
-pub faultless-at : (p : Program) (ks : List Step) → Faultless p ks → (i : ℕ) → i < length ks
-    → stepFault p (getD ks i noStep) ≡ 0
-faultless-at = RunLaws.faultless-at
+-- where they are a legal run of a case that passes the test for 32: the case with them passes it too, and the
+-- judge passes them, with their number and their end
+module _ (c : Case) (readable : readsBack c ≡ true) (ks : List Step) (u : State)
+    (faultless : Faultless (c .program) ks) (legal : Leads (c .program) (startOf (c .program)) ks u) where
+  pub rerun-reads : readsBack (withRun c (runWith ks)) ≡ true
+  rerun-reads = RunLaws.rerun-reads c readable ks u faultless legal
+
+  pub rerun-passes : judgeOf (withRun c (runWith ks)) ≡ judged (Legal (length ks)) u
+  rerun-passes = RunLaws.rerun-passes c readable ks u faultless legal
 
 -- A state that fits its program
 module _ (p : Program) (s : State) (fit : Fits p s) where

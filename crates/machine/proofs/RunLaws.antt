@@ -1,32 +1,37 @@
--- A run judged step by step: the loop's turns. Assumes nothing.
-use Prim.Native.Nat.{ℕ, zero, suc, _+_, _≤_, _<_}
-use mathlib.Core.Path.{_≡_, sym, ap, _∙_, subst}
+-- A run judged step by step: the loop's turns; what a legal run keeps; a legal run put into a case as its
+-- steps. Assumes nothing.
+use Prim.Native.Nat.{ℕ, zero, suc, _+_, _-_, _≤_, _<_}
+use mathlib.Core.Path.{_≡_, refl, sym, ap, _∙_, subst}
 use mathlib.Core.Logic.{_≢_}
+use mathlib.Core.Bool.{true}
 use mathlib.Core.List.{List, [], _∷_}
 use native.Mathlib.Omega.{arith}
 use native.Mathlib.Numerals.{add-one}
-use lib.ListN.{length, getD, take, drop}
+use lib.ListN.{length, getD, take, drop, replicate}
+use lib.Seq.{take-at}
 use Rattle.cases.specs.declared.case.Step.{Step}
 use Rattle.cases.specs.declared.case.Program.{Program}
 use Rattle.cases.specs.declared.case.Case.{Case}
 use Rattle.cases.specs.Sizes.{mostSteps}
 use Rattle.cases.specs.Checks.{stepFault}
-use Rattle.cases.specs.Draft.{noStep}
+use Rattle.cases.specs.Draft.{noStep, runWith, withRun}
 use Rattle.cases.specs.declared.reader.Reading.{Reading}
 use Rattle.cases.specs.Ranges.{Ranged}
 use Rattle.cases.specs.Reading.{numberOf, readOf}
-use Rattle.cases.proofs.Promises.{read-ranged}
+use Rattle.cases.specs.Writing.{readsBack}
+use Rattle.cases.proofs.Promises.{read-ranged, readable-ranged, other-run-reads-back}
+use Rattle.cases.proofs.ChoiceLaws.{pick-false, true-not}
 use Rattle.machine.specs.declared.cells.State.{State}
 use Rattle.machine.specs.declared.runs.Verdict.the-variants.{Legal, Illegal}
 use Rattle.machine.specs.Rules.{ruleOf, nextOf, startOf}
 use Rattle.machine.specs.Fit.{Fits}
-use Rattle.machine.specs.Work.{work}
-use Rattle.machine.specs.Judge.{Leads, Faultless, runOf, judged, judgeFrom}
+use Rattle.machine.specs.Work.{work, fullLength}
+use Rattle.machine.specs.Judge.{Leads, Faultless, judged, judgeFrom, runOf, judgeRun, judgeOf}
 use Rattle.machine.proofs.PartLaws.{take-next, take-end}
-use Rattle.machine.proofs.StartLaws.{ranged-fits, start-fits}
+use Rattle.machine.proofs.StartLaws.{ranged-fits, start-fits, full-most}
 use Rattle.machine.proofs.RangeLaws.{fault-none}
 use Rattle.machine.proofs.StepLaws.{step-fits, step-work}
-use Rattle.machine.proofs.JudgeLaws.{judge-next, judge-here}
+use Rattle.machine.proofs.JudgeLaws.{judge-next, judge-here, says-legal}
 
 -- i of n steps are taken and lead from the start, s₀, to s: what is still to judge says what the whole run says
 pub record JudgedSoFar (p : Program) (steps : List Step) (n : ℕ) (s₀ : State) (s : State) (i : ℕ) : Type 0 where
@@ -136,3 +141,27 @@ run-faultless c r =
     let few = r .few-steps in
     let long = r .steps-long in
     front-faultless (c .program) (c .run .count) (c .run .steps) (omega arith) (r .steps)
+
+-- the run of a case with the steps ks is ks
+pub run-again : (c : Case) (ks : List Step) → runOf (withRun c (runWith ks)) ≡ ks
+unfolding withRun runWith
+run-again c ks = take-at ks (replicate (mostSteps - length ks) noStep) (length ks) refl
+
+-- where they are a legal run of a case that can be read: the case with them can be read, and the judge passes
+-- them
+module _ (c : Case) (readable : readsBack c ≡ true) (ks : List Step) (u : State)
+    (faultless : Faultless (c .program) ks) (legal : Leads (c .program) (startOf (c .program)) ks u) where
+  pub rerun-reads : readsBack (withRun c (runWith ks)) ≡ true
+  unfolding fullLength
+  rerun-reads =
+      let fits = ranged-fits c (readable-ranged c readable) in
+      let most = full-most (c .program) fits in
+      let spent = leads-work (c .program) _ ks u (start-fits (c .program) fits) faultless legal in
+      other-run-reads-back c readable ks (omega arith) (faultless-at (c .program) ks faultless)
+
+  pub rerun-passes : judgeOf (withRun c (runWith ks)) ≡ judged (Legal (length ks)) u
+  unfolding judgeOf judgeRun withRun
+  rerun-passes =
+      pick-false _ _ _ (true-not _ rerun-reads)
+      ∙ ap (judgeFrom (c .program) 0 (startOf (c .program))) (run-again c ks)
+      ∙ says-legal (c .program) (startOf (c .program)) ks u legal

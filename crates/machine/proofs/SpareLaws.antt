@@ -21,11 +21,9 @@ use Rattle.machine.specs.Fit.{sumTo, unissued, due, Fits, Named, AllName
 use Rattle.machine.proofs.SumLaws.{sum-change}
 use Rattle.machine.proofs.PartLaws.{length-without}
 use Rattle.machine.proofs.SlotLaws.{marks-append}
-use Rattle.machine.proofs.ViewLaws.{marks-queue, queue-length, buffer-length, bufferLen-same}
-use Rattle.machine.proofs.ViewLaws.{sized-issued}
-use Rattle.machine.proofs.ViewLaws.{issued-same, issued-other}
-use Rattle.machine.proofs.KeepLaws.{queue-within, buffer-within, fits-queue, due-buffer, fits-buffer}
-use Rattle.machine.proofs.KeepLaws.{fits-register}
+use Rattle.machine.proofs.ViewLaws.{marks-queue, bufferLen-same, sized-issued, issued-same, issued-other}
+use Rattle.machine.proofs.KeepLaws.{queue-within, buffer-within, queue-long, buffer-long, fits-queue}
+use Rattle.machine.proofs.KeepLaws.{due-buffer, fits-buffer, fits-register}
 
 -- a list's entries, one by one
 pub named-get : (n : ℕ) (b : List Waiting) (i : ℕ) (d : Waiting) → AllNamed n b → i < length b
@@ -75,7 +73,7 @@ module _ (p : Program) (s : State) (f : Fits p s) (t i : ℕ) (low : t < p .thre
 
   shorter : suc (length (without i (buffer s t))) ≡ bufferLen s t
   shorter =
-      let e = buffer-length s (f .sized) t in-threads (buffer-within p s f t in-threads) in
+      let e = buffer-long p s f t in-threads in
       length-without i (buffer s t) (omega arith) ∙ e
 
   pub taken-spare : Spare p (withBuffer s t (without i (buffer s t))) t
@@ -168,7 +166,7 @@ module _ (p : Program) (s : State) (t : ℕ) (o : Spare p s t) where
   unfolding await
   await-fits low e named =
       let z = o .fit .program .few-threads in
-      let n = buffer-length s (o .fit .sized) t (omega arith) (buffer-within p s (o .fit) t (omega arith)) in
+      let n = buffer-long p s (o .fit) t (omega arith) in
       let k : length (buffer s t ++ (record { entry = e } ∷ [])) ≡ suc (bufferLen s t)
       = simp (length-append, n) (omega arith) in
       let w = o .place in
@@ -182,7 +180,7 @@ module _ (p : Program) (s : State) (t : ℕ) (o : Spare p s t) where
   unfolding enqueue
   enqueue-fits l low h few =
       let z = o .fit .program .few-locations in
-      let n = queue-length s (o .fit .sized) l (omega arith) (queue-within p s (o .fit) l (omega arith)) in
+      let n = queue-long p s (o .fit) l (omega arith) in
       let k : length (queue s l ++ (h ∷ [])) ≡ suc (queueLen s l) = simp (length-append, n) (omega arith) in
       let w = o .queues l (omega arith) in
       fits-queue p s (o .fit) l low (queue s l ++ (h ∷ [])) (omega arith)

@@ -1,17 +1,18 @@
 -- Where a run starts: the start fits every program of a case that can be read, and its work, the full length,
 -- is at most the number of steps of a case. Assumes nothing.
-use Prim.Native.Nat.{ℕ, zero, suc, _+_, _*_, _-_, _≤_, _<_}
+use Prim.Native.Nat.{ℕ, _+_, _*_, _-_, _≤_, _<_}
 use mathlib.Core.Path.{_≡_, refl}
 use mathlib.Core.List.{List, [], _∷_}
 use native.Mathlib.Omega.{arith}
 use native.Mathlib.Nat.{add-zero}
-use lib.ListN.{length, getD, replicate, length-replicate}
+use lib.ListN.{length, getD, length-replicate}
 use Rattle.cases.specs.declared.case.Instruction.{Instruction}
 use Rattle.cases.specs.declared.case.Program.{Program}
 use Rattle.cases.specs.declared.case.Case.{Case}
 use Rattle.cases.specs.Sizes.{mostThreads, mostInstructions, mostLocations, mostSteps, mostCode}
 use Rattle.cases.specs.Ranges.{Ranged}
 use Rattle.cases.proofs.ChoiceLaws.{pick-cases}
+use Rattle.cases.proofs.ArrayLaws.{getD-blank}
 use Rattle.machine.specs.Sizes.{room, mostSlots, mostPlaces}
 use Rattle.machine.specs.View.{part, slots, marksIn, queue, queueIn, queueLen, buffer, bufferIn}
 use Rattle.machine.specs.View.{bufferLen, blankWaiting, issuedOf, wordOf}
@@ -34,21 +35,15 @@ ranged-fits c r =
       instructions = r .instructions;
     }
 
--- nothing of nothing
-zeros : (n i : ℕ) → getD {A = ℕ} (replicate n 0) i 0 ≡ 0
-zeros zero i = refl
-zeros (suc n) zero = refl
-zeros (suc n) (suc i) = zeros n i
-
 -- the start's parts: nothing queued, waiting or issued, the first contents
 module _ (p : Program) where
   no-queue : (l : ℕ) → queueLen (startOf p) l ≡ 0
   unfolding startOf
-  no-queue l = zeros mostLocations l
+  no-queue l = getD-blank {A = ℕ} mostLocations l 0
 
   no-buffer : (t : ℕ) → bufferLen (startOf p) t ≡ 0
   unfolding startOf
-  no-buffer t = zeros mostThreads t
+  no-buffer t = getD-blank {A = ℕ} mostThreads t 0
 
   no-words : (l : ℕ) → part (l * room) (queueLen (startOf p) l) (startOf p .held) ≡ []
   no-words l = part-none _ _ _ (no-queue l)
@@ -67,7 +62,7 @@ module _ (p : Program) where
 
   pub start-issued : (t : ℕ) → issuedOf (startOf p) t ≡ 0
   unfolding startOf
-  start-issued t = zeros mostThreads t
+  start-issued t = getD-blank {A = ℕ} mostThreads t 0
 
   pub start-word : (l : ℕ) → wordOf (startOf p) l ≡ getD (p .first) l 0
   unfolding startOf

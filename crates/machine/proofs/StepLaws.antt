@@ -24,8 +24,7 @@ use Rattle.machine.specs.Rules.{issueOf, effectOf, entryAt, moveRule, mo
 use Rattle.machine.specs.Rules.{persistOf, ruleIn, ruleOf, nextOf}
 use Rattle.machine.specs.Fit.{Fits, Named, AllBorne, due, unissued}
 use Rattle.machine.specs.Work.{waitingWeight, work, cost}
-use Rattle.machine.proofs.ViewLaws.{queue-length, buffer-length}
-use Rattle.machine.proofs.KeepLaws.{queue-within, buffer-within, fits-queue, fits-word}
+use Rattle.machine.proofs.KeepLaws.{queue-within, queue-long, buffer-long, fits-queue, fits-word}
 use Rattle.machine.proofs.SpareLaws.{Spare, named-get, marks-fit, taken-spare}
 use Rattle.machine.proofs.SpareLaws.{enqueue-fits}
 use Rattle.machine.proofs.WorkLaws.{work-queue, work-enqueue, work-without}
@@ -64,7 +63,7 @@ module _ (p : Program) (s : State) (f : Fits p s) (t i : ℕ) (low : t < p .thre
   pub move-named : Named (p .locations) (entryAt (buffer s t) i)
   move-named =
       let z = f .program .few-threads in
-      let n = buffer-length s (f .sized) t (omega arith) (buffer-within p s f t (omega arith)) in
+      let n = buffer-long p s f t (omega arith) in
       let h = move-there in
       named-get (p .locations) (buffer s t) i blankWaiting (f .named t (omega arith)) (omega arith)
 
@@ -93,16 +92,13 @@ module _ (p : Program) (s : State) (f : Fits p s) (l : ℕ) (low : l < p .locati
   unfolding persistRule
   persist-there = let e : queueLen s l ≢ 0 = eqb-false _ _ (refuse-none _ 28 _ legal .0) in omega arith
 
-  long : length (queue s l) ≡ queueLen s l
-  long = queue-length s (f .sized) l in-range (queue-within p s f l in-range)
-
   -- the oldest entry, the rest, and what becomes of them
   first-fits : (q : List Slot) → queue s l ≡ q → Fits p (persistFirst s l q)
   unfolding persistFirst
   first-fits [] e = f
   first-fits (h ∷ q) e =
       let k : length (queue s l) ≡ suc (length q) = ap length e in
-      let n = long in
+      let n = queue-long p s f l in-range in
       let d : due p (withWord s l (wordOr h (wordOf s l))) ≡ due p s = unfold withWord due unissued in refl in
       let w = f .few-queued l in-range in
       let b : AllBorne (p .threads) (marksOf (h ∷ q))
@@ -114,12 +110,12 @@ module _ (p : Program) (s : State) (f : Fits p s) (l : ℕ) (low : l < p .locati
   unfolding persistFirst
   first-work [] e =
       let k : length (queue s l) ≡ 0 = ap length e in
-      let n = long in
+      let n = queue-long p s f l in-range in
       let h = persist-there in
       absurd (omega arith)
   first-work (h ∷ q) e =
       let k : length (queue s l) ≡ suc (length q) = ap length e in
-      let n = long in
+      let n = queue-long p s f l in-range in
       let m = queue-within p s f l in-range in
       let x = wordOr h (wordOf s l) in
       let v = work-word p s f l x in

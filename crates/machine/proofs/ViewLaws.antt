@@ -1,9 +1,10 @@
 -- Laws of the state's parts: what is put is what is there, and the other parts stay. Assumes nothing.
-use Prim.Native.Nat.{ℕ, _+_, _*_, _≤_, _<_}
+use Prim.Native.Nat.{ℕ, suc, _+_, _*_, _≤_, _<_}
 use mathlib.Core.Path.{_≡_, sym, _∙_}
 use mathlib.Core.Logic.{_⊎_, inl, inr, _≢_}
 use mathlib.Core.List.{List}
 use native.Mathlib.Omega.{arith}
+use native.Mathlib.Nat.{suc-mul, mul-le-mul-right}
 use lib.ListN.{length, getD, set, length-set}
 use lib.Seq.{length-sets, getD-set-same, getD-set-other}
 use Rattle.cases.specs.Sizes.{mostThreads, mostInstructions, mostLocations}
@@ -18,23 +19,16 @@ use Rattle.machine.proofs.PartLaws.{length-part, part-put-same, part-pu
 use Rattle.machine.proofs.SlotLaws.{words-slots, marks-slots, slots-apart, length-slots, length-words}
 use Rattle.machine.proofs.SlotLaws.{length-marks}
 
--- row k, of which n are in use, lies before row l or behind it
-apart : (k l n : ℕ) → k ≢ l → n ≤ room → (k * room + n ≤ l * room) ⊎ (l * room + room ≤ k * room)
-apart k l n h m = go (lt-or-ge k l)
+-- of rows as wide as w, row k, of which n are in use, lies before row l or behind it
+apart : (w k l n : ℕ) → k ≢ l → n ≤ w → (k * w + n ≤ l * w) ⊎ (l * w + w ≤ k * w)
+apart w k l n h m = go (lt-or-ge k l)
   where
-    go : (k < l) ⊎ (l ≤ k) → (k * room + n ≤ l * room) ⊎ (l * room + room ≤ k * room)
-    go (inl w) = inl (omega arith)
-    go (inr w) = inr (let v : (l ≡ k → ⊥) = (λ y. h (sym y)) in omega arith)
-
-apart-buffers : (k t n : ℕ) → k ≢ t → n ≤ mostInstructions
-    → (k * mostInstructions + n ≤ t * mostInstructions)
-    ⊎ (t * mostInstructions + mostInstructions ≤ k * mostInstructions)
-apart-buffers k t n h m = go (lt-or-ge k t)
-  where
-    go : (k < t) ⊎ (t ≤ k) → (k * mostInstructions + n ≤ t * mostInstructions)
-        ⊎ (t * mostInstructions + mostInstructions ≤ k * mostInstructions)
-    go (inl w) = inl (omega arith)
-    go (inr w) = inr (let v : (t ≡ k → ⊥) = (λ y. h (sym y)) in omega arith)
+    go : (k < l) ⊎ (l ≤ k) → (k * w + n ≤ l * w) ⊎ (l * w + w ≤ k * w)
+    go (inl b) = inl (let r = mul-le-mul-right {m = suc k} {n = l} w b in omega (arith, suc-mul k w))
+    go (inr b) =
+        let v : (l ≡ k → ⊥) = λ y. h (sym y) in
+        let r = mul-le-mul-right {m = suc l} {n = k} w (omega arith) in
+        inr (omega (arith, suc-mul l w))
 
 -- A queue's words, its marks, its length
 module _ (held marks lengths : List ℕ) (l : ℕ) (h : l * room + getD lengths l 0 ≤ length held)
@@ -102,7 +96,7 @@ module _ (s : State) (z : Sized s) (l : ℕ) (low : l < mostLocations) (n : queu
           let a = length-marks q in
           let e : getD (set (s .lengths) l (length q)) k 0 ≡ queueLen s k = queueLen-other k h in
           rw e (part-put-other 0 (l * room) (queueLen s l) (marksOf q) (s .marks) (k * room) (queueLen s k) room
-          n (omega arith) (apart k l (queueLen s k) h f))
+          n (omega arith) (apart room k l (queueLen s k) h f))
 
       words-other : part (k * room) (queueLen (withQueue s l q) k) (withQueue s l q .held)
           ≡ part (k * room) (queueLen s k) (s .held)
@@ -111,7 +105,7 @@ module _ (s : State) (z : Sized s) (l : ℕ) (low : l < mostLocations) (n : queu
           let a = length-words q in
           let e : getD (set (s .lengths) l (length q)) k 0 ≡ queueLen s k = queueLen-other k h in
           rw e (part-put-other 0 (l * room) (queueLen s l) (wordsOf q) (s .held) (k * room) (queueLen s k) room
-          n (omega arith) (apart k l (queueLen s k) h f))
+          n (omega arith) (apart room k l (queueLen s k) h f))
 
       pub queue-other : queue (withQueue s l q) k ≡ queue s k
       unfolding queueIn
@@ -160,7 +154,8 @@ module _ (s : State) (z : Sized s) (t : ℕ) (low : t < mostThreads) (n : buffer
     buffer-other k h f =
         let e : getD (set (s .waiting) t (length b)) k 0 ≡ bufferLen s k = bufferLen-other k h in
         rw e (part-put-other blankWaiting (t * mostInstructions) (bufferLen s t) b (s .buffers)
-        (k * mostInstructions) (bufferLen s k) mostInstructions n m (apart-buffers k t (bufferLen s k) h f))
+        (k * mostInstructions) (bufferLen s k) mostInstructions n m
+        (apart mostInstructions k t (bufferLen s k) h f))
 
     pub sized-buffer : Sized (withBuffer s t b)
     unfolding withBuffer put

@@ -24,9 +24,9 @@ use Rattle.machine.specs.Work.{unissuedWeight, waitingWeight, weighCode,
 use Rattle.machine.specs.Work.{threadWork, work}
 use Rattle.machine.proofs.SumLaws.{sum-change}
 use Rattle.machine.proofs.PartLaws.{part-next, drop-part, length-without}
-use Rattle.machine.proofs.ViewLaws.{queue-length, queueLen-same, queueLen-other, buffer-length}
+use Rattle.machine.proofs.ViewLaws.{queueLen-same, queueLen-other}
 use Rattle.machine.proofs.ViewLaws.{buffer-same, buffer-other, issued-same, issued-other}
-use Rattle.machine.proofs.KeepLaws.{queue-within, buffer-within}
+use Rattle.machine.proofs.KeepLaws.{queue-within, buffer-within, queue-long, buffer-long}
 use Rattle.machine.proofs.SpareLaws.{unissued-same, unissued-other}
 
 -- a buffer's weight: one more at its end; one taken out
@@ -68,7 +68,7 @@ module _ (p : Program) (s : State) (f : Fits p s) where
       → work p (enqueue s l h) ≡ suc (work p s)
   unfolding enqueue
   work-enqueue l low less h =
-      let n = queue-length s (f .sized) l low (omega arith) in
+      let n = queue-long p s f l low in
       let k : length (queue s l ++ (h ∷ [])) ≡ suc (queueLen s l) = simp (length-append, n) (omega arith) in
       let w = work-queue l low (queue s l ++ (h ∷ [])) (omega arith) in
       omega arith
@@ -106,7 +106,7 @@ module _ (p : Program) (s : State) (f : Fits p s) where
       → work p (await s t e) ≡ work p s + waitingWeight e
   unfolding await
   work-await t low less e =
-      let n = buffer-length s (f .sized) t low (omega arith) in
+      let n = buffer-long p s f t low in
       let k : length (buffer s t ++ (record { entry = e } ∷ [])) ≡ suc (bufferLen s t)
       = simp (length-append, n) (omega arith) in
       let w = work-buffer t low (buffer s t ++ (record { entry = e } ∷ [])) (omega arith) in
@@ -118,7 +118,7 @@ module _ (p : Program) (s : State) (f : Fits p s) where
       → work p (withBuffer s t (without i (buffer s t))) + waitingWeight (getD (buffer s t) i d .entry)
       ≡ work p s
   work-without t i d low there =
-      let n = buffer-length s (f .sized) t low (buffer-within p s f t low) in
+      let n = buffer-long p s f t low in
       let k = length-without i (buffer s t) (omega arith) in
       let m = buffer-within p s f t low in
       let w = work-buffer t low (without i (buffer s t)) (omega arith) in

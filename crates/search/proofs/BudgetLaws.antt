@@ -1,10 +1,10 @@
 -- The answer by budget, over any list of runs: each of the three exactly when 01 says so. Assumes nothing.
-use Prim.Native.Nat.{ℕ, zero, suc, _+_, _-_, _<_, _≤_}
+use Prim.Native.Nat.{ℕ, suc, _+_, _-_, _<_, _≤_}
 use mathlib.Core.Path.{_≡_, refl, sym, ap, subst, _∙_}
-use mathlib.Core.Logic.{_⊎_, inl, inr}
+use mathlib.Core.Logic.{inl, inr}
 use mathlib.Core.Bool.{Bool, true, false}
 use mathlib.Core.List.{List, [], _∷_, _++_, append-assoc}
-use lib.ListN.{length, take, drop, length-append, take-append-drop}
+use lib.ListN.{length, take, drop, length-append, length-take, take-append-drop}
 use lib.Seq.{take-at, take-all, take-append-add}
 use lib.Dec.{leb}
 use borrow.Author.Tests.{leb-true, leb-false, le-leb, lt-leb}
@@ -13,11 +13,6 @@ use Rattle.machine.specs.Next.{Listed}
 use Rattle.search.specs.Walk.{Visit}
 use Rattle.search.specs.Question.{First, found, missing, firstOf, reached, unreachable, undecided}
 use Rattle.search.specs.Question.{decidedBy, decided, None, FirstThat}
-
-take-most : {A : Type 0} (b : ℕ) (xs : List A) → length (take b xs) ≤ b
-take-most zero xs = omega arith
-take-most (suc b) [] = omega arith
-take-most (suc b) (x ∷ xs) = let h = take-most b xs in omega arith
 
 module _ {S K : Type 0} (test : S → Bool) where
   -- the first of some runs that passes, by itself: it stands there, or none does
@@ -29,9 +24,14 @@ module _ {S K : Type 0} (test : S → Bool) where
   first-here v vs t =
       ([], v, record { after = vs; stands = refl; passes = t; none = λ w h. absurd h }, refl)
 
+  none-next : (v : Visit S K) (vs : List (Visit S K)) → test (v .end) ≡ false → None test vs
+      → None test (v ∷ vs)
+  unfolding None Listed
+  none-next v vs t f x (inl e) = ap (λ y. test (y .end)) e ∙ t
+  none-next v vs t f x (inr h) = f x h
+
   first-next : (v : Visit S K) (vs : List (Visit S K)) (run : List K) → test (v .end) ≡ false → Found vs run
       → Found (v ∷ vs) run
-  unfolding None Listed
   first-next v vs run t (before, w, f, e) = (
     v ∷ before,
     w,
@@ -39,20 +39,10 @@ module _ {S K : Type 0} (test : S → Bool) where
       after = f .after;
       stands = ap (λ xs. v ∷ xs) (f .stands);
       passes = f .passes;
-      none = λ x h. go x h;
+      none = none-next v before t (f .none);
     },
     e,
   )
-    where
-      go : (x : Visit S K) → (x ≡ v) ⊎ Listed x before → test (x .end) ≡ false
-      go x (inl e) = ap (λ y. test (y .end)) e ∙ t
-      go x (inr h) = f .none x h
-
-  none-next : (v : Visit S K) (vs : List (Visit S K)) → test (v .end) ≡ false → None test vs
-      → None test (v ∷ vs)
-  unfolding None Listed
-  none-next v vs t f x (inl e) = ap (λ y. test (y .end)) e ∙ t
-  none-next v vs t f x (inr h) = f x h
 
   -- both at once
   abbrev Says : List (Visit S K) → First K → Type 0
@@ -102,7 +92,7 @@ module _ {S K : Type 0} (test : S → Bool) where
         before,
         v,
         record { after = f .after ++ drop b vs; stands = whole; passes = f .passes; none = f .none },
-        omega (arith, n, take-most b vs),
+        omega (arith, n, length-take b vs),
         e,
       )
 

@@ -1,5 +1,7 @@
--- The laws of the search. Other crates can name Promises alone.
+-- The laws of the search. Other crates can name Promises, and what to unfold so that a definition computes,
+-- alone.
 pub mod Promises
+pub mod Computing
 -- the walk over any machine: what it lists, in which order; the machine of document 01 is one
 mod WalkLaws
 mod OrderLaws

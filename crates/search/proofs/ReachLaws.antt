@@ -1,45 +1,26 @@
 -- What it is to reach the question: every want is matched, and every passed count is met. Assumes nothing.
-use Prim.Native.Nat.{ℕ, zero, suc, _+_, _<_, _≤_}
-use mathlib.Core.Path.{_≡_, refl, subst}
-use mathlib.Core.Logic.{_⊎_, inl, inr}
+use Prim.Native.Nat.{ℕ, _<_, _≤_}
+use mathlib.Core.Path.{_≡_, refl}
 use mathlib.Core.Bool.{Bool, true, false}
 use lib.ListN.{getD}
 use lib.Dec.{eqb}
 use borrow.Author.Tests.{eqb-true, eq-eqb, ltb-false, le-ltb, not-true, not-false}
 use native.Mathlib.Omega.{arith}
-use native.Mathlib.Nat.{eq-or-lt-of-le}
 use Rattle.cases.specs.declared.case.Ask.{Ask}
-use Rattle.cases.specs.Choice.{both, either}
+use Rattle.cases.specs.Choice.{both}
 use Rattle.cases.specs.Sizes.{mostThreads, mostLocations}
-use Rattle.cases.proofs.ChoiceLaws.{both-true, either-false}
+use Rattle.cases.proofs.ChoiceLaws.{never-both, both-true}
 use Rattle.machine.specs.declared.cells.State.{State}
 use Rattle.machine.specs.View.{wordOf, issuedOf}
 use Rattle.machine.specs.Fit.{anyFrom}
+use Rattle.machine.proofs.AnyLaws.{any-none, none-any}
 use Rattle.search.specs.Question.{misses, missesAt, lacksAt, reachesIn, reaches}
-
--- true of none of the n numbers from i on
-any-none : (f : ℕ → Bool) (i n k : ℕ) → anyFrom i n f ≡ false → i ≤ k → k < i + n → f k ≡ false
-unfolding anyFrom
-any-none f i zero k h a b = absurd (omega arith)
-any-none f i (suc n) k h a b = go (eq-or-lt-of-le a) (either-false _ _ h) (any-none f (suc i) n k)
-  where
-    go : (i ≡ k) ⊎ (i < k) → (f i ≡ false) × (anyFrom (suc i) n f ≡ false)
-        → (anyFrom (suc i) n f ≡ false → suc i ≤ k → k < suc i + n → f k ≡ false)
-        → f k ≡ false
-    go (inl e) d ih = subst (λ j. f j ≡ false) e (d .0)
-    go (inr l) d ih = ih (d .1) l (omega arith)
-
-none-any : (f : ℕ → Bool) (i n : ℕ) → ((k : ℕ) → i ≤ k → k < i + n → f k ≡ false) → anyFrom i n f ≡ false
-unfolding anyFrom either
-none-any f i zero h = refl
-none-any f i (suc n) h =
-    rw (h i (omega arith) (omega arith)) (none-any f (suc i) n (λ k a b. h k (omega arith) (omega arith)))
 
 -- a location: wanted with the word that it holds, or not wanted
 misses-is : (wanted : Bool) (want word : ℕ) → misses wanted want word ≡ false → wanted ≡ true → word ≡ want
 unfolding misses both
 misses-is true want word h e = eqb-true word want (not-false (eqb word want) h)
-misses-is false want word h e = absurd (let z : _≡_ {A = ℕ} 0 1 = cc in omega arith)
+misses-is false want word h e = absurd (never-both e refl)
 
 is-misses : (wanted : Bool) (want word : ℕ) → (wanted ≡ true → word ≡ want) → misses wanted want word ≡ false
 unfolding misses both

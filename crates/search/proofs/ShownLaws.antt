@@ -16,15 +16,15 @@ use Rattle.cases.specs.Reading.{numberOf, readOf}
 use Rattle.cases.specs.Places.{encodeOf, stepsBytes}
 use Rattle.cases.specs.Writing.{readsBack}
 use Rattle.cases.proofs.Promises.{read-reads-back, read-after-write, file-bytes, steps-bytes-length}
-use Rattle.cases.proofs.Promises.{other-run-reads-back, other-run-file}
+use Rattle.cases.proofs.Promises.{other-run-file}
 use Rattle.machine.specs.declared.cells.State.{State}
 use Rattle.machine.specs.declared.runs.Verdict.the-variants.{Legal}
 use Rattle.machine.specs.declared.runs.Judged.{Judged}
 use Rattle.machine.specs.Rules.{startOf}
 use Rattle.machine.specs.Work.{fullLength}
-use Rattle.machine.specs.Judge.{Leads, Faultless, judgeOf, judgeBytes, runOf}
-use Rattle.machine.proofs.Promises.{program-fits, begin-fits, full-length-most, judge-legal}
-use Rattle.machine.proofs.Promises.{judge-legal-state, judge-read, run-again, faultless-at}
+use Rattle.machine.specs.Judge.{Leads, Faultless, judged, judgeOf, judgeBytes}
+use Rattle.machine.proofs.Promises.{program-fits, begin-fits, full-length-most, judge-read, rerun-reads}
+use Rattle.machine.proofs.Promises.{rerun-passes}
 use Rattle.search.specs.Walk.{walkOf}
 use Rattle.search.specs.Question.{reaches, reached, walkFrom, askOf, shownOf}
 use Rattle.search.proofs.PtsoLaws.{walk-leads}
@@ -65,25 +65,19 @@ module _ (c : Case) (h : readsBack c ≡ true) (b : ℕ) (run : List Step)
       omega arith
 
   pub shown-readable : readsBack shown ≡ true
-  shown-readable =
-      let l = reached-leads c h b run q in
-      other-run-reads-back c h run few (faultless-at (c .program) run (l .1))
-
-  leads : (u : State) → Leads (c .program) (startOf (c .program)) run u
-      → Leads (shown .program) (startOf (shown .program)) (runOf shown) u
-  unfolding withRun
-  leads u l = subst (λ ks. Leads (c .program) (startOf (c .program)) ks u) (sym (run-again c run)) l
+  shown-readable = let l = reached-leads c h b run q in rerun-reads c h run (l .0) (l .1) (l .2)
 
   pub shown-legal : judgeOf shown .verdict ≡ Legal (length run)
+  unfolding judged
   shown-legal =
       let l = reached-leads c h b run q in
-      judge-legal shown shown-readable .1 (l .0, leads (l .0) (l .2))
-      ∙ ap (λ (ks : List Step). Legal (length ks)) (run-again c run)
+      ap (λ (j : Judged). j .verdict) (rerun-passes c h run (l .0) (l .1) (l .2))
 
   pub shown-reaches : reaches (c .ask) (judgeOf shown .state) ≡ true
+  unfolding judged
   shown-reaches =
       let l = reached-leads c h b run q in
-      ap (reaches (c .ask)) (judge-legal-state shown shown-readable (l .0) (leads (l .0) (l .2))) ∙ l .3
+      ap (λ (j : Judged). reaches (c .ask) (j .state)) (rerun-passes c h run (l .0) (l .1) (l .2)) ∙ l .3
 
 -- Bytes that read, and the bytes that the question stores for them: behind the file without its steps they are
 -- a file that the judge passes
@@ -108,8 +102,8 @@ module _ (s : List ℕ) (bytes : IsBytes s) (read : numberOf (readOf s .answer) 
       ∙ sym (other-run-file case run (few case readable b run q))
 
   -- a readable case's file is judged as the case
-  judged : (c : Case) → readsBack c ≡ true → judgeBytes (encodeOf c) ≡ judgeOf c
-  judged c h =
+  file-judged : (c : Case) → readsBack c ≡ true → judgeBytes (encodeOf c) ≡ judgeOf c
+  file-judged c h =
       let e = read-after-write c h in
       judge-read (encodeOf c) (file-bytes c h) (ap (λ (r : Reading). numberOf (r .answer)) e)
       ∙ ap (λ (r : Reading). judgeOf (r .case)) e
@@ -119,5 +113,5 @@ module _ (s : List ℕ) (bytes : IsBytes s) (read : numberOf (readOf s .answer) 
       ≡ Legal (length run)
   stored-legal =
       ap (λ (x : List ℕ). judgeBytes x .verdict) file
-      ∙ ap (λ (j : Judged). j .verdict) (judged _ (shown-readable case readable b run q))
+      ∙ ap (λ (j : Judged). j .verdict) (file-judged _ (shown-readable case readable b run q))
       ∙ shown-legal case readable b run q

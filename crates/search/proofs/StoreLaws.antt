@@ -1,7 +1,7 @@
 -- Laws of the run's records in the lent bytes: a step's record goes before those that stand behind it already.
 -- Assumes nothing.
 use Prim.Native.Nat.{ℕ, suc, _+_, _*_, _<_, _≤_}
-use mathlib.Core.Path.{_≡_, refl, ap, _∙_}
+use mathlib.Core.Path.{_≡_, refl, sym, ap, _∙_}
 use mathlib.Core.List.{List, [], _∷_}
 use lib.ListN.{length, set}
 use lib.Seq.{set-comm, sets, length-sets}
@@ -62,8 +62,9 @@ pub step-before : (d : List ℕ) (depth : ℕ) (k : Step) (ks : List Step)
 unfolding stepsBytes
 step-before d depth k ks =
     let e = record-length k in
+    let behind : 8 * (depth + 1) ≡ 8 * depth + length (recordBytes (Take k)) = omega arith in
     sets-before d (8 * depth) (8 * (depth + 1)) (recordBytes (Take k)) (stepsBytes ks) (omega arith)
-    ∙ sets-append d (8 * depth) (8 * (depth + 1)) (recordBytes (Take k)) (stepsBytes ks) (omega arith)
+    ∙ rw behind (sym (sets-append d (8 * depth) (recordBytes (Take k)) (stepsBytes ks)))
 
 -- storing keeps the length
 pub length-stored : (depth : ℕ) (x : Sought Step) (out : List ℕ) → length (storedOf depth x out) ≡ length out

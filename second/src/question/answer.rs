@@ -24,3 +24,10 @@ impl Answer {
         line
     }
 }
+
+/// The answer and how many runs were looked at for it: the least budget that decides, where one
+/// up to the frame's does.
+pub fn runs_line(query: &Query) -> String {
+    let Reply { number, runs, .. } = answer(query).reply;
+    format!("{number} {runs}\n")
+}

@@ -5,7 +5,7 @@ use crate::case::{Case, Instruction};
 use crate::generate::valid::ROW;
 use crate::machine::steps::{issue, persist, printed};
 use crate::machine::work::full_length;
-use crate::question::answer::answer;
+use crate::question::answer::{answer, runs_line};
 use crate::question::ask::{question, search, End};
 use crate::question::frame::Query;
 use crate::reading::read;
@@ -126,6 +126,31 @@ fn reading_then_31_then_the_walk() {
     let empty = encode(&asking(&[], &[(X, 1)], 0));
     assert_eq!(asked(&empty, 0, 1), untouched(101, 0, 0));
     assert_eq!(asked(&empty, 9, 1), untouched(101, 0, 9));
+}
+
+#[test]
+fn the_runs_that_decide() {
+    let line = |input: &[u8], room, budget| {
+        let input = input.to_vec();
+        runs_line(&Query {
+            input,
+            room,
+            budget,
+        })
+    };
+    for budget in [8, 9, u32::MAX] {
+        assert_eq!(line(&ROW, 48, budget), "100 8\n");
+    }
+    assert_eq!(line(&ROW, 48, 7), "102 7\n");
+    assert_eq!(line(&ROW, 48, 0), "102 0\n");
+    assert_eq!(line(&ROW, 47, 8), "31 0\n");
+    assert_eq!(line(&ROW[..45], 48, 8), "1 0\n");
+    // The empty run, and the store issued, moved and persisted: none leaves 2.
+    let never = encode(&asking(&[store(X, 1)], &[(X, 2)], 0));
+    for budget in [4, 5, u32::MAX] {
+        assert_eq!(line(&never, 24, budget), "101 4\n");
+    }
+    assert_eq!(line(&never, 24, 3), "102 3\n");
 }
 
 #[test]

@@ -1,0 +1,42 @@
+-- What to unfold so that a definition of the machine computes, as in `cases`. Assumes nothing.
+use Prim.Native.Nat.{ℕ}
+use Rattle.cases.proofs.Computing.{reading-computes}
+use Rattle.machine.specs.View.{part, put, without, slots, wordsOf, marksOf, marksIn, queueIn, withQueue}
+use Rattle.machine.specs.View.{bufferIn, withBuffer, withWord, withRegister, withIssued}
+use Rattle.machine.specs.Look.{wordOr, newestIn, storedOr, newestStore, queuedWord, loadOf, markerIn}
+use Rattle.machine.specs.Look.{markerFrom, markerOf, marked, bars, firstBar}
+use Rattle.machine.specs.Rules.{enqueue, await, barrierRule, isBarrier, operationRule, issueRule, entryOf}
+use Rattle.machine.specs.Rules.{loaded, exchanged, performed, issueOf, effectRule, effectOf, passRule}
+use Rattle.machine.specs.Rules.{moveRule, moveOf, persistRule, persistFirst, persistOf, ruleIn, ruleOf}
+use Rattle.machine.specs.Rules.{nextOf, startOf}
+use Rattle.machine.specs.Fit.{sumTo, unissued}
+use Rattle.machine.specs.Work.{unissuedWeight, waitingWeight, weighCode, weighBuffer, codeLeft}
+use Rattle.machine.specs.Work.{threadWork, work, fullLength}
+use Rattle.machine.specs.Judge.{judged, judgeFrom, judgeRun, judgeBytes}
+use Rattle.machine.specs.Next.{issuesFrom, movesAt, movesFrom, persistsFrom, candidates, allowed}
+use Rattle.machine.specs.Next.{legalSteps}
+
+-- ruleOf and nextOf
+unfoldable pub steps-compute : ℕ
+unfolding part put without slots wordsOf marksOf marksIn queueIn withQueue bufferIn withBuffer withWord
+    withRegister withIssued wordOr newestIn storedOr newestStore queuedWord loadOf markerIn markerFrom markerOf
+    marked bars firstBar enqueue await barrierRule isBarrier operationRule issueRule entryOf loaded exchanged
+    performed issueOf effectRule effectOf passRule moveRule moveOf persistRule persistFirst persistOf ruleIn
+    ruleOf nextOf startOf
+steps-compute = 0
+
+-- work and fullLength
+unfoldable pub work-computes : ℕ
+unfolding part bufferIn sumTo unissued unissuedWeight waitingWeight weighCode weighBuffer codeLeft threadWork
+    work startOf fullLength
+work-computes = 0
+
+-- legalSteps
+unfoldable pub next-computes : ℕ
+unfolding steps-compute issuesFrom movesAt movesFrom persistsFrom candidates allowed legalSteps
+next-computes = 0
+
+-- judgeBytes
+unfoldable pub judging-computes : ℕ
+unfolding reading-computes steps-compute judged judgeFrom judgeRun judgeBytes
+judging-computes = 0

@@ -1,0 +1,132 @@
+-- Document 01, "Rows proved of the rules (marked *) and rows run": all of them, a list for each line of 01.
+-- Above each stands 01's line, with a * where 01 has one.
+--   table         the rows, in 01's order
+--   outage        the records of its second row; outageBytes: the 50 bytes that 01 has for it
+-- "In the rows below "store x" means x=500, and a budget not named is 1,000,000."
+-- Assumes nothing.
+use Prim.Native.Nat.{ℕ}
+use mathlib.Core.List.{List, [], _∷_, _++_}
+use lib.ListN.{replicate}
+use Rattle.cases.specs.declared.record.Record.{Record}
+use Rattle.machine.specs.declared.runs.Verdict.the-variants.{Legal, Illegal}
+use Rattle.search.specs.Question.{reached, unreachable, undecided}
+use Rattle.rows.specs.Words.{x, y, program, threads, first, store, storeRegister, load, exchange, flush}
+use Rattle.rows.specs.Words.{flushOpt, sfence, mfence, want, passed, taking, issue, move, persist}
+use Rattle.rows.specs.Row.{Row, asked, ruled, opened}
+
+abbrev usual : ℕ
+usual = 1000000
+
+-- "want x=0, y=1"
+abbrev torn : List Record
+torn = want x 0 ∷ want y 1 ∷ []
+
+abbrev pub outage : List Record
+outage = threads 1 ∷ store 0 x 500 ∷ store 0 y 1 ∷ torn
+
+-- "The second row's case, whole (50 bytes)", a record a line; F4 is 244
+abbrev pub outageBytes : List ℕ
+outageBytes =
+    4 ∷ 0 ∷ 1 ∷ 0 ∷ 1 ∷ 0 ∷ 1 ∷ 2
+    ∷ 8 ∷ 0 ∷ 3 ∷ 0 ∷ 0 ∷ 1 ∷ 0 ∷ 0 ∷ 244 ∷ 1 ∷ 0 ∷ 0
+    ∷ 8 ∷ 0 ∷ 3 ∷ 0 ∷ 0 ∷ 1 ∷ 1 ∷ 0 ∷ 1 ∷ 0 ∷ 0 ∷ 0
+    ∷ 5 ∷ 0 ∷ 4 ∷ 0 ∷ 0 ∷ 0 ∷ 0 ∷ 0 ∷ 0
+    ∷ 5 ∷ 0 ∷ 4 ∷ 0 ∷ 1 ∷ 1 ∷ 0 ∷ 0 ∷ 0
+    ∷ []
+
+-- * "No instructions, want x=0, budget 1: reached, 0 steps. Budget 0: undecided."
+abbrev idle : List Record
+idle = threads 1 ∷ want x 0 ∷ []
+
+abbrev nothingToDo : List Row
+nothingToDo =
+    asked idle 0 1 (reached [])
+    ∷ asked idle 0 0 undecided
+    ∷ []
+
+-- * "Store x=500; store y=1; want x=0, y=1: full length 6; budget 8 reached, 7 undecided." The run is the one
+-- that 01 prints: "I0, I0, M0.0, M0.0, P1".
+abbrev tornRow : List Row
+tornRow =
+    asked outage 6 8 (reached (issue 0 ∷ issue 0 ∷ move 0 0 ∷ move 0 0 ∷ persist y ∷ []))
+    ∷ asked outage 6 7 undecided
+    ∷ []
+
+-- * "Store x; flush x; store y=1; same want: unreachable, full length 8."
+abbrev flushed : List Row
+flushed =
+    asked (threads 1 ∷ store 0 x 500 ∷ flush 0 x ∷ store 0 y 1 ∷ torn) 8 usual unreachable
+    ∷ []
+
+-- * "As before with flush-opt: reached, full length 9." * "With flush-opt then sfence: unreachable, full length
+-- 11."
+abbrev flushedOpt : List Row
+flushedOpt =
+    asked (threads 1 ∷ store 0 x 500 ∷ flushOpt 0 x ∷ store 0 y 1 ∷ torn) 9 usual
+    (reached (issue 0 ∷ issue 0 ∷ issue 0 ∷ move 0 0 ∷ move 0 0 ∷ move 0 0 ∷ persist y ∷ []))
+    ∷ asked (threads 1 ∷ store 0 x 500 ∷ flushOpt 0 x ∷ sfence 0 ∷ store 0 y 1 ∷ torn) 11 usual unreachable
+    ∷ []
+
+-- * "Store x=5; flush-opt x; sfence; passed 3, want x=0: reached at budget 4." * "With an mfence added behind
+-- the sfence, and passed 4: unreachable."
+abbrev fenceIssued : List Row
+fenceIssued =
+    asked (threads 1 ∷ store 0 x 5 ∷ flushOpt 0 x ∷ sfence 0 ∷ want x 0 ∷ passed 0 3 ∷ []) 8 4
+    (reached (issue 0 ∷ issue 0 ∷ issue 0 ∷ []))
+    ∷ asked (threads 1 ∷ store 0 x 5 ∷ flushOpt 0 x ∷ sfence 0 ∷ mfence 0 ∷ want x 0 ∷ passed 0 4 ∷ []) 9 usual
+    unreachable
+    ∷ []
+
+-- * "Store y, flush-opt x, both issued: move at position 1 legal." * "Store x, flush-opt x: 26."
+abbrev passing : List Row
+passing =
+    ruled (threads 1 ∷ store 0 y 500 ∷ flushOpt 0 x ∷ taking (issue 0 ∷ issue 0 ∷ move 0 1 ∷ [])) (Legal 3)
+    ∷ ruled (threads 1 ∷ store 0 x 500 ∷ flushOpt 0 x ∷ taking (issue 0 ∷ issue 0 ∷ move 0 1 ∷ []))
+    (Illegal 26 2)
+    ∷ []
+
+-- * "Store x, exchange y, both issued at once: 22." "Flush-opt x moved, then mfence: 23; not moved: 22."
+abbrev barriers : List Row
+barriers =
+    ruled (threads 1 ∷ store 0 x 500 ∷ exchange 0 y 7 ∷ taking (issue 0 ∷ issue 0 ∷ [])) (Illegal 22 1)
+    ∷ ruled (threads 1 ∷ flushOpt 0 x ∷ mfence 0 ∷ taking (issue 0 ∷ move 0 0 ∷ issue 0 ∷ [])) (Illegal 23 2)
+    ∷ ruled (threads 1 ∷ flushOpt 0 x ∷ mfence 0 ∷ taking (issue 0 ∷ issue 0 ∷ [])) (Illegal 22 1)
+    ∷ []
+
+-- * "Thread 1's marker in x's queue, thread 0 moves flush x: 27."
+abbrev othersMarker : List Row
+othersMarker =
+    ruled (threads 2 ∷ flush 0 x ∷ flushOpt 1 x ∷ taking (issue 1 ∷ move 1 0 ∷ issue 0 ∷ move 0 0 ∷ []))
+    (Illegal 27 3)
+    ∷ []
+
+-- "Two threads, store x=1 load y and store y=1 load x: both may load 0." What they load is stored where 9
+-- stands: locations 2 and 3 hold 0 in the end.
+abbrev bothLoadZero : List Row
+bothLoadZero =
+    asked
+    (program 2 4 ∷ first 2 9 ∷ first 3 9
+    ∷ store 0 x 1 ∷ load 0 y ∷ storeRegister 0 2
+    ∷ store 1 y 1 ∷ load 1 x ∷ storeRegister 1 3
+    ∷ want 2 0 ∷ want 3 0 ∷ [])
+    14 usual
+    (reached
+    (issue 0 ∷ issue 0 ∷ issue 0 ∷ issue 1 ∷ issue 1 ∷ issue 1
+    ∷ move 0 0 ∷ move 0 0 ∷ move 1 0 ∷ move 1 0
+    ∷ persist 0 ∷ persist 1 ∷ persist 2 ∷ persist 3 ∷ []))
+    ∷ []
+
+-- "Eight instructions read, nine: 7. Ninety-six steps read, ninety-seven: 9." Behind the program's 8 bytes an
+-- instruction takes 12, a step 8.
+abbrev mostOfEach : List Row
+mostOfEach =
+    opened (threads 1 ∷ replicate 8 (store 0 x 500)) 0 104
+    ∷ opened (threads 1 ∷ replicate 9 (store 0 x 500)) 7 104
+    ∷ opened (threads 1 ∷ taking (replicate 96 (issue 0))) 0 776
+    ∷ opened (threads 1 ∷ taking (replicate 97 (issue 0))) 9 776
+    ∷ []
+
+unfoldable pub table : List Row
+table =
+    nothingToDo ++ tornRow ++ flushed ++ flushedOpt ++ fenceIssued
+    ++ passing ++ barriers ++ othersMarker ++ bothLoadZero ++ mostOfEach

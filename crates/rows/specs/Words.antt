@@ -1,0 +1,85 @@
+-- Document 01, "Records of a case", "Operations" and "Step codes": what the rows speak of, in their own words.
+--   x, y              "x is location 0, y is location 1."
+--   threads n         kind 1, of two locations; program n m: of m locations
+--   first l w         kind 2
+--   store t l w ..    kind 3: an instruction of thread t
+--   want l w          kind 4
+--   passed t n        kind 5
+--   taking ks         kind 6, for each of the steps ks
+--   issue t ..        steps
+--   bytesOf rs        the bytes of the records rs, one behind the other
+-- Assumes nothing.
+use Prim.Native.Nat.{ℕ}
+use mathlib.Core.List.{List, [], _∷_, _++_, map}
+use Rattle.cases.specs.declared.case.Step.{Step}
+use Rattle.cases.specs.declared.record.Record.{Record}
+use Rattle.cases.specs.declared.record.Record.the-variants.{Declare, First, Instruct, Want, Passed, Take}
+use Rattle.cases.specs.Record.{recordBytes}
+use Rattle.machine.specs.Next.{issueStep, moveStep, persistStep}
+
+abbrev pub x : ℕ
+x = 0
+
+abbrev pub y : ℕ
+y = 1
+
+abbrev pub program : ℕ → ℕ → Record
+program n m = Declare (record { version = 1; threads = n; locations = m })
+
+abbrev pub threads : ℕ → Record
+threads n = program n 2
+
+abbrev pub first : ℕ → ℕ → Record
+first l w = First (record { location = record { 0 = l }; word = w })
+
+-- an instruction of thread t by its operation's number; no row uses another register than register 0
+abbrev pub instruction : ℕ → ℕ → ℕ → ℕ → Record
+instruction t op l w =
+    Instruct (record { 0 = t })
+    (record { operation = op; location = record { 0 = l }; register = record { 0 = 0 }; word = w })
+
+abbrev pub store : ℕ → ℕ → ℕ → Record
+store t l w = instruction t 1 l w
+
+abbrev pub storeRegister : ℕ → ℕ → Record
+storeRegister t l = instruction t 2 l 0
+
+abbrev pub load : ℕ → ℕ → Record
+load t l = instruction t 3 l 0
+
+abbrev pub exchange : ℕ → ℕ → ℕ → Record
+exchange t l w = instruction t 4 l w
+
+abbrev pub flush : ℕ → ℕ → Record
+flush t l = instruction t 5 l 0
+
+abbrev pub flushOpt : ℕ → ℕ → Record
+flushOpt t l = instruction t 6 l 0
+
+abbrev pub sfence : ℕ → Record
+sfence t = instruction t 7 0 0
+
+abbrev pub mfence : ℕ → Record
+mfence t = instruction t 8 0 0
+
+abbrev pub want : ℕ → ℕ → Record
+want l w = Want (record { location = record { 0 = l }; word = w })
+
+abbrev pub passed : ℕ → ℕ → Record
+passed t n = Passed (record { 0 = t }) n
+
+abbrev pub taking : List Step → List Record
+taking ks = map Take ks
+
+abbrev pub issue : ℕ → Step
+issue t = issueStep t
+
+abbrev pub move : ℕ → ℕ → Step
+move t i = moveStep t i
+
+abbrev pub persist : ℕ → Step
+persist l = persistStep l
+
+unfoldable pub bytesOf : List Record → List ℕ
+bytesOf [] = []
+bytesOf (r ∷ rs) = recordBytes r ++ bytesOf rs

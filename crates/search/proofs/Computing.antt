@@ -1,0 +1,13 @@
+-- What to unfold so that a definition of the search computes, as in `cases`. Assumes nothing.
+use Prim.Native.Nat.{ℕ}
+use Rattle.machine.specs.Fit.{anyFrom}
+use Rattle.machine.proofs.Computing.{work-computes, next-computes}
+use Rattle.search.specs.Walk.{starting, walk, ptso, walkOf}
+use Rattle.search.specs.Question.{misses, missesAt, lacksAt, reachesIn, reaches, firstOf, decidedBy}
+use Rattle.search.specs.Question.{decided, walkFrom, askOf}
+
+-- askOf
+unfoldable pub asking-computes : ℕ
+unfolding work-computes next-computes starting walk ptso walkOf anyFrom misses missesAt lacksAt reachesIn
+    reaches firstOf decidedBy decided walkFrom askOf
+asking-computes = 0
