@@ -4,10 +4,11 @@ use crate::print;
 use crate::print::ROOM;
 use search::ask;
 ghost use Prim.Native.Nat.{_≤_};
+ghost use Rattle.batch.specs.Sizes.{mostInput};
 
 // Asks the question of a buffer's first n bytes; false where so much room is not to be had.
 pub(crate) fn answer(input: [u8; INPUT], n: usize, room: usize, budget: u32) -> bool
-    requires { ⌜ n ≤ 65536 ⌝ }
+    requires { ⌜ n ≤ mostInput ⌝ }
 {
     if ROOM < room {
         return false;

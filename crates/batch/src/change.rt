@@ -7,6 +7,21 @@ use cases::case::Program;
 use cases::case::Register;
 use cases::case::Run;
 use cases::case::Thread;
+use cases::sizes::CODE;
+use cases::sizes::LOCATIONS;
+use cases::sizes::STEPS;
+use cases::sizes::THREADS;
+
+// Where each part's fields begin; an instruction and a step have four each.
+const FIRSTS: usize = 3;
+
+const COUNTS: usize = FIRSTS + LOCATIONS;
+
+const INSTRUCTIONS: usize = COUNTS + THREADS;
+
+const WANTED: usize = INSTRUCTIONS + 4 * CODE;
+
+const RUN: usize = WANTED + 2 * LOCATIONS + THREADS;
 
 fn low(value: u32) -> u8 {
     (value % 256) as u8
@@ -22,23 +37,23 @@ fn in_program(p: Program, field: usize, value: u32) -> Program {
         q.locations = low(value);
         return q;
     }
-    if field < 3 {
+    if field < FIRSTS {
         return q;
     }
-    if field < 11 {
-        q.first[field - 3] = value;
+    if field < COUNTS {
+        q.first[field - FIRSTS] = value;
         return q;
     }
-    if field < 15 {
-        q.counts[field - 11] = low(value);
+    if field < INSTRUCTIONS {
+        q.counts[field - COUNTS] = low(value);
     }
     q
 }
 
-// One of an instruction's four fields; k is at most 127.
+// One of an instruction's four fields.
 fn in_code(p: Program, k: usize, value: u32) -> Program {
     let mut q = p;
-    if 128 <= k {
+    if 4 * CODE <= k {
         return q;
     }
     let at = k / 4;
@@ -64,16 +79,16 @@ fn in_code(p: Program, k: usize, value: u32) -> Program {
 
 fn in_ask(a: Ask, field: usize, value: u32) -> Ask {
     let mut b = a;
-    if field < 8 {
+    if field < LOCATIONS {
         b.wanted[field] = value != 0;
         return b;
     }
-    if field < 16 {
-        b.want[field - 8] = value;
+    if field < 2 * LOCATIONS {
+        b.want[field - LOCATIONS] = value;
         return b;
     }
-    if field < 20 {
-        b.passed[field - 16] = low(value);
+    if field < 2 * LOCATIONS + THREADS {
+        b.passed[field - 2 * LOCATIONS] = low(value);
     }
     b
 }
@@ -86,7 +101,7 @@ fn in_run(r: Run, field: usize, value: u32) -> Run {
         return s;
     }
     let k = field - 1;
-    if 384 <= k {
+    if 4 * STEPS <= k {
         return s;
     }
     let at = k / 4;
@@ -111,30 +126,30 @@ fn in_run(r: Run, field: usize, value: u32) -> Run {
 }
 
 pub(crate) fn changed(c: Case, field: usize, value: u32) -> Case {
-    if field < 15 {
+    if field < INSTRUCTIONS {
         let p = c.program;
         return Case {
             program: in_program(p, field, value),
             ..c
         };
     }
-    if field < 143 {
+    if field < WANTED {
         let p = c.program;
         return Case {
-            program: in_code(p, field - 15, value),
+            program: in_code(p, field - INSTRUCTIONS, value),
             ..c
         };
     }
-    if field < 163 {
+    if field < RUN {
         let a = c.ask;
         return Case {
-            ask: in_ask(a, field - 143, value),
+            ask: in_ask(a, field - WANTED, value),
             ..c
         };
     }
     let r = c.run;
     Case {
-        run: in_run(r, field - 163, value),
+        run: in_run(r, field - RUN, value),
         ..c
     }
 }

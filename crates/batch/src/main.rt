@@ -14,6 +14,7 @@ mod state;
 mod trial;
 
 ghost use Prim.Native.Nat.{_+_, _≤_};
+ghost use Rattle.batch.specs.Sizes.{mostInput, mostRoom};
 
 // More frames than a comparison has; a stream ends with its input.
 const FRAMES: u32 = 100000000;
@@ -35,7 +36,7 @@ fn number_at(head: [u8; HEAD], at: usize) -> u32
 }
 
 fn answer(bytes: &[u8], field: usize, value: u32, room: usize)
-    requires { ⌜ room ≤ 2048 ⌝ }
+    requires { ⌜ room ≤ mostRoom ⌝ }
 {
     let r = cases::read(bytes);
     let a = r.answer;
@@ -54,7 +55,7 @@ fn answer(bytes: &[u8], field: usize, value: u32, room: usize)
 // Answers for the first n bytes of a buffer. By value: what filled it is forgotten here, and that it is as long
 // as its type is not.
 fn answer_first(input: [u8; INPUT], n: usize, field: usize, value: u32, room: usize)
-    requires { ⌜ (n ≤ 65536) × (room ≤ 2048) ⌝ }
+    requires { ⌜ (n ≤ mostInput) × (room ≤ mostRoom) ⌝ }
 {
     answer(&input[..n], field, value, room);
 }

@@ -1,9 +1,13 @@
 // What the answers are made of: numbers, and bytes in hex.
 use libc::STDOUT_FILENO;
 ghost use Prim.Native.Nat.{_≤_, _<_};
+ghost use Rattle.batch.specs.Sizes.{mostRoom};
 
 // The most bytes that are printed at once.
 pub const ROOM: usize = 2048;
+
+// Two digits for each.
+const TEXT: usize = 2 * ROOM;
 
 fn glyph(digit: u8) -> u8
     requires { ⌜ digit < 16 ⌝ }
@@ -13,9 +17,9 @@ fn glyph(digit: u8) -> u8
 
 // The first `count` bytes in hex, two digits each.
 fn bytes(lent: [u8; ROOM], count: usize)
-    requires { ⌜ count ≤ 2048 ⌝ }
+    requires { ⌜ count ≤ mostRoom ⌝ }
 {
-    let mut text = [0u8; 4096];
+    let mut text = [0u8; TEXT];
     let mut i = 0;
     while i < count {
         let b = lent[i];
@@ -28,7 +32,7 @@ fn bytes(lent: [u8; ROOM], count: usize)
 
 // Ends a line with those bytes, or with `-` where there are none.
 pub(crate) fn buffer(lent: [u8; ROOM], count: usize)
-    requires { ⌜ count ≤ 2048 ⌝ }
+    requires { ⌜ count ≤ mostRoom ⌝ }
 {
     if count == 0 {
         io::write_all(STDOUT_FILENO, b"-");

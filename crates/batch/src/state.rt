@@ -1,4 +1,4 @@
-// A state of the machine and its 1,584 bytes; second/README.md has the layout.
+// A state of the machine and its bytes; second/README.md has the layout.
 use crate::numbers;
 use crate::print::ROOM;
 use cases::case::Location;
@@ -12,32 +12,34 @@ use machine::cells::Waiting;
 use machine::sizes::PLACES;
 use machine::sizes::SLOTS;
 ghost use Prim.Native.Nat.{_+_, _≤_};
+ghost use Rattle.batch.specs.Sizes.{stateBytes};
+
+// Where each part begins, behind the words; a word takes 4 bytes and an entry 6.
+const HELD: usize = 4 * LOCATIONS;
+
+const MARKS: usize = HELD + 4 * SLOTS;
+
+const LENGTHS: usize = MARKS + SLOTS;
+
+const BUFFERS: usize = LENGTHS + LOCATIONS;
+
+const WAITING: usize = BUFFERS + 6 * CODE;
+
+const REGISTERS_AT: usize = WAITING + THREADS;
+
+const ISSUED: usize = REGISTERS_AT + 4 * PLACES;
 
 // A state's bytes are the first of as many as `print` takes.
-pub const STATE_BYTES: usize = 1584;
-
-const HELD: usize = 32;
-
-const MARKS: usize = 1056;
-
-const LENGTHS: usize = 1312;
-
-const BUFFERS: usize = 1320;
-
-const WAITING: usize = 1512;
-
-const REGISTERS_AT: usize = 1516;
-
-const ISSUED: usize = 1580;
+pub const STATE_BYTES: usize = ISSUED + THREADS;
 
 fn word_at(raw: &[u8; ROOM], at: usize) -> u32
-    requires { ⌜ at + 4 ≤ 1584 ⌝ }
+    requires { ⌜ at + 4 ≤ stateBytes ⌝ }
 {
     numbers::word(raw[at], raw[at + 1], raw[at + 2], raw[at + 3])
 }
 
 fn put_word(raw: &mut [u8; ROOM], at: usize, word: u32)
-    requires { ⌜ at + 4 ≤ 1584 ⌝ }
+    requires { ⌜ at + 4 ≤ stateBytes ⌝ }
 {
     raw[at] = (word % 256) as u8;
     raw[at + 1] = (word / 256 % 256) as u8;
@@ -46,7 +48,7 @@ fn put_word(raw: &mut [u8; ROOM], at: usize, word: u32)
 }
 
 fn entry_at(raw: &[u8; ROOM], at: usize) -> Entry
-    requires { ⌜ at + 6 ≤ 1584 ⌝ }
+    requires { ⌜ at + 6 ≤ stateBytes ⌝ }
 {
     let kind = raw[at] % 4;
     let l = Location(raw[at + 1]);
@@ -66,7 +68,7 @@ fn entry_at(raw: &[u8; ROOM], at: usize) -> Entry
 }
 
 fn put_entry(raw: &mut [u8; ROOM], at: usize, e: Entry)
-    requires { ⌜ at + 6 ≤ 1584 ⌝ }
+    requires { ⌜ at + 6 ≤ stateBytes ⌝ }
 {
     match e {
         Entry::Store(w) => {

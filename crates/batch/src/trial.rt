@@ -17,6 +17,7 @@ use machine::steps;
 use machine::work;
 use machine::work::Weighed;
 ghost use Prim.Native.Nat.{_≤_};
+ghost use Rattle.batch.specs.Sizes.{mostInput};
 
 fn print_weight(w: Weighed) {
     let refused = work::weighed_number(w);
@@ -91,7 +92,7 @@ fn take_step(c: Case) -> bool {
 
 // Answers for the first n bytes of a buffer; false where the stream ends in the frame.
 pub(crate) fn answer(job: u32, input: [u8; INPUT], n: usize, field: usize, value: u32) -> bool
-    requires { ⌜ n ≤ 65536 ⌝ }
+    requires { ⌜ n ≤ mostInput ⌝ }
 {
     if job == 0 {
         judge_bytes(&input[..n]);

@@ -1,15 +1,16 @@
 -- `say_words` is safe and ends: the measure is how many locations are still to come. Assumes nothing.
 use Prim.Native.Nat.{_≤_, _-_}
 use borrow.Author.Needs.{needs}
+use Rattle.cases.specs.Sizes.{mostLocations}
 use Rattle.judge.proofs.say_words.Statement.{statement}
 use Rattle.judge.proofs.say_words.Tie as tie
 
 -- the index is at most the number of locations
 abbrev Inv-loop : tie.InvT-loop
-Inv-loop locations u l₀ t5 l = l ≤ 8
+Inv-loop locations u l₀ t5 l = l ≤ mostLocations
 
 abbrev μ-loop : tie.MeasureT-loop
-μ-loop locations u l₀ t5 l = 8 - l
+μ-loop locations u l₀ t5 l = mostLocations - l
 
 loop-holds : tie.Need-loop-holds Inv-loop μ-loop
 loop-holds c = search needs

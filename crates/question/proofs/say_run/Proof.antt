@@ -1,14 +1,15 @@
 -- `say_run` is safe and ends: the measure is how many steps are still to come. Assumes nothing.
 use Prim.Native.Nat.{_≤_, _-_}
 use borrow.Author.Needs.{needs}
+use Rattle.cases.specs.Sizes.{mostSteps}
 use Rattle.question.proofs.say_run.Statement.{statement}
 use Rattle.question.proofs.say_run.Tie as tie
 
 abbrev Inv-loop : tie.InvT-loop
-Inv-loop count run i₀ i = i ≤ 96
+Inv-loop count run i₀ i = i ≤ mostSteps
 
 abbrev μ-loop : tie.MeasureT-loop
-μ-loop count run i₀ i = 96 - i
+μ-loop count run i₀ i = mostSteps - i
 
 loop-holds : tie.Need-loop-holds Inv-loop μ-loop
 loop-holds c = search needs

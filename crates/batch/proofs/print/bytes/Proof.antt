@@ -1,14 +1,15 @@
 -- `bytes` is safe and ends. The loop's invariant: the text keeps its length. Assumes nothing.
-use Prim.Native.Nat.{_≤_, _-_}
+use Prim.Native.Nat.{_*_, _≤_, _-_}
 use mathlib.Core.Path.{_≡_, sym}
 use lib.ListN.{length}
 use lib.Seq.{length-take-le}
 use borrow.Author.Needs.{needs}
+use Rattle.batch.specs.Sizes.{mostRoom}
 use Rattle.batch.proofs.print.bytes.Statement.{statement}
 use Rattle.batch.proofs.print.bytes.Tie as tie
 
 abbrev Inv-loop : tie.InvT-loop
-Inv-loop count lent text₀ i₀ text i = (i ≤ count) × (count ≤ 2048) × (length text ≡ 4096)
+Inv-loop count lent text₀ i₀ text i = (i ≤ count) × (count ≤ mostRoom) × (length text ≡ 2 * mostRoom)
 
 abbrev μ-loop : tie.MeasureT-loop
 μ-loop count lent text₀ i₀ text i = count - i

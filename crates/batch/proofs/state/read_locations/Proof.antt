@@ -1,15 +1,16 @@
 -- `read_locations` is safe and ends: the measure is how many locations are still to come. Assumes nothing.
 use Prim.Native.Nat.{_≤_, _-_}
 use borrow.Author.Needs.{needs}
+use Rattle.cases.specs.Sizes.{mostLocations}
 use Rattle.batch.proofs.state.read_locations.Statement.{statement}
 use Rattle.batch.proofs.state.read_locations.Tie as tie
 
 -- the index is at most the number of locations
 abbrev Inv-loop : tie.InvT-loop
-Inv-loop raw u₀ i₀ u i = i ≤ 8
+Inv-loop raw u₀ i₀ u i = i ≤ mostLocations
 
 abbrev μ-loop : tie.MeasureT-loop
-μ-loop raw u₀ i₀ u i = 8 - i
+μ-loop raw u₀ i₀ u i = mostLocations - i
 
 loop-holds : tie.Need-loop-holds Inv-loop μ-loop
 loop-holds c = search needs

@@ -1,15 +1,16 @@
 -- `read_threads` is safe and ends: the measure is how many threads are still to come. Assumes nothing.
 use Prim.Native.Nat.{_≤_, _-_}
 use borrow.Author.Needs.{needs}
+use Rattle.cases.specs.Sizes.{mostThreads}
 use Rattle.batch.proofs.state.read_threads.Statement.{statement}
 use Rattle.batch.proofs.state.read_threads.Tie as tie
 
 -- the index is at most the number of threads
 abbrev Inv-loop : tie.InvT-loop
-Inv-loop raw u₀ i₀ u i = i ≤ 4
+Inv-loop raw u₀ i₀ u i = i ≤ mostThreads
 
 abbrev μ-loop : tie.MeasureT-loop
-μ-loop raw u₀ i₀ u i = 4 - i
+μ-loop raw u₀ i₀ u i = mostThreads - i
 
 loop-holds : tie.Need-loop-holds Inv-loop μ-loop
 loop-holds c = search needs

@@ -1,0 +1,2 @@
+-- The sizes that batch's own contracts name.
+pub mod Sizes

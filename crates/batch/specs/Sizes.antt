@@ -1,0 +1,19 @@
+-- The sizes of the frames and lines of second/README.md. src/ has the same numbers for the code.
+--   mostInput    the longest input of a frame
+--   mostRoom     the most bytes that are lent, or printed at once
+--   stateBytes   a state: words, held, marks, lengths, buffers, waiting, registers, issued
+-- Assumes nothing.
+use Prim.Native.Nat.{ℕ, _+_, _*_}
+use Rattle.cases.specs.Sizes.{mostThreads, mostLocations, mostCode}
+use Rattle.machine.specs.Sizes.{mostSlots, mostPlaces}
+
+abbrev pub mostInput : ℕ
+mostInput = 65536
+
+abbrev pub mostRoom : ℕ
+mostRoom = 2048
+
+abbrev pub stateBytes : ℕ
+stateBytes =
+    4 * mostLocations + 4 * mostSlots + mostSlots + mostLocations + 6 * mostCode
+    + mostThreads + 4 * mostPlaces + mostThreads
