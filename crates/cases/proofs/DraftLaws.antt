@@ -5,7 +5,7 @@ use mathlib.Core.Path.{_≡_, refl}
 use mathlib.Core.Logic.{_≢_}
 use mathlib.Core.Bool.{Bool, true, false}
 use lib.Dec.{eqb, leb, ltb}
-use borrow.Author.Tests.{leb-false, ltb-false, eqb-true, eqb-false, ne-eqb}
+use borrow.Author.Tests.{leb-false, ltb-false, eqb-true, eqb-false, eq-eqb, ne-eqb}
 use native.Mathlib.Omega.{arith}
 use Rattle.cases.specs.declared.case.Thread.{Thread}
 use Rattle.cases.specs.declared.case.Write.{Write}
@@ -16,11 +16,11 @@ use Rattle.cases.specs.declared.record.Header.{Header}
 use Rattle.cases.specs.declared.record.Record.{Record}
 use Rattle.cases.specs.declared.record.Record.the-variants.{Declare, First, Instruct, Want, Passed, Take}
 use Rattle.cases.specs.Sizes.{mostThreads, mostInstructions, mostLocations, mostSteps}
-use Rattle.cases.specs.Choice.{pick, either, refuse}
+use Rattle.cases.specs.Choice.{pick, both, either, refuse}
 use Rattle.cases.specs.Record.{kindOf}
-use Rattle.cases.specs.Checks.{misplaced, headerOut, instructionOut, passedOut, countOf, faultOf}
-use Rattle.cases.specs.Draft.{withSizes, withFirst, withInstruction, withProgram, withAsk, withRun}
-use Rattle.cases.specs.Draft.{addOf}
+use Rattle.cases.specs.Checks.{misplaced, disordered, headerOut, instructionOut, passedOut, countOf}
+use Rattle.cases.specs.Checks.{faultOf}
+use Rattle.cases.specs.Draft.{withSizes, withFirst, withInstruction, withProgram, withAsk, withRun, addOf}
 use Rattle.cases.proofs.ChoiceLaws.{either-false, refuse-none}
 use Rattle.cases.proofs.FitLaws.{outside-low}
 
@@ -38,6 +38,11 @@ placed before kind h = go (eqb before 0) refl
     go : (b : Bool) → eqb before 0 ≡ b → before ≤ kind
     go true e = omega (arith, eqb-true before 0 e)
     go false e = placed-kind before kind (omega (arith, eqb-false before 0 e)) h .0
+
+-- a record in order: its number is not below the next, where its kind is the draft's
+pub ordered : (d : Draft) (kind n : ℕ) → disordered d kind n ≡ false → d .kind ≡ kind → d .next ≤ n
+unfolding disordered both
+ordered d kind n h e = ltb-false n (d .next) (rw (eq-eqb (d .kind) kind e) at h)
 
 -- a faultless record: kinds don't go down, and a step is not the first
 pub in-turn : (d : Draft) (r : Record) → faultOf d r ≡ 0 → d .kind ≤ kindOf r

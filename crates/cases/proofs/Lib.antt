@@ -9,16 +9,19 @@ mod BytesLaws
 mod RecordLaws
 mod EachLaws
 mod PlaceLaws
+mod WithLaws
 mod FitLaws
 mod DraftLaws
 mod SameLaws
 -- a record more: what it does to the case and to its file
 mod CountLaws
 mod SoundLaws
+mod AddProgramLaws
 mod AddLaws
 mod BlankLaws
 -- whole inputs and whole files
 mod ReadLaws
+mod TurnLaws
 mod LengthLaws
 mod RoundTrip
 mod PrefixLaws
@@ -27,6 +30,7 @@ mod BytewiseLaws
 -- reading in parts, and a case with other steps
 mod PartLaws
 mod RunLaws
+mod CutLaws
 mod RerunLaws
 -- bytes put into lent bytes, and the writer
 mod PutLaws

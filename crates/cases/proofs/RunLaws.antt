@@ -19,7 +19,8 @@ use Rattle.cases.specs.Draft.{runWith, withRun, withStep}
 use Rattle.cases.specs.Places.{fromSteps, places, stepPlace, placeBytes, bytesAt, encodeOf, stepsBytes}
 use Rattle.cases.proofs.ChoiceLaws.{pick-true}
 use Rattle.cases.proofs.EachLaws.{each-more}
-use Rattle.cases.proofs.PlaceLaws.{place-step, place-same, step-same, step-other}
+use Rattle.cases.proofs.PlaceLaws.{place-step, place-same}
+use Rattle.cases.proofs.WithLaws.{step-same, step-other}
 
 -- how long the steps' bytes are
 pub steps-length : (ks : List Step) → length (stepsBytes ks) ≡ 8 * length ks

@@ -19,7 +19,7 @@ use Rattle.demands.specs.Writes.{fixedFrom, fixedIn, Writer, LastWrite}
 use Rattle.demands.specs.Carried.{carriedAll, othersFrom, lastRun}
 use Rattle.demands.proofs.LastLaws.{lastOr, Settles}
 use Rattle.demands.proofs.WriteLaws.{storesIn, fixesFrom}
-use Rattle.demands.proofs.PassLaws.{coming}
+use Rattle.demands.proofs.ComingLaws.{coming}
 use Rattle.demands.proofs.SettleLaws.{Done, newest, run-settles}
 use Rattle.demands.proofs.LastWriteLaws.{fixes-last, fixes-unwritten, writer-last, last-one}
 use Rattle.demands.proofs.FixedLaws.{leads-append, faultless-append, fixed-behind}

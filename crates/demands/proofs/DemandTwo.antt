@@ -1,7 +1,7 @@
 -- Demand 2, sentence by sentence. "The judge follows the PTSOsyn machine as your rules write it": the rules are
 -- `ruleOf` and `nextOf` (crates/machine/specs/Rules.antt), and all that is said here is said over them. Assumes
 -- nothing.
-use Prim.Native.Nat.{ℕ, _+_, _*_, _≤_, _<_}
+use Prim.Native.Nat.{ℕ, _*_, _≤_, _<_}
 use mathlib.Core.Path.{_≡_}
 use mathlib.Core.Logic.{_⊎_, _↔_}
 use mathlib.Core.Bool.{true, false}

@@ -12,6 +12,7 @@ mod AskedLaws
 mod LastLaws
 mod WriteLaws
 mod IssuesLaws
+mod ComingLaws
 mod PassLaws
 mod SettleLaws
 mod LastWriteLaws

@@ -21,7 +21,7 @@ use Rattle.demands.specs.Runs.{LegalRun, FinishedRun}
 use Rattle.demands.specs.Writes.{writes, fixedFrom, fixedIn, LastWrite, Unwritten, Alone}
 use Rattle.demands.proofs.LastLaws.{lastOr, Settles}
 use Rattle.demands.proofs.WriteLaws.{writesIn, storesIn, fixesFrom}
-use Rattle.demands.proofs.PassLaws.{coming}
+use Rattle.demands.proofs.ComingLaws.{coming}
 use Rattle.demands.proofs.SettleLaws.{newest, run-settles, run-keeps}
 use Rattle.demands.proofs.LastWriteLaws.{NoneFrom, LastFrom, last-or-none, fixes-last, fixes-unwritten}
 use Rattle.demands.proofs.LastWriteLaws.{last-one}

@@ -16,7 +16,8 @@ use Rattle.machine.proofs.Promises.{step-fits}
 use Rattle.demands.proofs.LastLaws.{lastOr, last-append, append-empty, cons-some, Settles}
 use Rattle.demands.proofs.LastLaws.{settles-before}
 use Rattle.demands.proofs.WriteLaws.{writesIn, storesIn, fixesFrom}
-use Rattle.demands.proofs.PassLaws.{coming, Passing, step-passing}
+use Rattle.demands.proofs.ComingLaws.{coming, Passing}
+use Rattle.demands.proofs.PassLaws.{step-passing}
 
 -- nothing waits anywhere, and everything is issued
 pub record Done (p : Program) (u : State) : Type 0 where

@@ -1,6 +1,6 @@
 -- What an instruction does as it is issued, and an entry as it takes effect, to each part of the state: it adds
 -- to the end of a buffer or of a queue, and leaves the rest. Assumes nothing.
-use Prim.Native.Nat.{ℕ, _+_, _≤_, _<_}
+use Prim.Native.Nat.{ℕ, _≤_, _<_}
 use mathlib.Core.Path.{_≡_, refl, sym}
 use mathlib.Core.Logic.{_≢_}
 use mathlib.Core.List.{List, [], _∷_, _++_, append-nil}
@@ -26,7 +26,8 @@ use Rattle.machine.specs.Rules.{effectOf}
 use Rattle.machine.specs.Joins.{joins, exchanges, enters}
 use Rattle.machine.specs.Fit.{Named}
 use Rattle.machine.proofs.OperationLaws.{each-operation, of}
-use Rattle.machine.proofs.ViewLaws.{queue-same, queue-other, buffer-same, buffer-other}
+use Rattle.machine.proofs.QueueLaws.{queue-same, queue-other}
+use Rattle.machine.proofs.ViewLaws.{buffer-same, buffer-other}
 use Rattle.machine.proofs.KeepLaws.{queue-within, buffer-within, queue-long, buffer-long}
 use Rattle.machine.proofs.SpareLaws.{Spare, register-spare}
 

@@ -15,9 +15,9 @@ use Rattle.machine.specs.View.{Slot, wordsOf, marksOf, part, put, shift,
 use Rattle.machine.specs.View.{marksIn, queueIn, queueLen, queue, withQueue}
 use Rattle.machine.specs.View.{blankWaiting, bufferIn, bufferLen, buffer, withBuffer}
 use Rattle.machine.specs.Rules.{enqueue, await}
-use Rattle.machine.proofs.PartLaws.{length-part, put-push, put-without, shift-none, shift-next}
-use Rattle.machine.proofs.PartLaws.{length-without}
-use Rattle.machine.proofs.ViewLaws.{words-queue, marks-queue, length-queue}
+use Rattle.machine.proofs.PartLaws.{length-part}
+use Rattle.machine.proofs.PutLaws.{put-push, put-without, shift-none, shift-next, length-without}
+use Rattle.machine.proofs.QueueLaws.{words-queue, marks-queue, length-queue}
 use Rattle.machine.proofs.SlotLaws.{words-append, marks-append}
 use Rattle.machine.proofs.SlotLaws.{words-drop, marks-drop}
 

@@ -28,7 +28,8 @@ use Rattle.machine.specs.Rules.{ruleOf, nextOf}
 use Rattle.machine.specs.Joins.{joins, exchanges, enters}
 use Rattle.machine.specs.Next.{issueStep, moveStep}
 use Rattle.machine.specs.Fit.{Fits}
-use Rattle.machine.proofs.PartLaws.{part-none, length-without}
+use Rattle.machine.proofs.PartLaws.{part-none}
+use Rattle.machine.proofs.PutLaws.{length-without}
 use Rattle.machine.proofs.ViewLaws.{buffer-same, buffer-other, issued-same, issued-other}
 use Rattle.machine.proofs.KeepLaws.{buffer-within, buffer-long}
 use Rattle.machine.proofs.SpareLaws.{counted-spare, taken-spare}

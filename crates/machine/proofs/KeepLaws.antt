@@ -1,6 +1,6 @@
 -- What a change of one part of a state leaves of its fit: a queue, a buffer, a word, a register. Assumes
 -- nothing.
-use Prim.Native.Nat.{ℕ, _+_, _-_, _≤_, _<_}
+use Prim.Native.Nat.{ℕ, _+_, _≤_, _<_}
 use mathlib.Core.Path.{_≡_, refl, _∙_}
 use mathlib.Core.List.{List}
 use native.Mathlib.Omega.{arith}
@@ -15,9 +15,10 @@ use Rattle.machine.specs.View.{Slot, marksOf, marksIn, queue, queueLen, 
 use Rattle.machine.specs.View.{buffer, bufferLen, withBuffer, withWord, withRegister}
 use Rattle.machine.specs.Fit.{sumTo, unissued, due, Fits, AllNamed, AllBorne}
 use Rattle.machine.proofs.SumLaws.{sum-change}
-use Rattle.machine.proofs.ViewLaws.{queue-length, queueLen-same, queueLen-other, marks-same, marks-other}
-use Rattle.machine.proofs.ViewLaws.{sized-queue, buffer-length, bufferLen-same, bufferLen-other}
-use Rattle.machine.proofs.ViewLaws.{buffer-same, buffer-other, sized-buffer, sized-word, sized-register}
+use Rattle.machine.proofs.QueueLaws.{queue-length, queueLen-same, queueLen-other, marks-same}
+use Rattle.machine.proofs.QueueLaws.{marks-other, sized-queue}
+use Rattle.machine.proofs.ViewLaws.{buffer-length, bufferLen-same, bufferLen-other, buffer-same}
+use Rattle.machine.proofs.ViewLaws.{buffer-other, sized-buffer, sized-word, sized-register}
 
 module _ (p : Program) (s : State) (f : Fits p s) where
   -- a queue and a buffer are within their room, and as long as their lengths say

@@ -9,11 +9,14 @@ pub mod OperationLaws
 pub mod Computing
 -- lists in places, and the state's parts
 mod PartLaws
+mod PutLaws
 mod SlotLaws
+mod QueueLaws
 mod ViewLaws
 mod SumLaws
 -- looks, changes, rules, each as the code meets them
 mod LookLaws
+mod MarkerLaws
 mod ChangeLaws
 mod MoveLaws
 mod CheckLaws
@@ -36,6 +39,7 @@ mod AddLaws
 mod EffectLaws
 mod PersistLaws
 -- next steps
+mod OfferedLaws
 mod NextLaws
 mod OfferLaws
 mod CandidateLaws

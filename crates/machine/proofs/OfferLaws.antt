@@ -20,10 +20,10 @@ use Rattle.machine.specs.Fit.{Named, ProgramFits}
 use Rattle.machine.specs.Next.{issueStep, moveStep, persistStep, issuesFrom, movesAt, movesFrom}
 use Rattle.machine.specs.Next.{persistsFrom}
 use Rattle.machine.specs.Offer.{offered, offeredAll, issueRuleAt, moveRuleAt, Movable}
-use Rattle.machine.proofs.NextLaws.{count-offered, count-offered-all, length-issues, length-positions}
-use Rattle.machine.proofs.NextLaws.{length-moves, issues-next, issues-end, positions-next}
-use Rattle.machine.proofs.NextLaws.{positions-end}
-use Rattle.machine.proofs.NextLaws.{moves-next, moves-end, persists-next, persists-end}
+use Rattle.machine.proofs.OfferedLaws.{count-offered, count-offered-all, issues-next, issues-end}
+use Rattle.machine.proofs.OfferedLaws.{positions-next, positions-end, moves-next, moves-end}
+use Rattle.machine.proofs.OfferedLaws.{persists-next, persists-end}
+use Rattle.machine.proofs.NextLaws.{length-issues, length-positions, length-moves}
 
 -- Of most turns, each with so many steps, i are done: the steps of those left, offered to the list so far, give
 -- what the steps of all give to the list at the start, and the list has room for them.

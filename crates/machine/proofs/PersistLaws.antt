@@ -17,7 +17,8 @@ use Rattle.machine.specs.Look.{wordOr}
 use Rattle.machine.specs.Rules.{persistFirst, persistOf, ruleIn, ruleOf, nextOf}
 use Rattle.machine.specs.Next.{persistStep}
 use Rattle.machine.specs.Fit.{Fits}
-use Rattle.machine.proofs.ViewLaws.{queue-same, queue-other, sized-word}
+use Rattle.machine.proofs.QueueLaws.{queue-same, queue-other}
+use Rattle.machine.proofs.ViewLaws.{sized-word}
 use Rattle.machine.proofs.KeepLaws.{queue-within, queue-long}
 use Rattle.machine.proofs.StepLaws.{persist-there}
 

@@ -1,6 +1,6 @@
 -- A fit with room for one entry more in thread t's buffer and in each queue. Taking an entry out of a buffer,
 -- or counting an instruction as issued, leaves it; putting one in uses it up. Assumes nothing.
-use Prim.Native.Nat.{ℕ, zero, suc, _+_, _-_, _≤_, _<_}
+use Prim.Native.Nat.{ℕ, zero, suc, _+_, _≤_, _<_}
 use mathlib.Core.Path.{_≡_, refl, _∙_}
 use mathlib.Core.Logic.{_≢_}
 use mathlib.Core.List.{List, [], _∷_, _++_}
@@ -19,9 +19,10 @@ use Rattle.machine.specs.View.{buffer, bufferLen, withBuffer, withRegist
 use Rattle.machine.specs.Rules.{countAt, enqueue, await}
 use Rattle.machine.specs.Fit.{sumTo, unissued, due, Fits, Named, AllNamed, AllBorne}
 use Rattle.machine.proofs.SumLaws.{sum-change}
-use Rattle.machine.proofs.PartLaws.{length-without}
+use Rattle.machine.proofs.PutLaws.{length-without}
 use Rattle.machine.proofs.SlotLaws.{marks-append}
-use Rattle.machine.proofs.ViewLaws.{marks-queue, bufferLen-same, sized-issued, issued-same, issued-other}
+use Rattle.machine.proofs.QueueLaws.{marks-queue}
+use Rattle.machine.proofs.ViewLaws.{bufferLen-same, sized-issued, issued-same, issued-other}
 use Rattle.machine.proofs.KeepLaws.{queue-within, buffer-within, queue-long, buffer-long, fits-queue}
 use Rattle.machine.proofs.KeepLaws.{due-buffer, fits-buffer, fits-register}
 

@@ -23,8 +23,9 @@ use Rattle.machine.specs.Fit.{sumTo, unissued, Fits}
 use Rattle.machine.specs.Work.{unissuedWeight, waitingWeight, weighCode, weighBuffer, codeLeft}
 use Rattle.machine.specs.Work.{threadWork, work}
 use Rattle.machine.proofs.SumLaws.{sum-change}
-use Rattle.machine.proofs.PartLaws.{part-next, drop-part, length-without}
-use Rattle.machine.proofs.ViewLaws.{queueLen-same, queueLen-other}
+use Rattle.machine.proofs.PartLaws.{part-next, drop-part}
+use Rattle.machine.proofs.PutLaws.{length-without}
+use Rattle.machine.proofs.QueueLaws.{queueLen-same, queueLen-other}
 use Rattle.machine.proofs.ViewLaws.{buffer-same, buffer-other, issued-same, issued-other}
 use Rattle.machine.proofs.KeepLaws.{queue-within, buffer-within, queue-long, buffer-long}
 use Rattle.machine.proofs.SpareLaws.{unissued-same, unissued-other}

@@ -1,6 +1,6 @@
 -- Document 01, "Rows proved of the rules (marked *) and rows run": all of them, a list for each line of 01.
--- Above each stands 01's line, with a * where 01 has one. A run, an index or a full length that 01 does not name
--- is as the second judge tells it.
+-- Above each stands 01's line, with a * where 01 has one. A run, an index or a full length that 01 does not
+-- name is as the second judge tells it.
 --   table         the rows, in 01's order
 --   outage        the records of its second row; outageBytes: the 50 bytes that 01 has for it
 -- "In the rows below "store x" means x=500, and a budget not named is 1,000,000."

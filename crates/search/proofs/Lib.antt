@@ -11,6 +11,7 @@ mod SeekLaws
 mod BudgetLaws
 -- the code: records in the lent bytes, the walk's turns
 mod StoreLaws
+mod LoopLaws
 mod TurnLaws
 mod AskLaws
 -- what it is to reach, and the run that is shown

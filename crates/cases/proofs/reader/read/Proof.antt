@@ -7,8 +7,8 @@ use borrow.Author.Needs.{needs}
 use native.Mathlib.Omega.{arith}
 use Rattle.cases.specs.Record.{openedNo}
 use Rattle.cases.specs.Reading.{refusedOf}
-use Rattle.cases.proofs.ReadLaws.{ReadSoFar, read-start, read-none, read-whole}
-use Rattle.cases.proofs.ReadLaws.{read-faulty, read-fault, read-within, read-next}
+use Rattle.cases.proofs.TurnLaws.{ReadSoFar, read-start, read-none, read-whole}
+use Rattle.cases.proofs.TurnLaws.{read-faulty, read-fault, read-within, read-next}
 use Rattle.cases.proofs.reader.read.Statement.{statement}
 use Rattle.cases.proofs.reader.read.Tie as tie
 

@@ -3,8 +3,8 @@ use Prim.Native.Nat.{_-_}
 use mathlib.Core.Path.{refl}
 use native.Mathlib.Omega.{arith}
 use Rattle.cases.specs.Sizes.{mostLocations}
-use Rattle.machine.proofs.LookLaws.{MarksSoFar, marks-start, marks-next, marker-here}
-use Rattle.machine.proofs.LookLaws.{QueuesSoFar, queues-start, queues-next, marker-end}
+use Rattle.machine.proofs.MarkerLaws.{MarksSoFar, marks-start, marks-next, marker-here}
+use Rattle.machine.proofs.MarkerLaws.{QueuesSoFar, queues-start, queues-next, marker-end}
 use borrow.Author.Needs.{needs}
 use Rattle.machine.proofs.look.marker.Statement.{statement}
 use Rattle.machine.proofs.look.marker.Tie as tie

@@ -6,8 +6,9 @@ use lib.ListN.{length}
 use Rattle.cases.specs.Sizes.{mostSteps}
 use Rattle.machine.specs.Work.{work}
 use Rattle.machine.proofs.Promises.{next-asks}
-use Rattle.search.proofs.TurnLaws.{left-spent, left-here, Walking, walking-start, walking-few}
-use Rattle.search.proofs.TurnLaws.{walking-end, turn-legal, turn-fits, turn-work, turn-length, turn-put}
+use Rattle.search.proofs.LoopLaws.{left-spent, left-here, Walking, walking-start, walking-few}
+use Rattle.search.proofs.LoopLaws.{walking-end}
+use Rattle.search.proofs.TurnLaws.{turn-legal, turn-fits, turn-work, turn-length, turn-put}
 use Rattle.search.proofs.TurnLaws.{turn-room, turn-found, turn-stopped, turn-finished}
 use borrow.Author.Needs.{needs}
 use borrow.Fn.Kinds.{In}
