@@ -39,8 +39,8 @@ outageBytes =
 abbrev idle : List Record
 idle = threads 1 ∷ want x 0 ∷ []
 
-abbrev nothingToDo : List Row
-nothingToDo =
+abbrev noInstructions : List Row
+noInstructions =
     asked idle 0 1 (reached [])
     ∷ asked idle 0 0 undecided
     ∷ []
@@ -129,5 +129,5 @@ mostOfEach =
 
 unfoldable pub table : List Row
 table =
-    nothingToDo ++ tornRow ++ flushed ++ flushedOpt ++ fenceIssued
+    noInstructions ++ tornRow ++ flushed ++ flushedOpt ++ fenceIssued
     ++ passing ++ barriers ++ othersMarker ++ bothLoadZero ++ mostOfEach
