@@ -13,15 +13,15 @@ use cases::sizes::STEPS;
 use cases::sizes::THREADS;
 
 // Where each part's fields begin; an instruction and a step have four each.
-const FIRSTS: usize = 3;
+const FROM_FIRSTS: usize = 3;
 
-const COUNTS: usize = FIRSTS + LOCATIONS;
+const FROM_COUNTS: usize = FROM_FIRSTS + LOCATIONS;
 
-const INSTRUCTIONS: usize = COUNTS + THREADS;
+const FROM_CODE: usize = FROM_COUNTS + THREADS;
 
-const WANTED: usize = INSTRUCTIONS + 4 * CODE;
+const FROM_ASK: usize = FROM_CODE + 4 * CODE;
 
-const RUN: usize = WANTED + 2 * LOCATIONS + THREADS;
+const FROM_RUN: usize = FROM_ASK + 2 * LOCATIONS + THREADS;
 
 fn low(value: u32) -> u8 {
     (value % 256) as u8
@@ -37,15 +37,15 @@ fn in_program(p: Program, field: usize, value: u32) -> Program {
         q.locations = low(value);
         return q;
     }
-    if field < FIRSTS {
+    if field < FROM_FIRSTS {
         return q;
     }
-    if field < COUNTS {
-        q.first[field - FIRSTS] = value;
+    if field < FROM_COUNTS {
+        q.first[field - FROM_FIRSTS] = value;
         return q;
     }
-    if field < INSTRUCTIONS {
-        q.counts[field - COUNTS] = low(value);
+    if field < FROM_CODE {
+        q.counts[field - FROM_COUNTS] = low(value);
     }
     q
 }
@@ -126,30 +126,30 @@ fn in_run(r: Run, field: usize, value: u32) -> Run {
 }
 
 pub(crate) fn changed(c: Case, field: usize, value: u32) -> Case {
-    if field < INSTRUCTIONS {
+    if field < FROM_CODE {
         let p = c.program;
         return Case {
             program: in_program(p, field, value),
             ..c
         };
     }
-    if field < WANTED {
+    if field < FROM_ASK {
         let p = c.program;
         return Case {
-            program: in_code(p, field - INSTRUCTIONS, value),
+            program: in_code(p, field - FROM_CODE, value),
             ..c
         };
     }
-    if field < RUN {
+    if field < FROM_RUN {
         let a = c.ask;
         return Case {
-            ask: in_ask(a, field - WANTED, value),
+            ask: in_ask(a, field - FROM_ASK, value),
             ..c
         };
     }
     let r = c.run;
     Case {
-        run: in_run(r, field - RUN, value),
+        run: in_run(r, field - FROM_RUN, value),
         ..c
     }
 }
