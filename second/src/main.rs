@@ -13,6 +13,7 @@ mod question;
 mod reading;
 mod refusal;
 mod tally;
+mod text;
 mod trial;
 mod whole;
 mod writing;
@@ -26,14 +27,19 @@ use generate::Take;
 use question::counts::QueryCounts;
 use question::frame::Query;
 use std::io::{self, BufReader, BufWriter, StdinLock, StdoutLock, Write};
+use std::path::Path;
 use std::process::ExitCode;
 use tally::Counts;
+use text::counts::TextCounts;
+use text::files;
 use trial::counts::TrialCounts;
 use trial::frame::Trial;
 use whole::counts::WholeCounts;
 
 const USAGE: &str = "usage: second answer | second generate SEED COUNT | second counts, \
-                     or machine-, question- or whole- in front of the mode, or second question-runs";
+                     or machine-, question- or whole- in front of the mode, or second question-runs, \
+                     or second text-generate SEED COUNT FOLDER | second text-counts FOLDER | \
+                     second text-frames FOLDER BUDGET | second text-judge-frames FOLDER";
 
 type Stream = BufReader<StdinLock<'static>>;
 type Out = BufWriter<StdoutLock<'static>>;
@@ -41,7 +47,18 @@ type Out = BufWriter<StdoutLock<'static>>;
 fn main() -> ExitCode {
     let words: Vec<String> = std::env::args().skip(1).collect();
     let words: Vec<&str> = words.iter().map(String::as_str).collect();
-    let done = match words[..] {
+    match of_streams(&words) {
+        Ok(()) => ExitCode::SUCCESS,
+        Err(error) => {
+            eprintln!("second: {error}");
+            ExitCode::FAILURE
+        }
+    }
+}
+
+/// The modes that read or write a stream of frames; the others have a folder.
+fn of_streams(words: &[&str]) -> io::Result<()> {
+    match words[..] {
         ["answer"] => answer_all(Frame::read_from, |frame| answer::answer(frame).line()),
         ["counts"] => count(Frame::read_from, FrameCounts::new()),
         ["generate", seed, count] => generate(generate::frames, Frame::write_to, seed, count),
@@ -70,15 +87,39 @@ fn main() -> ExitCode {
             };
             generate(whole::generate::programs, write, seed, count)
         }
-        _ => Err(usage()),
-    };
-    match done {
-        Ok(()) => ExitCode::SUCCESS,
-        Err(error) => {
-            eprintln!("second: {error}");
-            ExitCode::FAILURE
-        }
+        _ => of_folders(words),
     }
+}
+
+/// The modes that have a folder of written cases.
+fn of_folders(words: &[&str]) -> io::Result<()> {
+    match words[..] {
+        ["text-generate", seed, count, folder] => {
+            files::generate(number(seed)?, number(count)?, Path::new(folder))
+        }
+        ["text-counts", folder] => {
+            let mut counts = TextCounts::new();
+            files::each(Path::new(folder), |written| counts.take(&written))?;
+            tell(&counts)
+        }
+        ["text-frames", folder, budget] => {
+            let budget = u32::try_from(number(budget)?).map_err(|_| usage())?;
+            frames(folder, |bytes, out| {
+                files::question(bytes, budget).write_to(out)
+            })
+        }
+        ["text-judge-frames", folder] => {
+            frames(folder, |bytes, out| files::judge(bytes).write_to(out))
+        }
+        _ => Err(usage()),
+    }
+}
+
+/// A frame of the records of each case in the folder.
+fn frames(folder: &str, write: impl Fn(Vec<u8>, &mut Out) -> io::Result<()>) -> io::Result<()> {
+    let mut out = BufWriter::new(io::stdout().lock());
+    files::each_bytes(Path::new(folder), |bytes| write(bytes, &mut out))?;
+    out.flush()
 }
 
 fn usage() -> io::Error {
@@ -131,6 +172,11 @@ fn count<F>(
         counts.take(&frame);
         Ok(())
     })?;
+    tell(&counts)
+}
+
+/// The table, and an error where something is wrong or missing.
+fn tell<F>(counts: &impl Counts<F>) -> io::Result<()> {
     print!("{}", counts.table());
     let faults = counts.faults();
     if faults.is_empty() {

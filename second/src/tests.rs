@@ -3,6 +3,7 @@
 mod machine;
 mod question;
 mod states;
+mod text;
 mod walk;
 mod whole;
 

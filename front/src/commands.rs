@@ -1,0 +1,368 @@
+//! The commands for one case, and those that only turn one form into another.
+
+use crate::case::Step;
+use crate::desk::{self, Given, Outcome, Unfit};
+use crate::draw;
+use crate::frames;
+use crate::json;
+use crate::layout;
+use crate::messages::Trouble;
+use crate::options::{self, Command, Form, Options};
+use crate::output;
+use crate::page;
+use crate::programs::Programs;
+use crate::report;
+use crate::several;
+use crate::story::{Answer, Story};
+use crate::tell;
+
+pub const NO_ANSWER: u8 = 3;
+
+pub fn run(options: &Options) -> Result<u8, Trouble> {
+    if options.command == Command::Help {
+        output::print(include_str!("help.txt").as_bytes())?;
+        return Ok(0);
+    }
+    let programs = Programs::new()?;
+    let read: Vec<Result<Given, Unfit>> =
+        options.files.iter().map(|file| Given::read(file)).collect();
+    match (options.command, options.form) {
+        (Command::Draw, _) => draw_one(&programs, options, &read[0]),
+        (Command::Text, _) | (_, Form::Bytes) => turn(&programs, options, &read),
+        (_, Form::Raw) => raw(&programs, options, &read),
+        (_, Form::Json) => json_lines(&programs, options, &read),
+        _ if read.len() > 1 => several::tell(&programs, options, &read),
+        _ => tell_one(&programs, options, &read[0]),
+    }
+}
+
+/// The exit status for an answer.
+pub fn status(outcome: &Outcome) -> u8 {
+    match outcome {
+        Outcome::Answer(Answer::Unreachable | Answer::Legal, _) => 0,
+        Outcome::Answer(Answer::Reached | Answer::Illegal { .. }, _) => 1,
+        Outcome::Answer(Answer::Undecided, _) => 2,
+        Outcome::Refused { .. } => NO_ANSWER,
+    }
+}
+
+/// The graver of two: no answer, then reached or illegal, then undecided.
+pub fn graver(one: u8, other: u8) -> u8 {
+    let rank = |status: u8| [0, 2, 1, 3][status as usize];
+    if rank(one) < rank(other) {
+        other
+    } else {
+        one
+    }
+}
+
+/// Says on standard error why a file is no case.
+pub fn say_unfit(file: &str, unfit: &Unfit) {
+    match unfit {
+        Unfit::Mistakes(mistakes) => eprint!("{}", report::mistakes(&desk::shown(file), mistakes)),
+        Unfit::Unread(trouble) => eprintln!("garluveni: {trouble}"),
+    }
+}
+
+/// The answers of all files that are cases, by their index; each is handed on as it comes.
+pub fn answers(
+    programs: &Programs,
+    options: &Options,
+    read: &[Result<Given, Unfit>],
+    each: &mut dyn FnMut(usize, Outcome) -> Result<(), Trouble>,
+) -> Result<(), Trouble> {
+    let fit = read
+        .iter()
+        .enumerate()
+        .filter_map(|(i, one)| Some((i, one.as_ref().ok()?)));
+    let (places, given): (Vec<usize>, Vec<&Given>) = fit.unzip();
+    if given.is_empty() {
+        return Ok(());
+    }
+    let mut placed = |i: usize, outcome| each(places[i], outcome);
+    match options.command {
+        Command::Ask => desk::ask(programs, &given, options.budget_or_default(), &mut placed),
+        _ => desk::judge(programs, &given, &mut placed),
+    }
+}
+
+fn budget_of(options: &Options) -> Option<u32> {
+    (options.command == Command::Ask).then_some(options.budget_or_default())
+}
+
+fn tell_one(
+    programs: &Programs,
+    options: &Options,
+    read: &Result<Given, Unfit>,
+) -> Result<u8, Trouble> {
+    let mut found = None;
+    answers(
+        programs,
+        options,
+        std::slice::from_ref(read),
+        &mut |_, outcome| {
+            found = Some(outcome);
+            Ok(())
+        },
+    )?;
+    match (read, found) {
+        (Ok(given), Some(outcome)) => {
+            let status = status(&outcome);
+            let words = match outcome {
+                Outcome::Answer(answer, run) => {
+                    report::words(&story(programs, given, (answer, run), budget_of(options))?)
+                }
+                Outcome::Refused { number, offset } => report::refused(&given.file, number, offset),
+            };
+            output::print(words.as_bytes())?;
+            Ok(status)
+        }
+        (Err(unfit), _) => {
+            say_unfit(&options.files[0], unfit);
+            Ok(NO_ANSWER)
+        }
+        // a stream that ended early was told as trouble already
+        (Ok(_), None) => Ok(NO_ANSWER),
+    }
+}
+
+fn story(
+    programs: &Programs,
+    given: &Given,
+    answer: (Answer, Vec<Step>),
+    budget: Option<u32>,
+) -> Result<Story, Trouble> {
+    let mut stories = desk::stories(programs, vec![(given, answer.0, answer.1)], budget)?;
+    Ok(stories.remove(0))
+}
+
+fn json_lines(
+    programs: &Programs,
+    options: &Options,
+    read: &[Result<Given, Unfit>],
+) -> Result<u8, Trouble> {
+    let mut outcomes: Vec<Option<Outcome>> = vec![None; read.len()];
+    answers(programs, options, read, &mut |i, outcome| {
+        outcomes[i] = Some(outcome);
+        Ok(())
+    })?;
+    let answered = read.iter().zip(&outcomes).filter_map(|pair| match pair {
+        (Ok(given), Some(Outcome::Answer(answer, run))) => Some((given, *answer, run.clone())),
+        _ => None,
+    });
+    let answered: Vec<_> = answered.collect();
+    let stories = match answered.is_empty() {
+        true => Vec::new(),
+        false => desk::stories(programs, answered, budget_of(options))?,
+    };
+    let mut stories = stories.iter();
+    let mut gravest = 0;
+    let mut lines = String::new();
+    for (i, one) in read.iter().enumerate() {
+        let status = outcomes[i].as_ref().map_or(NO_ANSWER, status);
+        gravest = graver(gravest, status);
+        lines += &json_line(
+            options,
+            &options.files[i],
+            one,
+            outcomes[i].as_ref(),
+            &mut stories,
+        );
+    }
+    output::print(lines.as_bytes())?;
+    Ok(gravest)
+}
+
+/// The object of one file; the stories are those of the answered ones, in order.
+fn json_line<'a>(
+    options: &Options,
+    file: &str,
+    read: &Result<Given, Unfit>,
+    outcome: Option<&Outcome>,
+    stories: &mut impl Iterator<Item = &'a Story>,
+) -> String {
+    let (file, command) = (desk::shown(file), options::name(options.command));
+    match (read, outcome) {
+        (Err(Unfit::Mistakes(mistakes)), _) => json::bad_text(&file, command, mistakes),
+        (Err(Unfit::Unread(trouble)), _) => json::unread(&file, command, &trouble.to_string()),
+        (_, Some(Outcome::Refused { number, offset })) => {
+            json::refused(&file, command, *number, *offset)
+        }
+        (_, Some(outcome)) => {
+            let status = status(outcome);
+            stories
+                .next()
+                .map_or(String::new(), |story| json::told(story, command, status))
+        }
+        (_, None) => String::new(),
+    }
+}
+
+/// What the programs print themselves.
+fn raw(
+    programs: &Programs,
+    options: &Options,
+    read: &[Result<Given, Unfit>],
+) -> Result<u8, Trouble> {
+    let mut gravest = 0;
+    for (file, one) in options.files.iter().zip(read) {
+        if read.len() > 1 {
+            output::print(format!("== {}\n", desk::shown(file)).as_bytes())?;
+        }
+        let status = match one {
+            Ok(given) => raw_one(programs, options, given)?,
+            Err(unfit) => {
+                say_unfit(file, unfit);
+                NO_ANSWER
+            }
+        };
+        gravest = graver(gravest, status);
+    }
+    Ok(gravest)
+}
+
+fn raw_one(programs: &Programs, options: &Options, given: &Given) -> Result<u8, Trouble> {
+    let (program, input) = match (options.command, options.budget) {
+        (Command::Judge, _) => ("judge", given.bytes.clone()),
+        (_, None) => ("question", given.bytes.clone()),
+        // the program `question` has one budget; `batch` takes any, and answers with the number and the lent buffer
+        (_, Some(budget)) => ("batch", frames::question(&given.bytes, budget)),
+    };
+    let mut status = NO_ANSWER;
+    let mut is_first = true;
+    programs.lines(
+        program,
+        input,
+        &[format!("asking {}", given.file)],
+        &mut |line| {
+            if is_first {
+                status = raw_status(line);
+                is_first = false;
+            }
+            output::print(format!("{line}\n").as_bytes())
+        },
+    )?;
+    Ok(status)
+}
+
+fn raw_status(line: &str) -> u8 {
+    match line.split(' ').next() {
+        Some("UNREACHABLE" | "LEGAL" | "101") => 0,
+        Some("REACHED" | "ILLEGAL" | "100") => 1,
+        Some("UNDECIDED" | "102") => 2,
+        _ => NO_ANSWER,
+    }
+}
+
+/// Text to records, or either to text: all the files or none.
+fn turn(
+    programs: &Programs,
+    options: &Options,
+    read: &[Result<Given, Unfit>],
+) -> Result<u8, Trouble> {
+    let mut refused = 0;
+    let judging = Options {
+        command: Command::Judge,
+        files: Vec::new(),
+        out: None,
+        ..*options
+    };
+    answers(programs, &judging, read, &mut |i, outcome| {
+        if let Outcome::Refused { number, offset } = outcome {
+            refused += 1;
+            eprint!(
+                "{}",
+                report::refused(&desk::shown(&options.files[i]), number, offset)
+            );
+        }
+        Ok(())
+    })?;
+    for (file, one) in options.files.iter().zip(read) {
+        if let Err(unfit) = one {
+            refused += 1;
+            say_unfit(file, unfit);
+        }
+    }
+    if refused > 0 {
+        return Ok(NO_ANSWER);
+    }
+    let mut out = Vec::new();
+    for given in read.iter().flatten() {
+        match (options.command, read.len()) {
+            (Command::Text, 1) => out.extend(layout::text(&given.case()).bytes()),
+            (Command::Text, _) => {
+                out.extend(format!("# {}\n{}", given.file, layout::text(&given.case())).bytes())
+            }
+            _ => out.extend(&given.bytes),
+        }
+    }
+    output::print(&out)?;
+    Ok(0)
+}
+
+/// The run in the file, else the run that answers its question.
+fn draw_one(
+    programs: &Programs,
+    options: &Options,
+    read: &Result<Given, Unfit>,
+) -> Result<u8, Trouble> {
+    let given = match read {
+        Ok(given) => given,
+        Err(unfit) => {
+            say_unfit(&options.files[0], unfit);
+            return Ok(NO_ANSWER);
+        }
+    };
+    let has_run = !given.case().run.is_empty();
+    let budget = (!has_run).then_some(options.budget_or_default());
+    let mut found = None;
+    let mut take = |_: usize, outcome: Outcome| {
+        found = Some(outcome);
+        Ok(())
+    };
+    match budget {
+        Some(budget) => desk::ask(programs, &[given], budget, &mut take)?,
+        None => desk::judge(programs, &[given], &mut take)?,
+    }
+    match found {
+        Some(Outcome::Answer(answer, run)) if !is_empty_handed(answer) => {
+            let story = story(programs, given, (answer, run), budget)?;
+            write_drawing(options, &story)
+        }
+        Some(Outcome::Refused { number, offset }) => {
+            eprint!("{}", report::refused(&given.file, number, offset));
+            Ok(NO_ANSWER)
+        }
+        Some(Outcome::Answer(answer, _)) => {
+            eprintln!(
+                "{}: {}, so there is no run to draw",
+                given.file,
+                json::answer(answer).0
+            );
+            Ok(NO_ANSWER)
+        }
+        None => Ok(NO_ANSWER),
+    }
+}
+
+fn is_empty_handed(answer: Answer) -> bool {
+    matches!(answer, Answer::Unreachable | Answer::Undecided)
+}
+
+fn write_drawing(options: &Options, story: &Story) -> Result<u8, Trouble> {
+    let drawing = match options.html {
+        true => page::html(story, &tell::sentences(story)),
+        false => draw::svg(story),
+    };
+    match &options.out {
+        None => output::print(drawing.as_bytes())?,
+        Some(file) => {
+            output::save(file, drawing.as_bytes())?;
+            let steps = report::steps(story.run.len());
+            output::print(
+                format!("{}: {steps} drawn to {}\n", story.file, desk::shown(file)).as_bytes(),
+            )?;
+        }
+    }
+    Ok(0)
+}

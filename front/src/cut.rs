@@ -1,0 +1,116 @@
+//! What a power cut leaves, word by word: which write each location has, which ones are lost, and which wanted words make a torn row.
+
+use crate::case::Instruction;
+use crate::layout;
+use crate::lives::{self, Life};
+use crate::story::Story;
+
+/// A location at the cut.
+pub struct Place {
+    pub at: usize,
+    pub word: u32,
+    /// How the word came to be there.
+    pub from: String,
+    pub is_written: bool,
+    /// The writes that did not get there.
+    pub lost: Vec<String>,
+}
+
+/// The wanted words of which some have all their writes in memory and others have lost some.
+pub struct Torn {
+    pub new: Vec<usize>,
+    pub old: Vec<usize>,
+}
+
+pub fn places(story: &Story) -> Vec<Place> {
+    let lives = lives::lives(story);
+    let end = story.states.last();
+    let words = end.map_or(&story.case.first, |state| &state.words);
+    words
+        .iter()
+        .enumerate()
+        .map(|(at, word)| place(story, &lives, at, *word))
+        .collect()
+}
+
+fn place(story: &Story, lives: &[Life], at: usize, word: u32) -> Place {
+    let writes = |life: &&Life| life.kind.word().is_some() && life.kind.queue() == Some(at as u8);
+    let persisted = lives
+        .iter()
+        .filter(writes)
+        .filter_map(|life| life.persisted.map(|step| (step, life.thread)));
+    let last = persisted.max();
+    let from = match last {
+        Some((step, thread)) => format!("thread {thread}'s write, persisted in step {}", step + 1),
+        None => "what it held at first".to_string(),
+    };
+    let waiting = lives
+        .iter()
+        .filter(writes)
+        .filter(|life| life.persisted.is_none());
+    let mut lost: Vec<String> = waiting.map(|life| waited(story, life)).collect();
+    lost.extend(unissued(story, at));
+    Place {
+        at,
+        word,
+        from,
+        is_written: last.is_some(),
+        lost,
+    }
+}
+
+fn waited(story: &Story, life: &Life) -> String {
+    let word = life.kind.word().unwrap_or(0);
+    match (life.moved, life.kind.queue()) {
+        (Some(_), Some(at)) => format!(
+            "{word} was still in {}'s queue",
+            story.case.names[at as usize]
+        ),
+        _ => format!("{word} was still in thread {}'s buffer", life.thread),
+    }
+}
+
+/// Writes to a location that were not issued by the end.
+fn unissued(story: &Story, at: usize) -> Vec<String> {
+    let Some(end) = story.states.last() else {
+        return Vec::new();
+    };
+    let threads = story.case.threads.iter().enumerate();
+    let left = threads.flat_map(|(thread, code)| {
+        code.iter()
+            .skip(end.issued[thread])
+            .map(move |one| (thread, one))
+    });
+    let here = left.filter(|(_, one)| written(one) == Some(at));
+    here.map(|(thread, one)| {
+        format!(
+            "thread {thread} had not issued '{}'",
+            layout::instruction(&story.case, one)
+        )
+    })
+    .collect()
+}
+
+fn written(one: &Instruction) -> Option<usize> {
+    match one {
+        Instruction::Store { at, .. }
+        | Instruction::StoreRegister { at, .. }
+        | Instruction::Exchange { at, .. } => Some(*at as usize),
+        _ => None,
+    }
+}
+
+pub fn torn(story: &Story, places: &[Place]) -> Option<Torn> {
+    let wanted = || {
+        places
+            .iter()
+            .filter(|place| story.case.wants[place.at].is_some())
+    };
+    let new = wanted().filter(|place| place.is_written && place.lost.is_empty());
+    let old = wanted().filter(|place| !place.lost.is_empty());
+    let torn = Torn {
+        new: new.map(|place| place.at).collect(),
+        old: old.map(|place| place.at).collect(),
+    };
+    (!torn.new.is_empty() && !torn.old.is_empty()).then_some(torn)
+}

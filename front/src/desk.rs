@@ -1,0 +1,225 @@
+//! From files to answers: reads texts and records, has the proved programs judge and answer them, and gathers what there is to tell.
+
+use crate::case::{Case, Step};
+use crate::frames::{self, Asked, Judged, Verdict};
+use crate::messages::{Mistake, Trouble};
+use crate::output;
+use crate::parse;
+use crate::programs::Programs;
+use crate::records;
+use crate::story::{Answer, Story};
+use std::io::Read;
+
+/// A text of more bytes is not looked at; records are decided by their first 1,340.
+const MOST_BYTES: u64 = 1 << 20;
+
+/// A file that is a case, or may be one: of records the proved reader decides.
+pub struct Given {
+    pub file: String,
+    pub bytes: Vec<u8>,
+    /// The case that the text says, with its names; of records none yet.
+    text: Option<Case>,
+}
+
+pub enum Unfit {
+    Mistakes(Vec<Mistake>),
+    Unread(Trouble),
+}
+
+/// What the programs said of a case.
+#[derive(Clone, Debug, PartialEq, Eq)]
+pub enum Outcome {
+    /// The answer, and the run that reaches.
+    Answer(Answer, Vec<Step>),
+    Refused {
+        number: u32,
+        offset: usize,
+    },
+}
+
+impl Given {
+    pub fn read(file: &str) -> Result<Given, Unfit> {
+        let bytes = contents(file).map_err(Unfit::Unread)?;
+        if records::is_records(&bytes) {
+            return Ok(Given {
+                file: shown(file),
+                bytes,
+                text: None,
+            });
+        }
+        if bytes.len() as u64 > MOST_BYTES {
+            return Err(Unfit::Unread(Trouble::TextTooLong(shown(file))));
+        }
+        let case = parse::parse(&bytes).map_err(Unfit::Mistakes)?;
+        let bytes = records::bytes_of(&case);
+        Ok(Given {
+            file: shown(file),
+            bytes,
+            text: Some(case),
+        })
+    }
+
+    /// To be asked only when the proved reader has taken the bytes.
+    pub fn case(&self) -> Case {
+        self.text
+            .clone()
+            .unwrap_or_else(|| records::case_of(&self.bytes))
+    }
+}
+
+/// A file's name as messages show it.
+pub fn shown(file: &str) -> String {
+    let name = if file == "-" { "standard input" } else { file };
+    name.chars()
+        .map(|c| if c.is_control() { '?' } else { c })
+        .collect()
+}
+
+fn contents(file: &str) -> Result<Vec<u8>, Trouble> {
+    let mut bytes = Vec::new();
+    let got = match file {
+        "-" => std::io::stdin()
+            .lock()
+            .take(MOST_BYTES + 1)
+            .read_to_end(&mut bytes),
+        _ => std::fs::File::open(file)
+            .and_then(|open| open.take(MOST_BYTES + 1).read_to_end(&mut bytes)),
+    };
+    match got {
+        Ok(_) => Ok(bytes),
+        Err(error) => Err(Trouble::CannotRead(shown(file), output::plain(&error))),
+    }
+}
+
+/// Asks the question of each, in one stream, and hands on each answer as it comes.
+pub fn ask(
+    programs: &Programs,
+    given: &[&Given],
+    budget: u32,
+    each: &mut dyn FnMut(usize, Outcome) -> Result<(), Trouble>,
+) -> Result<(), Trouble> {
+    let input = given
+        .iter()
+        .flat_map(|one| frames::question(&one.bytes, budget))
+        .collect();
+    let labels: Vec<String> = given
+        .iter()
+        .map(|one| format!("asking {}", one.file))
+        .collect();
+    batch(programs, input, &labels, &mut |i, line| {
+        let outcome = match frames::asked(line)? {
+            Asked::Reached(run) => Outcome::Answer(Answer::Reached, run),
+            Asked::Unreachable => Outcome::Answer(Answer::Unreachable, Vec::new()),
+            Asked::Undecided => Outcome::Answer(Answer::Undecided, Vec::new()),
+            Asked::Refused { number, offset } => Outcome::Refused { number, offset },
+        };
+        each(i, outcome)
+    })
+}
+
+/// Has the run of each judged, likewise.
+pub fn judge(
+    programs: &Programs,
+    given: &[&Given],
+    each: &mut dyn FnMut(usize, Outcome) -> Result<(), Trouble>,
+) -> Result<(), Trouble> {
+    let input = given
+        .iter()
+        .flat_map(|one| frames::judge(&one.bytes))
+        .collect();
+    let labels: Vec<String> = given
+        .iter()
+        .map(|one| format!("judging {}", one.file))
+        .collect();
+    batch(programs, input, &labels, &mut |i, line| {
+        let outcome = match frames::judged(line)?.verdict {
+            Verdict::Legal(_) => Outcome::Answer(Answer::Legal, given[i].case().run),
+            Verdict::Illegal { index, rule } => {
+                Outcome::Answer(Answer::Illegal { index, rule }, given[i].case().run)
+            }
+            Verdict::Refused { number, offset } => Outcome::Refused { number, offset },
+        };
+        each(i, outcome)
+    })
+}
+
+/// One answer for each frame, or the program gave none.
+fn batch(
+    programs: &Programs,
+    input: Vec<u8>,
+    labels: &[String],
+    each: &mut dyn FnMut(usize, &str) -> Result<(), Trouble>,
+) -> Result<(), Trouble> {
+    let mut answered = 0;
+    programs.lines("batch", input, labels, &mut |line| {
+        answered += 1;
+        match answered <= labels.len() {
+            true => each(answered - 1, line),
+            false => Err(Trouble::OddLine("batch".to_string(), line.to_string())),
+        }
+    })?;
+    if answered < labels.len() {
+        let how = format!("it ended after {answered} answers of {}", labels.len());
+        return Err(Trouble::ProgramEnded("batch".to_string(), how));
+    }
+    Ok(())
+}
+
+/// The stories of answered cases: the proved judge is shown each run as far as it is legal, step by step, and hands out the states.
+pub fn stories(
+    programs: &Programs,
+    answered: Vec<(&Given, Answer, Vec<Step>)>,
+    budget: Option<u32>,
+) -> Result<Vec<Story>, Trouble> {
+    let mut stories: Vec<Story> = answered.into_iter().map(|one| blank(one, budget)).collect();
+    let mut owners = Vec::new();
+    let mut input = Vec::new();
+    for (i, story) in stories.iter().enumerate() {
+        for length in 0..=legal(story) {
+            owners.push(i);
+            input.extend(frames::judge(&records::with_run(
+                &story.case,
+                &story.run[..length],
+            )));
+        }
+    }
+    let labels: Vec<String> = owners
+        .iter()
+        .map(|i| format!("telling {}", stories[*i].file))
+        .collect();
+    batch(programs, input, &labels, &mut |at, line| {
+        take_state(&mut stories[owners[at]], frames::judged(line)?, line)
+    })?;
+    Ok(stories)
+}
+
+fn blank(answered: (&Given, Answer, Vec<Step>), budget: Option<u32>) -> Story {
+    let (given, answer, run) = answered;
+    Story {
+        file: given.file.clone(),
+        case: given.case(),
+        answer,
+        budget,
+        full_length: 0,
+        run,
+        states: Vec::new(),
+    }
+}
+
+/// How many steps of the run are legal.
+fn legal(story: &Story) -> usize {
+    match story.answer {
+        Answer::Illegal { index, .. } => index,
+        _ => story.run.len(),
+    }
+}
+
+fn take_state(story: &mut Story, judged: Judged, line: &str) -> Result<(), Trouble> {
+    if judged.verdict != Verdict::Legal(story.states.len()) {
+        let start = line.chars().take(40).collect();
+        return Err(Trouble::OddLine("batch".to_string(), start));
+    }
+    story.full_length = judged.full_length;
+    story.states.push(judged.state(&story.case));
+    Ok(())
+}

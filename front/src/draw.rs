@@ -1,0 +1,174 @@
+//! The picture of a run: time goes down, a row a step; entries go from left to right, from the buffers through the queues to memory.
+
+mod bands;
+mod close;
+pub mod ink;
+mod lines;
+mod look;
+mod plan;
+mod rows;
+pub mod words;
+
+use crate::lives::Life;
+use crate::story::{Answer, Story};
+use ink::{escape, Ink};
+pub use lines::look;
+pub use look::variables;
+use plan::{Plan, MARGIN};
+
+/// The whole file, to stand by itself or inside a page.
+pub fn svg(story: &Story) -> String {
+    let plan = Plan::new(story);
+    let mut ink = Ink::default();
+    headline(&mut ink, &plan);
+    rows::ground(&mut ink, &plan);
+    rows::hairs(&mut ink, &plan);
+    rows::heads(&mut ink, &plan);
+    lines::draw(&mut ink, &plan);
+    lines::arrows(&mut ink, &plan);
+    bands::draw(&mut ink, &plan);
+    lines::past(&mut ink, &plan);
+    rows::heads_again(&mut ink, &plan);
+    rows::labels(&mut ink, &plan);
+    rows::chips(&mut ink, &plan);
+    let height = close::draw(&mut ink, &plan) + MARGIN;
+    framed(&plan, height, &ink.out)
+}
+
+/// The picture's natural width.
+pub fn width(story: &Story) -> i32 {
+    Plan::new(story).width
+}
+
+fn framed(plan: &Plan, height: i32, drawn: &str) -> String {
+    let width = plan.width;
+    let (title, desc) = (escape(&title(plan)), escape(&telling(plan)));
+    let style = look::style();
+    format!(
+        r#"<svg xmlns="http://www.w3.org/2000/svg" class="run" role="img" aria-labelledby="run-title run-desc"
+ width="{width}" height="{height}" viewBox="0 0 {width} {height}">
+<title id="run-title">{title}</title>
+<desc id="run-desc">{desc}</desc>
+{style}
+<rect class="ground" width="{width}" height="{height}"/>
+{drawn}</svg>
+"#
+    )
+}
+
+fn headline(ink: &mut Ink, plan: &Plan) {
+    let answer = words::answer(plan.story);
+    let badge = answer.len() as i32 * 10 + 16;
+    ink.rect("badge", MARGIN, 10, badge, 24, 5);
+    ink.text(MARGIN + badge / 2, 27, "badgewords mid", answer);
+    let most = (plan.width - 3 * MARGIN - badge) * 10 / 73;
+    ink.text_within(
+        2 * MARGIN + badge,
+        27,
+        "mono",
+        words::file_name(plan.story),
+        most,
+    );
+    for (row, line) in plan.verdict.iter().enumerate() {
+        ink.text(MARGIN, 57 + 21 * row as i32, "verdict", line);
+    }
+}
+
+fn title(plan: &Plan) -> String {
+    let story = plan.story;
+    format!(
+        "{}: {}. {}",
+        words::file_name(story),
+        words::answer(story),
+        words::verdict(story)
+    )
+}
+
+/// The picture in words.
+fn telling(plan: &Plan) -> String {
+    let told = (0..plan.legal).map(|index| {
+        let step = words::step(plan.story.run[index]);
+        format!(
+            "Step {}, {step}: {}. ",
+            index + 1,
+            plan.deed(index, words::FULL)
+        )
+    });
+    told.collect::<String>() + &ending(plan)
+}
+
+fn ending(plan: &Plan) -> String {
+    let story = plan.story;
+    match story.answer {
+        Answer::Reached | Answer::Legal => {
+            format!(
+                "A power cut here leaves {}; lost: {}.",
+                left(story),
+                lost(story, &plan.lives)
+            )
+        }
+        _ => words::verdict(story),
+    }
+}
+
+/// The persistent words at the end.
+pub fn left(story: &Story) -> String {
+    let held = story.states.last().map_or(&[][..], |state| &state.words);
+    let pairs = story.case.names.iter().zip(held);
+    pairs
+        .map(|(name, word)| format!("{name} {word}"))
+        .collect::<Vec<_>>()
+        .join(", ")
+}
+
+/// What waits in buffers and queues at the end.
+pub fn lost(story: &Story, lives: &[Life]) -> String {
+    let legal = story.states.len().saturating_sub(1);
+    let waits = |life: &&Life| life.in_buffer(legal) || life.in_queue(legal);
+    let entry = |life: &Life| words::entry(&story.case, life.kind, words::FULL);
+    let all: Vec<String> = lives.iter().filter(waits).map(entry).collect();
+    if all.is_empty() {
+        return "nothing".to_string();
+    }
+    all.join(", ")
+}
+
+#[cfg(test)]
+mod tests {
+    use super::*;
+    use crate::lives::tests::outage;
+
+    #[test]
+    fn the_outage_fits_a_phone_and_says_what_is_left_and_lost() {
+        let drawn = svg(&outage());
+        assert!(width(&outage()) <= 390);
+        assert!(drawn.contains("A power cut here leaves limit 0, valid 1; lost: limit 500."));
+        assert!(drawn.contains("POWER CUT") && drawn.contains("valid 1 persists"));
+        assert_eq!(drawn.matches("✓ wanted").count(), 2);
+        assert_eq!(drawn.matches("chip gone").count(), 1);
+        assert_eq!(drawn, svg(&outage()));
+    }
+
+    #[test]
+    fn every_element_is_closed_and_no_name_is_markup() {
+        let mut story = outage();
+        story.file = "a/<svg>&\"\u{1}.txt".to_string();
+        let drawn = svg(&story);
+        assert!(drawn.contains("&lt;svg&gt;&amp;&quot;.txt"));
+        for tag in ["g", "text", "title", "desc", "style", "svg"] {
+            let opened = drawn.matches(&format!("<{tag} ")).count()
+                + drawn.matches(&format!("<{tag}>")).count();
+            assert_eq!(opened, drawn.matches(&format!("</{tag}>")).count(), "{tag}");
+        }
+    }
+
+    #[test]
+    fn a_step_that_is_not_possible_ends_the_picture() {
+        let mut story = outage();
+        story.answer = Answer::Illegal { index: 5, rule: 29 };
+        story.run.push(crate::case::Step::Persist { at: 1 });
+        let drawn = svg(&story);
+        assert!(drawn.contains("P1 is not possible here") && drawn.contains("breaks rule 29"));
+        assert!(!drawn.contains("POWER CUT") && !drawn.contains("chip gone"));
+    }
+}

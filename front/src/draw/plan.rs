@@ -1,0 +1,231 @@
+//! Where everything stands in the picture: a column for each buffer and each location, a row for each step.
+
+use super::ink::{chip_width, columns, small_width, wrap, CHIP_OVER};
+use super::words;
+use crate::case::{Instruction, Step};
+use crate::lives::{self, Life};
+use crate::story::Story;
+
+pub const MARGIN: i32 = 6;
+pub const ROW: i32 = 42;
+pub const START: i32 = 32;
+/// The height of the columns' heads, and of those that a long run repeats.
+pub const HEADS: i32 = 44;
+pub const AGAIN: i32 = 26;
+/// Rows between repeated heads.
+pub const BATCH: usize = 16;
+/// The way from one lane to the next.
+const PITCH: i32 = 13;
+const GAP: i32 = 3;
+/// What a chip may need on its left, the head of the arrow that leads to it, and on its right, an arrow to memory.
+const STUB: i32 = 12;
+/// What stands below the last step, so that its end is seen.
+const TAIL: i32 = 16;
+const LEAST_WIDTH: i32 = 340;
+
+/// A buffer's or a queue's place. Position 0, the oldest entry, has the lane at the right: entries go from left to right.
+#[derive(Clone, Copy)]
+pub struct Column {
+    pub left: i32,
+    pub right: i32,
+    /// The lane of position 0.
+    pub lane: i32,
+    /// The left end of the persistent word's band, which ends where the column does; a buffer has none.
+    pub band: i32,
+}
+
+impl Column {
+    pub fn lane_of(&self, position: usize) -> i32 {
+        self.lane - PITCH * position as i32
+    }
+
+    pub fn width(&self) -> i32 {
+        self.right - self.left
+    }
+}
+
+pub struct Plan<'a> {
+    pub story: &'a Story,
+    pub lives: Vec<Life>,
+    /// The number of legal steps.
+    pub legal: usize,
+    /// The width of the steps' labels.
+    pub labels: i32,
+    pub buffers: Vec<Column>,
+    pub queues: Vec<Column>,
+    pub width: i32,
+    pub verdict: Vec<String>,
+    /// The top of the columns' heads.
+    pub top: i32,
+}
+
+impl<'a> Plan<'a> {
+    pub fn new(story: &'a Story) -> Plan<'a> {
+        let mut plan = Plan {
+            story,
+            lives: lives::lives(story),
+            legal: story.states.len().saturating_sub(1).min(story.run.len()),
+            labels: 0,
+            buffers: Vec::new(),
+            queues: Vec::new(),
+            width: 0,
+            verdict: Vec::new(),
+            top: 0,
+        };
+        plan.labels = plan.label_width();
+        plan.place_columns();
+        plan.verdict = wrap(&words::verdict(story), 16, plan.width - 2 * MARGIN);
+        plan.top = 50 + 21 * plan.verdict.len() as i32;
+        plan
+    }
+
+    /// The life that a step touches.
+    pub fn touched(&self, index: usize) -> Option<usize> {
+        let at = Some(index);
+        self.lives
+            .iter()
+            .position(|life| life.issued == index || life.moved == at || life.persisted == at)
+    }
+
+    pub fn deed(&self, index: usize, most: i32) -> String {
+        let life = self.touched(index).map(|one| &self.lives[one]);
+        words::deed(self.story, index, life, most)
+    }
+
+    fn label_width(&self) -> i32 {
+        let deeds = (0..self.legal).map(|index| small_width(&self.deed(index, words::SHORT)));
+        deeds.max().unwrap_or(0).max(70) + 4
+    }
+
+    fn place_columns(&mut self) {
+        let buffers: Vec<i32> = (0..self.story.case.threads.len())
+            .map(|one| self.buffer_room(one))
+            .collect();
+        let locations = 0..self.story.case.names.len();
+        let queues: Vec<(i32, i32)> = locations
+            .map(|at| (self.queue_room(at), self.band_width(at)))
+            .collect();
+        let taken: i32 = buffers.iter().map(|room| room + GAP).sum::<i32>()
+            + queues
+                .iter()
+                .map(|(room, band)| room + band + GAP)
+                .sum::<i32>();
+        self.labels = self.labels.max(LEAST_WIDTH - taken - 2 * MARGIN);
+        let mut left = MARGIN + self.labels;
+        for (index, room) in buffers
+            .iter()
+            .map(|&room| (room, 0))
+            .chain(queues)
+            .enumerate()
+        {
+            let (room, band) = room;
+            let right = left + room + band;
+            let lane = left + room - CHIP_OVER - if band > 0 { STUB } else { GAP };
+            let column = Column {
+                left,
+                right,
+                lane,
+                band: left + room,
+            };
+            match index < buffers.len() {
+                true => self.buffers.push(column),
+                false => self.queues.push(column),
+            }
+            left = right + GAP;
+        }
+        self.width = left - GAP + MARGIN;
+    }
+
+    /// The width that a buffer's column needs: each chip stands left of the lanes in use.
+    fn buffer_room(&self, thread: usize) -> i32 {
+        let room = |index: usize| {
+            let before = self.story.states[index].buffers[thread].len() as i32;
+            before * PITCH + chip_width(&self.issue_chip(index))
+        };
+        let own = |index: &usize| {
+            self.story.run[*index]
+                == Step::Issue {
+                    thread: thread as u8,
+                }
+        };
+        let most = (0..self.legal).filter(own).map(room).max().unwrap_or(0);
+        (most + STUB + 2 * GAP - 1).max(78)
+    }
+
+    /// The width that a location's queue needs, the arrow to the band included.
+    fn queue_room(&self, at: usize) -> i32 {
+        let joins = |life: &&Life| life.kind.queue().map(usize::from) == Some(at);
+        let room = |life: &Life| {
+            let before = life
+                .moved
+                .map_or(0, |index| self.story.states[index].queues[at].len());
+            before as i32 * PITCH + chip_width(&words::held(&self.story.case, life))
+        };
+        let moved = self
+            .lives
+            .iter()
+            .filter(joins)
+            .filter(|life| life.moved.is_some());
+        let name = columns(&self.story.case.names[at]).min(14) * 8;
+        let held = self.story.states.last().map(|state| state.words[at]);
+        let want = self.story.case.wants[at].filter(|&want| Some(want) != held);
+        let wanted = want.map_or(0, |want| columns(&format!("wanted {want}")) * 8);
+        let least = name.max(wanted) + 10 - self.band_width(at);
+        (moved.map(room).max().unwrap_or(0) + 2 * STUB)
+            .max(42)
+            .max(least)
+    }
+
+    fn band_width(&self, at: usize) -> i32 {
+        let words = self
+            .story
+            .states
+            .iter()
+            .map(|state| columns(&state.words[at].to_string()));
+        (words.max().unwrap_or(0) * 8 + 8).max(44)
+    }
+
+    /// What an issue shows in its thread's buffer: the entry, or what a load or an exchange brings, or the mfence.
+    pub fn issue_chip(&self, index: usize) -> String {
+        let Step::Issue { thread } = self.story.run[index] else {
+            return String::new();
+        };
+        let own = thread as usize;
+        let behind = &self.story.states[index + 1];
+        match self.story.case.threads[own][behind.issued[own] - 1] {
+            Instruction::Load { register, .. } | Instruction::Exchange { register, .. } => {
+                format!("r{register} = {}", behind.registers[own][register as usize])
+            }
+            Instruction::Mfence => "mfence".to_string(),
+            _ => match self.touched(index) {
+                Some(one) => words::entry(&self.story.case, self.lives[one].kind, words::SHORT),
+                None => String::new(),
+            },
+        }
+    }
+
+    pub fn again(&self, row: usize) -> bool {
+        row > 0 && row % BATCH == 0 && self.legal > BATCH + 4
+    }
+
+    pub fn row_top(&self, row: usize) -> i32 {
+        let batches = if self.legal > BATCH + 4 {
+            (row / BATCH) as i32
+        } else {
+            0
+        };
+        self.top + HEADS + START + ROW * row as i32 + AGAIN * batches
+    }
+
+    pub fn middle(&self, row: usize) -> i32 {
+        self.row_top(row) + ROW / 2
+    }
+
+    /// Where the rows end and the closing part begins.
+    pub fn bottom(&self) -> i32 {
+        match self.legal {
+            0 => self.top + HEADS + START,
+            legal => self.row_top(legal - 1) + ROW + TAIL,
+        }
+    }
+}

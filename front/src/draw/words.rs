@@ -1,0 +1,137 @@
+//! Instructions, steps and entries in words, as docs/TEXT.md writes them; names as long as the place for them allows.
+
+use super::ink::shorten;
+use crate::case::{Case, Instruction, Step};
+use crate::lives::{Kind, Life};
+use crate::story::{Answer, Story};
+
+/// The columns of a name inside a chip or a step's words; `FULL` cuts nothing.
+pub const SHORT: i32 = 10;
+pub const FULL: i32 = 200;
+
+pub fn name(case: &Case, at: u8, most: i32) -> String {
+    shorten(&case.names[at as usize], most)
+}
+
+pub fn instruction(case: &Case, instruction: Instruction, most: i32) -> String {
+    let name = |at| name(case, at, most);
+    match instruction {
+        Instruction::Store { at, word } => format!("store {} {word}", name(at)),
+        Instruction::StoreRegister { at, register } => format!("store {} r{register}", name(at)),
+        Instruction::Load { at, register } => format!("load {} r{register}", name(at)),
+        Instruction::Exchange { at, register, word } => {
+            format!("xchg {} r{register} {word}", name(at))
+        }
+        Instruction::Flush { at } => format!("clflush {}", name(at)),
+        Instruction::FlushOpt { at } => format!("clflushopt {}", name(at)),
+        Instruction::Sfence => "sfence".to_string(),
+        Instruction::Mfence => "mfence".to_string(),
+    }
+}
+
+/// A step as the programs print it.
+pub fn step(step: Step) -> String {
+    match step {
+        Step::Issue { thread } => format!("I{thread}"),
+        Step::Move { thread, position } => format!("M{thread}.{position}"),
+        Step::Persist { at } => format!("P{at}"),
+    }
+}
+
+/// An entry as it waits in a buffer.
+pub fn entry(case: &Case, kind: Kind, most: i32) -> String {
+    let name = |at| name(case, at, most);
+    match kind {
+        Kind::Store { at, word } | Kind::Exchange { at, word } => format!("{} {word}", name(at)),
+        Kind::Flush { at } => format!("flush {}", name(at)),
+        Kind::FlushOpt { at } => format!("flush-opt {}", name(at)),
+        Kind::Sfence => "sfence".to_string(),
+    }
+}
+
+/// An entry as it waits in a queue, whose location is known there; a marker names its thread where there are several.
+pub fn held(case: &Case, life: &Life) -> String {
+    match life.kind.word() {
+        Some(word) => word.to_string(),
+        None if case.threads.len() == 1 => "marker".to_string(),
+        None => format!("marker {}", life.thread),
+    }
+}
+
+/// What a legal step does, in a few words; `life` is the entry that it touches.
+pub fn deed(story: &Story, index: usize, life: Option<&Life>, most: i32) -> String {
+    let case = &story.case;
+    match (story.run[index], life) {
+        (Step::Issue { thread }, _) => {
+            let own = thread as usize;
+            instruction(
+                case,
+                case.threads[own][story.states[index].issued[own]],
+                most,
+            )
+        }
+        (Step::Move { .. }, Some(life)) => match life.kind {
+            Kind::FlushOpt { at } => format!("marker to {}", name(case, at, most)),
+            Kind::Flush { .. } | Kind::Sfence => format!("{} done", entry(case, life.kind, most)),
+            _ => format!("{} moves", entry(case, life.kind, most)),
+        },
+        (Step::Persist { .. }, Some(life)) if life.kind.word().is_some() => {
+            format!("{} persists", entry(case, life.kind, most))
+        }
+        _ => "marker vanishes".to_string(),
+    }
+}
+
+/// The answer in one word, as the programs print it.
+pub fn answer(story: &Story) -> &'static str {
+    match story.answer {
+        Answer::Reached => "REACHED",
+        Answer::Unreachable => "UNREACHABLE",
+        Answer::Undecided => "UNDECIDED",
+        Answer::Legal => "LEGAL",
+        Answer::Illegal { .. } => "ILLEGAL",
+    }
+}
+
+/// What the answer means, in a sentence.
+pub fn verdict(story: &Story) -> String {
+    let asked = asked(&story.case);
+    match story.answer {
+        Answer::Reached => format!("A power cut can leave {asked}."),
+        Answer::Unreachable => format!("No power cut can leave {asked}."),
+        Answer::Undecided => format!(
+            "Can a power cut leave {asked}? Not decided within {} runs.",
+            story.budget.unwrap_or(0)
+        ),
+        Answer::Legal => format!(
+            "All steps are legal: {}.",
+            story.states.len().saturating_sub(1)
+        ),
+        Answer::Illegal { index, rule } => match story.run.get(index) {
+            Some(&taken) => format!("Step {}, {}, breaks rule {rule}.", index + 1, step(taken)),
+            None => format!("Step {} breaks rule {rule}.", index + 1),
+        },
+    }
+}
+
+/// The words wanted and the instructions that must be issued.
+fn asked(case: &Case) -> String {
+    let wants = case.names.iter().zip(&case.wants);
+    let words = wants.filter_map(|(name, want)| want.map(|word| format!("{name} {word}")));
+    let counts = case
+        .passed
+        .iter()
+        .enumerate()
+        .filter(|&(_, &count)| count > 0);
+    let issued = counts.map(|(thread, count)| format!("{count} issued of thread {thread}"));
+    let all: Vec<String> = words.chain(issued).collect();
+    if all.is_empty() {
+        return "any memory".to_string();
+    }
+    all.join(", ")
+}
+
+/// The last part of the file's path.
+pub fn file_name(story: &Story) -> &str {
+    story.file.rsplit('/').next().unwrap_or("")
+}

@@ -1,0 +1,124 @@
+//! Frames for the program `batch` and what its lines say. second/README.md has both.
+
+use crate::case::{Case, Step};
+use crate::messages::Trouble;
+use crate::records;
+use crate::sizes;
+use crate::state::State;
+
+/// Reading looks at no byte behind 1,340, so that a longer file is answered by so many.
+const MOST_INPUT: usize = 2048;
+const JUDGE: u32 = 2_147_483_648;
+const QUESTION: u32 = JUDGE + 3;
+const RECORD: usize = 8;
+
+#[derive(Clone, Debug, PartialEq, Eq)]
+pub enum Asked {
+    Reached(Vec<Step>),
+    Unreachable,
+    Undecided,
+    Refused { number: u32, offset: usize },
+}
+
+pub struct Judged {
+    pub verdict: Verdict,
+    pub full_length: usize,
+    /// The state's bytes; of a case that is refused they are those of the empty case.
+    bytes: Vec<u8>,
+}
+
+#[derive(Clone, Copy, Debug, PartialEq, Eq)]
+pub enum Verdict {
+    Legal(usize),
+    Illegal { index: usize, rule: u32 },
+    Refused { number: u32, offset: usize },
+}
+
+impl Judged {
+    pub fn state(&self, case: &Case) -> State {
+        State::of(&self.bytes, case)
+    }
+}
+
+pub fn question(input: &[u8], budget: u32) -> Vec<u8> {
+    frame(QUESTION, input, (sizes::STEPS * RECORD) as u32, budget)
+}
+
+pub fn judge(input: &[u8]) -> Vec<u8> {
+    frame(JUDGE, input, 0, 0)
+}
+
+fn frame(job: u32, input: &[u8], third: u32, fourth: u32) -> Vec<u8> {
+    let input = &input[..input.len().min(MOST_INPUT)];
+    let head = [job, input.len() as u32, third, fourth];
+    let mut out: Vec<u8> = head
+        .iter()
+        .flat_map(|number| number.to_le_bytes())
+        .collect();
+    out.extend(input);
+    out
+}
+
+pub fn asked(line: &str) -> Result<Asked, Trouble> {
+    let odd = || odd_line(line);
+    let [number, place, buffer] = fields(line).ok_or_else(odd)?;
+    let place: usize = place.parse().map_err(|_| odd())?;
+    match number.parse().map_err(|_| odd())? {
+        100 => {
+            let bytes = bytes_of(buffer).ok_or_else(odd)?;
+            let shown = bytes.get(..place * RECORD).ok_or_else(odd)?;
+            let step =
+                |record: &[u8]| records::step_in([record[4], record[5], record[6], record[7]]);
+            Ok(Asked::Reached(shown.chunks(RECORD).map(step).collect()))
+        }
+        101 => Ok(Asked::Unreachable),
+        102 => Ok(Asked::Undecided),
+        number => Ok(Asked::Refused {
+            number,
+            offset: place,
+        }),
+    }
+}
+
+pub fn judged(line: &str) -> Result<Judged, Trouble> {
+    let odd = || odd_line(line);
+    let [number, place, _, full_length, state] = fields(line).ok_or_else(odd)?;
+    let place = place.parse().map_err(|_| odd())?;
+    let verdict = match number.parse().map_err(|_| odd())? {
+        103 => Verdict::Legal(place),
+        rule @ 21..=29 => Verdict::Illegal { index: place, rule },
+        number => Verdict::Refused {
+            number,
+            offset: place,
+        },
+    };
+    let bytes = bytes_of(state)
+        .filter(|bytes| bytes.len() == State::BYTES)
+        .ok_or_else(odd)?;
+    let full_length = full_length.parse().map_err(|_| odd())?;
+    Ok(Judged {
+        verdict,
+        full_length,
+        bytes,
+    })
+}
+
+fn fields<const COUNT: usize>(line: &str) -> Option<[&str; COUNT]> {
+    line.split(' ').collect::<Vec<&str>>().try_into().ok()
+}
+
+fn bytes_of(hex: &str) -> Option<Vec<u8>> {
+    let digit = |at: usize| {
+        hex.as_bytes()
+            .get(at)
+            .and_then(|c| (*c as char).to_digit(16))
+    };
+    (0..hex.len())
+        .step_by(2)
+        .map(|at| Some((digit(at)? * 16 + digit(at + 1)?) as u8))
+        .collect()
+}
+
+fn odd_line(line: &str) -> Trouble {
+    Trouble::OddLine("batch".to_string(), line.chars().take(40).collect())
+}

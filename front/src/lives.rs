@@ -1,0 +1,262 @@
+//! The life of each entry of a run: the steps that issued it, moved it and let it persist. It follows the run and decides nothing.
+
+use crate::case::{Instruction, Step};
+use crate::state::Entry;
+use crate::story::Story;
+
+/// Steps are told by their index in the run, from 0.
+#[derive(Clone, Debug, PartialEq, Eq)]
+pub struct Life {
+    pub thread: u8,
+    /// The index of its instruction in the thread.
+    pub instruction: usize,
+    pub kind: Kind,
+    pub issued: usize,
+    pub moved: Option<usize>,
+    pub persisted: Option<usize>,
+}
+
+#[derive(Clone, Copy, Debug, PartialEq, Eq)]
+pub enum Kind {
+    Store { at: u8, word: u32 },
+    Flush { at: u8 },
+    FlushOpt { at: u8 },
+    Sfence,
+    Exchange { at: u8, word: u32 },
+}
+
+impl Kind {
+    /// The location whose queue it goes to; a flush and an sfence go to none.
+    pub fn queue(self) -> Option<u8> {
+        match self {
+            Kind::Store { at, .. } | Kind::FlushOpt { at } | Kind::Exchange { at, .. } => Some(at),
+            Kind::Flush { .. } | Kind::Sfence => None,
+        }
+    }
+
+    /// The word that it brings to memory; only writes have one.
+    pub fn word(self) -> Option<u32> {
+        match self {
+            Kind::Store { word, .. } | Kind::Exchange { word, .. } => Some(word),
+            _ => None,
+        }
+    }
+}
+
+impl Life {
+    /// Whether it waits in its thread's buffer, so many steps behind the start.
+    pub fn in_buffer(&self, steps: usize) -> bool {
+        self.issued < steps && self.moved.map_or(true, |moved| moved >= steps)
+    }
+
+    /// Whether it waits in a queue, so many steps behind the start.
+    pub fn in_queue(&self, steps: usize) -> bool {
+        self.kind.queue().is_some()
+            && self.moved.is_some_and(|moved| moved < steps)
+            && self.persisted.map_or(true, |persisted| persisted >= steps)
+    }
+}
+
+/// Loads and mfences wait nowhere and have no life. The lives come in the order of their issue.
+pub fn lives(story: &Story) -> Vec<Life> {
+    let mut ledger = Ledger {
+        lives: Vec::new(),
+        buffers: vec![Vec::new(); story.case.threads.len()],
+        queues: vec![Vec::new(); story.case.names.len()],
+    };
+    let legal = story.states.len().saturating_sub(1);
+    for (index, step) in story.run.iter().take(legal).enumerate() {
+        match *step {
+            Step::Issue { thread } => ledger.issue(story, index, thread),
+            Step::Move { thread, position } => ledger.move_out(index, thread, position),
+            Step::Persist { at } => ledger.persist(index, at),
+        }
+    }
+    ledger.lives
+}
+
+/// The lives of one buffer so many steps behind the start, the oldest first, as indices.
+pub fn buffer(lives: &[Life], thread: usize, steps: usize) -> Vec<usize> {
+    let here = |life: &Life| life.thread as usize == thread && life.in_buffer(steps);
+    (0..lives.len()).filter(|&one| here(&lives[one])).collect()
+}
+
+/// The lives of one queue so many steps behind the start, the oldest first, as indices.
+pub fn queue(lives: &[Life], at: usize, steps: usize) -> Vec<usize> {
+    let here = |life: &Life| life.in_queue(steps) && life.kind.queue().map(usize::from) == Some(at);
+    let mut found: Vec<usize> = (0..lives.len()).filter(|&one| here(&lives[one])).collect();
+    found.sort_by_key(|&one| lives[one].moved);
+    found
+}
+
+/// Lives by index: all of them, those in each buffer, those in each queue.
+struct Ledger {
+    lives: Vec<Life>,
+    buffers: Vec<Vec<usize>>,
+    queues: Vec<Vec<usize>>,
+}
+
+impl Ledger {
+    fn issue(&mut self, story: &Story, index: usize, thread: u8) {
+        let own = thread as usize;
+        let instruction = story.states[index].issued[own];
+        let kind = match story.case.threads[own][instruction] {
+            Instruction::Store { at, word } => Kind::Store { at, word },
+            // the judge's state has the word that the register held
+            Instruction::StoreRegister { at, .. } => {
+                match story.states[index + 1].buffers[own].last() {
+                    Some(&Entry::Store { word, .. }) => Kind::Store { at, word },
+                    _ => return,
+                }
+            }
+            Instruction::Exchange { at, word, .. } => Kind::Exchange { at, word },
+            Instruction::Flush { at } => Kind::Flush { at },
+            Instruction::FlushOpt { at } => Kind::FlushOpt { at },
+            Instruction::Sfence => Kind::Sfence,
+            Instruction::Load { .. } | Instruction::Mfence => return,
+        };
+        let straight = matches!(kind, Kind::Exchange { .. });
+        let moved = straight.then_some(index);
+        let life = Life {
+            thread,
+            instruction,
+            kind,
+            issued: index,
+            moved,
+            persisted: None,
+        };
+        match kind {
+            Kind::Exchange { at, .. } => self.queues[at as usize].push(self.lives.len()),
+            _ => self.buffers[own].push(self.lives.len()),
+        }
+        self.lives.push(life);
+    }
+
+    fn move_out(&mut self, index: usize, thread: u8, position: u8) {
+        let one = self.buffers[thread as usize].remove(position as usize);
+        self.lives[one].moved = Some(index);
+        if let Some(at) = self.lives[one].kind.queue() {
+            self.queues[at as usize].push(one);
+        }
+    }
+
+    fn persist(&mut self, index: usize, at: u8) {
+        let one = self.queues[at as usize].remove(0);
+        self.lives[one].persisted = Some(index);
+    }
+}
+
+#[cfg(test)]
+pub mod tests {
+    use super::*;
+    use crate::case::Case;
+    use crate::state::{Held, State};
+    use crate::story::Answer;
+
+    /// The outage, written by hand: the row of docs/MACHINE.md, "A run, step by step".
+    pub fn outage() -> Story {
+        let stores = [
+            Entry::Store { at: 0, word: 500 },
+            Entry::Store { at: 1, word: 1 },
+        ];
+        let [limit, valid] = [500, 1].map(|word| vec![Held::Write { word }]);
+        let none = Vec::new;
+        let states = vec![
+            state([0, 0], [none(), none()], &[], 0),
+            state([0, 0], [none(), none()], &stores[..1], 1),
+            state([0, 0], [none(), none()], &stores, 2),
+            state([0, 0], [limit.clone(), none()], &stores[1..], 2),
+            state([0, 0], [limit.clone(), valid], &[], 2),
+            state([0, 1], [limit, none()], &[], 2),
+        ];
+        let answer = Answer::Reached;
+        let file = "examples/outage.txt".to_string();
+        Story {
+            file,
+            case: case(),
+            answer,
+            budget: Some(8),
+            full_length: 6,
+            run: run(),
+            states,
+        }
+    }
+
+    fn run() -> Vec<Step> {
+        vec![
+            Step::Issue { thread: 0 },
+            Step::Issue { thread: 0 },
+            Step::Move {
+                thread: 0,
+                position: 0,
+            },
+            Step::Move {
+                thread: 0,
+                position: 0,
+            },
+            Step::Persist { at: 1 },
+        ]
+    }
+
+    fn case() -> Case {
+        let [at_limit, at_valid] =
+            [(0, 500), (1, 1)].map(|(at, word)| Instruction::Store { at, word });
+        Case {
+            names: vec!["limit".to_string(), "valid".to_string()],
+            first: vec![0, 0],
+            threads: vec![vec![at_limit, at_valid]],
+            wants: vec![Some(0), Some(1)],
+            passed: vec![0],
+            run: Vec::new(),
+        }
+    }
+
+    fn state(words: [u32; 2], queues: [Vec<Held>; 2], buffer: &[Entry], issued: usize) -> State {
+        State {
+            words: words.to_vec(),
+            queues: queues.to_vec(),
+            buffers: vec![buffer.to_vec()],
+            registers: vec![vec![0; 4]],
+            issued: vec![issued],
+        }
+    }
+
+    #[test]
+    fn the_outage_has_two_lives() {
+        let found = lives(&outage());
+        let times: Vec<_> = found
+            .iter()
+            .map(|life| (life.issued, life.moved, life.persisted))
+            .collect();
+        assert_eq!(times, [(0, Some(2), None), (1, Some(3), Some(4))]);
+        assert_eq!(found[1].kind, Kind::Store { at: 1, word: 1 });
+    }
+
+    #[test]
+    fn the_lives_stand_where_the_states_have_entries() {
+        let story = outage();
+        let found = lives(&story);
+        for (steps, state) in story.states.iter().enumerate() {
+            assert_eq!(buffer(&found, 0, steps).len(), state.buffers[0].len());
+            let lengths = [0, 1].map(|at| queue(&found, at, steps).len());
+            assert_eq!(lengths, [0, 1].map(|at| state.queues[at].len()));
+        }
+    }
+
+    #[test]
+    fn an_exchange_goes_straight_to_its_queue_and_a_load_has_no_life() {
+        let mut story = outage();
+        let exchange = Instruction::Exchange {
+            at: 1,
+            register: 0,
+            word: 1,
+        };
+        story.case.threads = vec![vec![Instruction::Load { at: 0, register: 0 }, exchange]];
+        story.run.truncate(2);
+        story.states.truncate(3);
+        let found = lives(&story);
+        assert_eq!(found.len(), 1);
+        assert_eq!((found[0].issued, found[0].moved), (1, Some(1)));
+        assert!(found[0].in_queue(2) && !found[0].in_buffer(2) && !found[0].in_queue(1));
+    }
+}

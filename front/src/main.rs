@@ -1,0 +1,44 @@
+//! The front door: readable cases in, the proved programs' answers out, in words and pictures. It decides nothing itself.
+
+mod case;
+mod commands;
+mod cut;
+mod desk;
+mod draw;
+mod frames;
+mod hints;
+mod json;
+mod layout;
+mod lives;
+mod messages;
+mod operands;
+mod options;
+mod output;
+mod page;
+mod parse;
+mod programs;
+mod records;
+mod report;
+mod rules;
+mod several;
+mod sizes;
+mod state;
+mod story;
+mod tell;
+mod words;
+
+use std::process::ExitCode;
+
+fn main() -> ExitCode {
+    let words: Vec<String> = std::env::args_os()
+        .skip(1)
+        .map(|word| word.to_string_lossy().into_owned())
+        .collect();
+    match options::options(&words).and_then(|options| commands::run(&options)) {
+        Ok(status) => ExitCode::from(status),
+        Err(trouble) => {
+            eprintln!("garluveni: {trouble}");
+            ExitCode::from(commands::NO_ANSWER)
+        }
+    }
+}

@@ -1,0 +1,260 @@
+//! The page that steps through a run: one file, with the picture, the states as data, and the script that shows them.
+
+use crate::case::Instruction;
+use crate::draw::{self, ink::escape, words};
+use crate::lives::{self, Life};
+use crate::state::State;
+use crate::story::{Answer, Story};
+
+/// `told` has a sentence for each legal step.
+pub fn html(story: &Story, told: &[String]) -> String {
+    let picture = draw::svg(story);
+    let value = |key: &str| match key {
+        "title" => escape(&format!(
+            "{}: {}",
+            words::file_name(story),
+            words::answer(story)
+        )),
+        "colours" => draw::variables(),
+        "style" => include_str!("page.css").to_string(),
+        "answer" => words::answer(story).to_string(),
+        "file" => escape(words::file_name(story)),
+        "verdict" => escape(&words::verdict(story)),
+        "size" => if draw::width(story) <= 560 {
+            "small"
+        } else {
+            ""
+        }
+        .to_string(),
+        "picture" => picture.clone(),
+        "story" => data(story, told),
+        "script" => include_str!("page.js").to_string(),
+        _ => String::new(),
+    };
+    fill(include_str!("page.html"), value)
+}
+
+/// The template with a value in each place; what is put in is not looked at again.
+fn fill(template: &str, value: impl Fn(&str) -> String) -> String {
+    let mut pieces = template.split("{{");
+    let mut out = pieces.next().unwrap_or("").to_string();
+    for piece in pieces {
+        let (key, rest) = piece.split_once("}}").unwrap_or((piece, ""));
+        out += &value(key);
+        out += rest;
+    }
+    out
+}
+
+fn data(story: &Story, told: &[String]) -> String {
+    let case = &story.case;
+    let lives = lives::lives(story);
+    let program = |thread: &Vec<Instruction>| {
+        list(
+            thread
+                .iter()
+                .map(|&one| quote(&words::instruction(case, one, words::FULL))),
+        )
+    };
+    let wants = case
+        .wants
+        .iter()
+        .map(|want| want.map_or("null".to_string(), |word| word.to_string()));
+    let states = story
+        .states
+        .iter()
+        .enumerate()
+        .map(|(steps, state)| state_data(story, &lives, steps, state));
+    object(&[
+        ("names", list(case.names.iter().map(|name| quote(name)))),
+        ("threads", list(case.threads.iter().map(program))),
+        ("wants", list(wants)),
+        (
+            "start",
+            quote("The start: nothing is issued yet, and memory holds the first words."),
+        ),
+        ("steps", list(steps(story, told))),
+        ("states", list(states)),
+        ("end", end(story, &lives)),
+    ])
+}
+
+/// The legal steps with their sentences, then the one that is not possible.
+fn steps(story: &Story, told: &[String]) -> Vec<String> {
+    let step = |(&taken, say): (_, &String)| {
+        object(&[("code", quote(&words::step(taken))), ("say", quote(say))])
+    };
+    let legal = story.states.len().saturating_sub(1);
+    let mut all: Vec<String> = story.run.iter().take(legal).zip(told).map(step).collect();
+    if let Answer::Illegal { index, rule } = story.answer {
+        let name = story
+            .run
+            .get(index)
+            .map_or(String::new(), |&taken| words::step(taken));
+        let say = format!(
+            "{name} is not possible here: it breaks rule {rule}. The state stays as it is."
+        );
+        all.push(object(&[("code", quote(&name)), ("say", quote(&say))]));
+    }
+    all
+}
+
+fn state_data(story: &Story, lives: &[Life], steps: usize, state: &State) -> String {
+    let case = &story.case;
+    let buffer = |thread| {
+        let text = |one: usize| words::entry(case, lives[one].kind, words::FULL);
+        entries(lives, &lives::buffer(lives, thread, steps), text)
+    };
+    let queue = |at| {
+        let text = |one: usize| words::held(case, &lives[one]);
+        entries(lives, &lives::queue(lives, at, steps), text)
+    };
+    let threads = 0..case.threads.len();
+    let locations = 0..case.names.len();
+    object(&[
+        ("issued", list(state.issued.iter().map(usize::to_string))),
+        ("buffers", list(threads.clone().map(buffer))),
+        ("queues", list(locations.clone().map(queue))),
+        (
+            "words",
+            list(locations.map(|at| word_data(lives, steps, at, state.words[at]))),
+        ),
+        (
+            "registers",
+            list(threads.map(|thread| registers(story, thread, state))),
+        ),
+    ])
+}
+
+fn entries(lives: &[Life], waiting: &[usize], text: impl Fn(usize) -> String) -> String {
+    list(waiting.iter().map(|&one| {
+        let look = quote(&draw::look(lives, one));
+        object(&[
+            ("life", one.to_string()),
+            ("look", look),
+            ("text", quote(&text(one))),
+        ])
+    }))
+}
+
+/// A persistent word, the look of the write that brought it, and the step that did: 0 for a first content.
+fn word_data(lives: &[Life], steps: usize, at: usize, word: u32) -> String {
+    let here = |one: &usize| {
+        let life = &lives[*one];
+        life.kind.word().is_some()
+            && life.kind.queue().map(usize::from) == Some(at)
+            && life.persisted.is_some_and(|index| index < steps)
+    };
+    let last = (0..lives.len())
+        .filter(here)
+        .max_by_key(|&one| lives[one].persisted);
+    let look = last.map_or("still".to_string(), |one| draw::look(lives, one));
+    let since = last
+        .and_then(|one| lives[one].persisted)
+        .map_or(0, |index| index + 1);
+    object(&[
+        ("text", quote(&word.to_string())),
+        ("look", quote(&look)),
+        ("since", since.to_string()),
+    ])
+}
+
+/// The registers that the thread's program names.
+fn registers(story: &Story, thread: usize, state: &State) -> String {
+    let mut named: Vec<u8> = story.case.threads[thread]
+        .iter()
+        .filter_map(register)
+        .collect();
+    named.sort();
+    named.dedup();
+    let word = |&one: &u8| {
+        quote(&format!(
+            "r{one} = {}",
+            state.registers[thread][one as usize]
+        ))
+    };
+    list(named.iter().map(word))
+}
+
+fn register(instruction: &Instruction) -> Option<u8> {
+    match *instruction {
+        Instruction::StoreRegister { register, .. }
+        | Instruction::Load { register, .. }
+        | Instruction::Exchange { register, .. } => Some(register),
+        _ => None,
+    }
+}
+
+/// What a power cut at the end leaves; nothing where no power cut is told of.
+fn end(story: &Story, lives: &[Life]) -> String {
+    if !matches!(story.answer, Answer::Reached | Answer::Legal) {
+        return "null".to_string();
+    }
+    let left = format!("A power cut here leaves {}.", draw::left(story));
+    let lost = format!("Lost: {}.", draw::lost(story, lives));
+    object(&[("left", quote(&left)), ("lost", quote(&lost))])
+}
+
+fn list(items: impl IntoIterator<Item = String>) -> String {
+    format!("[{}]", items.into_iter().collect::<Vec<_>>().join(","))
+}
+
+fn object(fields: &[(&str, String)]) -> String {
+    let pairs = fields
+        .iter()
+        .map(|(name, value)| format!("\"{name}\":{value}"));
+    format!("{{{}}}", pairs.collect::<Vec<_>>().join(","))
+}
+
+/// A text as data: no sign in it can end the text, or the script element that it stands in.
+fn quote(text: &str) -> String {
+    let mut out = String::from("\"");
+    for one in text.chars() {
+        match one {
+            '"' | '\\' | '<' | '\u{2028}' | '\u{2029}' => out += &format!("\\u{:04x}", one as u32),
+            _ if one.is_control() => out += &format!("\\u{:04x}", one as u32),
+            _ => out.push(one),
+        }
+    }
+    out + "\""
+}
+
+#[cfg(test)]
+mod tests {
+    use super::*;
+    use crate::lives::tests::outage;
+
+    fn page(story: &Story) -> String {
+        let told: Vec<String> = (1..=5).map(|step| format!("Sentence {step}.")).collect();
+        html(story, &told)
+    }
+
+    #[test]
+    fn no_text_ends_the_element_that_it_stands_in() {
+        assert_eq!(quote("</script>\"\n"), r#""\u003c/script>\u0022\u000a""#);
+        let mut story = outage();
+        story.file = "</script><b>{{story}}".to_string();
+        let page = page(&story);
+        assert!(!page.contains("<b>") && page.contains("&lt;b&gt;{{story}}"));
+        assert_eq!(page.matches("</script>").count(), 2);
+    }
+
+    #[test]
+    fn the_outage_has_its_sentences_and_its_last_state() {
+        let page = page(&outage());
+        assert!(page.contains(r#"{"code":"P1","say":"Sentence 5."}"#));
+        assert!(page.contains(r#"{"text":"1","look":"c1 w0","since":5}"#));
+        assert!(page.contains("A power cut here leaves limit 0, valid 1."));
+        assert!(page.contains("Lost: limit 500."));
+    }
+
+    #[test]
+    fn a_step_that_is_not_possible_comes_last() {
+        let mut story = outage();
+        story.answer = Answer::Illegal { index: 5, rule: 29 };
+        story.run.push(crate::case::Step::Persist { at: 1 });
+        let page = page(&story);
+        assert!(page.contains("P1 is not possible here: it breaks rule 29."));
+        assert!(!page.contains("A power cut here"));
+    }
+}

@@ -1,0 +1,135 @@
+//! Calls the proved programs: gives them their input, takes their lines, and shows on a terminal that they are at work.
+
+use crate::messages::Trouble;
+use crate::output;
+use std::io::{BufRead, BufReader, IsTerminal, Write};
+use std::path::PathBuf;
+use std::process::{Child, Command, Stdio};
+use std::sync::mpsc::{self, Receiver, RecvTimeoutError};
+use std::thread;
+use std::time::{Duration, Instant};
+
+pub struct Programs {
+    root: PathBuf,
+}
+
+/// What is shown on a terminal while a program takes longer than a second.
+struct Progress<'a> {
+    labels: &'a [String],
+    began: Instant,
+    is_on: bool,
+    is_shown: bool,
+}
+
+impl Programs {
+    pub fn new() -> Result<Programs, Trouble> {
+        let root = std::env::var_os("GARLUVENI_ROOT").ok_or(Trouble::NoRoot)?;
+        Ok(Programs { root: root.into() })
+    }
+
+    /// Hands each line that the program prints to `each`; the labels say what each line is waited for.
+    pub fn lines(
+        &self,
+        program: &str,
+        input: Vec<u8>,
+        labels: &[String],
+        each: &mut dyn FnMut(&str) -> Result<(), Trouble>,
+    ) -> Result<(), Trouble> {
+        let mut child = self.start(program)?;
+        let lines = converse(&mut child, input);
+        let taken = take_lines(&lines, labels, each);
+        if taken.is_err() {
+            // whatever it was about to say, nobody listens any more
+            let _ = child.kill();
+        }
+        let ended = child.wait();
+        taken?;
+        match ended {
+            Ok(status) if status.success() => Ok(()),
+            Ok(status) => Err(Trouble::ProgramEnded(
+                program.to_string(),
+                status.to_string(),
+            )),
+            Err(error) => Err(Trouble::ProgramEnded(
+                program.to_string(),
+                output::plain(&error),
+            )),
+        }
+    }
+
+    fn start(&self, program: &str) -> Result<Child, Trouble> {
+        Command::new(self.root.join("tests/run"))
+            .arg(program)
+            .stdin(Stdio::piped())
+            .stdout(Stdio::piped())
+            .spawn()
+            .map_err(|error| Trouble::CannotRun(program.to_string(), output::plain(&error)))
+    }
+}
+
+/// Writes the input and reads the lines, each in a thread of its own: a program may print before it has read all.
+fn converse(child: &mut Child, input: Vec<u8>) -> Receiver<String> {
+    let (send, lines) = mpsc::channel();
+    if let Some(mut stdin) = child.stdin.take() {
+        // a program may end before it has read all; what it printed says why
+        thread::spawn(move || stdin.write_all(&input).ok());
+    }
+    if let Some(stdout) = child.stdout.take() {
+        thread::spawn(move || {
+            let lines = BufReader::new(stdout).lines();
+            lines
+                .map_while(Result::ok)
+                .all(|line| send.send(line).is_ok())
+        });
+    }
+    lines
+}
+
+fn take_lines(
+    lines: &Receiver<String>,
+    labels: &[String],
+    each: &mut dyn FnMut(&str) -> Result<(), Trouble>,
+) -> Result<(), Trouble> {
+    let mut progress = Progress::new(labels);
+    let mut taken = 0;
+    loop {
+        match lines.recv_timeout(Duration::from_millis(200)) {
+            Ok(line) => {
+                taken += 1;
+                progress.clear();
+                each(&line)?;
+            }
+            Err(RecvTimeoutError::Timeout) => progress.show(taken),
+            Err(RecvTimeoutError::Disconnected) => break,
+        }
+    }
+    progress.clear();
+    Ok(())
+}
+
+impl Progress<'_> {
+    fn new(labels: &[String]) -> Progress<'_> {
+        Progress {
+            labels,
+            began: Instant::now(),
+            is_on: std::io::stderr().is_terminal(),
+            is_shown: false,
+        }
+    }
+
+    fn show(&mut self, at: usize) {
+        let seconds = self.began.elapsed().as_secs();
+        if self.is_on && seconds >= 1 {
+            let label = self.labels.get(at).map_or("", String::as_str);
+            eprint!("\r\x1b[K{label}: {seconds} s ..");
+            self.is_shown = true;
+        }
+    }
+
+    fn clear(&mut self) {
+        if self.is_shown {
+            eprint!("\r\x1b[K");
+            self.is_shown = false;
+        }
+    }
+}

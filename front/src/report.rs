@@ -1,0 +1,240 @@
+//! The answer to one case in words.
+
+use crate::case::Case;
+use crate::cut::{self, Place};
+use crate::layout;
+use crate::messages::Mistake;
+use crate::rules;
+use crate::story::{Answer, Story};
+use crate::tell;
+
+/// So many mistakes of a text are told.
+pub const MOST_MISTAKES: usize = 20;
+
+/// The mistakes of a text, each with its place.
+pub fn mistakes(file: &str, mistakes: &[Mistake]) -> String {
+    let told = mistakes.iter().take(MOST_MISTAKES);
+    let mut lines: String = told
+        .map(|one| format!("{file}:{}:{}: {}\n", one.line, one.column, one.what))
+        .collect();
+    if mistakes.len() > MOST_MISTAKES {
+        lines += &format!(
+            "{file}: and {} more\n",
+            many(mistakes.len() - MOST_MISTAKES)
+        );
+    }
+    lines
+}
+
+pub fn many(mistakes: usize) -> String {
+    match mistakes {
+        1 => "1 mistake".to_string(),
+        _ => format!("{mistakes} mistakes"),
+    }
+}
+
+pub fn refused(file: &str, number: u32, offset: usize) -> String {
+    let meaning = rules::refusal(number);
+    format!("{file}\nREFUSED: number {number}, the record at offset {offset}.\nNumber {number}: {meaning}.\n")
+}
+
+/// A number with commas.
+pub fn commas(number: u32) -> String {
+    let digits = number.to_string();
+    let mut out = String::new();
+    for (i, digit) in digits.chars().enumerate() {
+        if i > 0 && (digits.len() - i) % 3 == 0 {
+            out.push(',');
+        }
+        out.push(digit);
+    }
+    out
+}
+
+/// The wanted words and passed counts, or that nothing is asked.
+pub fn asked(case: &Case) -> String {
+    let wants = case.names.iter().zip(&case.wants);
+    let wants = wants.filter_map(|(name, want)| want.map(|word| format!("{name} = {word}")));
+    let wants: Vec<String> = wants.collect();
+    let passed = case
+        .passed
+        .iter()
+        .enumerate()
+        .filter(|(_, count)| **count != 0);
+    let passed = passed.map(|(thread, count)| format!("{count} of thread {thread}'s instructions"));
+    let passed: Vec<String> = passed.collect();
+    let memory = match wants.is_empty() {
+        true => "any memory at all".to_string(),
+        false => wants.join(", "),
+    };
+    match passed.is_empty() {
+        true => memory,
+        false => format!("{memory} with at least {} issued", passed.join(" and ")),
+    }
+}
+
+pub fn words(story: &Story) -> String {
+    let mut lines = vec![story.file.clone()];
+    lines.extend(headline(story));
+    if !story.run.is_empty() || matches!(story.answer, Answer::Reached | Answer::Legal) {
+        lines.push(String::new());
+        lines.extend(told(story));
+        lines.push(String::new());
+        lines.extend(ending(story));
+    }
+    lines.push(String::new());
+    lines.push(source(story));
+    lines.join("\n") + "\n"
+}
+
+fn headline(story: &Story) -> Vec<String> {
+    let asked = asked(&story.case);
+    let runs = commas(story.budget.unwrap_or(0));
+    let full = story.full_length;
+    match story.answer {
+        Answer::Reached => vec![format!("REACHED: a power cut can leave {asked}.")],
+        Answer::Unreachable => vec![
+            format!("UNREACHABLE: no power cut leaves {asked}."),
+            format!("Every run of this program was gone through; the longest have {}.", steps(full)),
+        ],
+        Answer::Undecided => vec![
+            format!("UNDECIDED: none of the first {runs} runs leaves {asked}, and there are more."),
+            "That is neither yes nor no. A larger --budget, up to 4,294,967,295, or a smaller program may tell.".to_string(),
+        ],
+        Answer::Legal if story.run.is_empty() => {
+            vec!["LEGAL: the file has no run, and the empty run is legal.".to_string()]
+        }
+        Answer::Legal => vec![format!("LEGAL: the run, {}.", steps(story.run.len()))],
+        Answer::Illegal { index, rule } => vec![
+            format!("ILLEGAL: step {} of the run (index {index}) breaks rule {rule}.", index + 1),
+            format!("Rule {rule}: {}.", rules::rule(rule)),
+        ],
+    }
+}
+
+pub fn steps(count: usize) -> String {
+    match count {
+        1 => "1 step".to_string(),
+        _ => format!("{count} steps"),
+    }
+}
+
+/// The run step by step, with what waits where behind each.
+fn told(story: &Story) -> Vec<String> {
+    let case = &story.case;
+    let mut lines = Vec::new();
+    if let Some(start) = story.states.first() {
+        lines.push(format!(
+            "  at first   memory: {}",
+            tell::memory(case, start)
+        ));
+    }
+    let told = tell::sentences(story);
+    for (i, sentence) in told.iter().enumerate() {
+        let (before, after) = (&story.states[i], &story.states[i + 1]);
+        lines.push(format!(
+            "  {:>2}  {:<6} {sentence}.",
+            i + 1,
+            layout::short_step(&story.run[i])
+        ));
+        lines.push(format!(
+            "             waiting: {}",
+            tell::waiting(case, after)
+        ));
+        if before.words != after.words {
+            lines.push(format!(
+                "             memory: {}",
+                tell::memory(case, after)
+            ));
+        }
+    }
+    if let Answer::Illegal { index, .. } = story.answer {
+        let step = layout::short_step(&story.run[index]);
+        let attempt = tell::attempt(story, index);
+        lines.push(format!("  {:>2}  {step:<6} {attempt}.", index + 1));
+    }
+    lines
+}
+
+fn ending(story: &Story) -> Vec<String> {
+    let end = story
+        .states
+        .last()
+        .map_or(String::new(), |state| tell::memory(&story.case, state));
+    match story.answer {
+        Answer::Illegal { .. } => vec![format!("Memory before that step: {end}.")],
+        Answer::Legal => vec![format!("A power cut behind the last step leaves: {end}.")],
+        _ => {
+            let places = cut::places(story);
+            let mut lines = vec![format!("The power goes. Memory holds: {end}.")];
+            lines.extend(places.iter().filter_map(|place| wanted(story, place)));
+            lines.extend(passed(story));
+            lines.extend(torn(story, &places));
+            lines
+        }
+    }
+}
+
+fn wanted(story: &Story, place: &Place) -> Option<String> {
+    let word = story.case.wants[place.at]?;
+    let name = &story.case.names[place.at];
+    let lost = match place.lost.is_empty() {
+        true => String::new(),
+        false => format!("; not in memory: {}", place.lost.join(", ")),
+    };
+    Some(format!("  wanted {name} = {word}: {}{lost}", place.from))
+}
+
+fn passed(story: &Story) -> Vec<String> {
+    let Some(end) = story.states.last() else {
+        return Vec::new();
+    };
+    let asked = story
+        .case
+        .passed
+        .iter()
+        .enumerate()
+        .filter(|(_, count)| **count != 0);
+    asked
+        .map(|(thread, count)| {
+            let (issued, all) = (end.issued[thread], story.case.threads[thread].len());
+            let still: Vec<String> = end.buffers[thread]
+                .iter()
+                .map(|entry| tell::shown(&story.case, entry))
+                .collect();
+            let still = match still.is_empty() {
+                true => "nothing waits in its buffer".to_string(),
+                false => format!("still in its buffer: {}", still.join(", ")),
+            };
+            format!(
+                "  passed {thread} {count}: thread {thread} has issued {issued} of {all}; {still}"
+            )
+        })
+        .collect()
+}
+
+fn torn(story: &Story, places: &[Place]) -> Vec<String> {
+    let Some(torn) = cut::torn(story, places) else {
+        return Vec::new();
+    };
+    let words = |found: &[usize]| {
+        let words = found
+            .iter()
+            .map(|at| format!("{} = {}", story.case.names[*at], places[*at].word));
+        words.collect::<Vec<String>>().join(", ")
+    };
+    let (new, old) = (words(&torn.new), words(&torn.old));
+    vec![format!(
+        "The torn row: {new} is in memory as written; {old} is without its last write."
+    )]
+}
+
+fn source(story: &Story) -> String {
+    match story.budget {
+        Some(budget) => format!(
+            "Answered by the proved programs, within a budget of {} runs; this front door only tells it.",
+            commas(budget)
+        ),
+        None => "Judged by the proved programs; this front door only tells it.".to_string(),
+    }
+}

@@ -1,0 +1,35 @@
+//! Document 01's rules and refusal numbers, each in a sentence.
+
+pub fn rule(number: u32) -> &'static str {
+    match number {
+        21 => "a thread issues only while it has an instruction left",
+        22 => "an xchg or mfence is issued only when the thread's own buffer is empty",
+        23 => "an xchg or mfence is issued only when no queue holds a marker of the thread",
+        24 => "a move takes an entry of the buffer, and there is none at that position",
+        25 => "behind position 0 only a clflushopt may leave the buffer",
+        26 => "a clflushopt may not pass a store or clflush of its own location, nor an sfence",
+        27 => {
+            "a clflush leaves the buffer only when its location's queue is empty, markers counted"
+        }
+        28 => "an sfence leaves the buffer only when no queue holds a marker of its thread",
+        29 => "a persist takes the oldest entry of the location's queue, and the queue is empty",
+        _ => "a rule that this front door has no words for",
+    }
+}
+
+pub fn refusal(number: u32) -> &'static str {
+    match number {
+        1 => "fewer than 4 bytes where a record must start, or a record is cut short",
+        2 => "a record's kind is not 1 to 6",
+        3 => "a record's length is not the one for its kind",
+        4 => {
+            "the first record is no program, a second program, or a kind lower than the one before"
+        }
+        5 => "a number is out of range",
+        6 => "records are not in their order",
+        7 => "a ninth instruction of a thread",
+        8 => "an unused field is not 0, or a first content or a passed count is 0",
+        9 => "a ninety-seventh step",
+        _ => "a number that this front door has no words for",
+    }
+}

@@ -1,0 +1,106 @@
+//! A state of the machine as the proved judge hands it out, cut to the program's threads and locations.
+
+use crate::case::Case;
+use crate::sizes::{INSTRUCTIONS, LOCATIONS, QUEUE, REGISTERS, THREADS};
+
+#[derive(Clone, Debug, PartialEq, Eq)]
+pub struct State {
+    /// The persistent words, by location.
+    pub words: Vec<u32>,
+    /// By location, the oldest entry first.
+    pub queues: Vec<Vec<Held>>,
+    /// By thread, the oldest entry first.
+    pub buffers: Vec<Vec<Entry>>,
+    pub registers: Vec<Vec<u32>>,
+    /// Instructions issued, by thread.
+    pub issued: Vec<usize>,
+}
+
+/// What waits in a queue.
+#[derive(Clone, Copy, Debug, PartialEq, Eq)]
+pub enum Held {
+    Write { word: u32 },
+    Marker { thread: u8 },
+}
+
+/// What waits in a store buffer.
+#[derive(Clone, Copy, Debug, PartialEq, Eq)]
+pub enum Entry {
+    Store { at: u8, word: u32 },
+    Flush { at: u8 },
+    FlushOpt { at: u8 },
+    Sfence,
+}
+
+/// Where the parts of a state's bytes begin, as second/README.md has them.
+const HELD: usize = LOCATIONS * 4;
+const MARKS: usize = HELD + SLOTS * 4;
+const LENGTHS: usize = MARKS + SLOTS;
+const BUFFERS: usize = LENGTHS + LOCATIONS;
+const WAITING: usize = BUFFERS + THREADS * INSTRUCTIONS * ENTRY;
+const WORDS_OF: usize = WAITING + THREADS;
+const ISSUED: usize = WORDS_OF + THREADS * REGISTERS * 4;
+const SLOTS: usize = LOCATIONS * QUEUE;
+const ENTRY: usize = 6;
+
+impl State {
+    pub const BYTES: usize = ISSUED + THREADS;
+
+    /// The state in the bytes that `batch` prints, which are that many.
+    pub fn of(bytes: &[u8], case: &Case) -> State {
+        let locations = 0..case.names.len();
+        let threads = 0..case.threads.len();
+        let registers = |thread: usize| {
+            let slots =
+                (0..REGISTERS).map(|register| WORDS_OF + 4 * (REGISTERS * thread + register));
+            slots.map(|at| word(bytes, at)).collect()
+        };
+        State {
+            words: locations.clone().map(|at| word(bytes, 4 * at)).collect(),
+            queues: locations.map(|at| queue(bytes, at)).collect(),
+            buffers: threads
+                .clone()
+                .map(|thread| buffer(bytes, thread))
+                .collect(),
+            registers: threads.clone().map(registers).collect(),
+            issued: threads
+                .map(|thread| bytes[ISSUED + thread] as usize)
+                .collect(),
+        }
+    }
+}
+
+fn word(bytes: &[u8], at: usize) -> u32 {
+    u32::from_le_bytes([bytes[at], bytes[at + 1], bytes[at + 2], bytes[at + 3]])
+}
+
+fn queue(bytes: &[u8], at: usize) -> Vec<Held> {
+    let length = (bytes[LENGTHS + at] as usize).min(QUEUE);
+    let held = |slot: usize| match bytes[MARKS + slot] {
+        0 => Held::Write {
+            word: word(bytes, HELD + 4 * slot),
+        },
+        mark => Held::Marker { thread: mark - 1 },
+    };
+    (at * QUEUE..at * QUEUE + length).map(held).collect()
+}
+
+fn buffer(bytes: &[u8], thread: usize) -> Vec<Entry> {
+    let length = (bytes[WAITING + thread] as usize).min(INSTRUCTIONS);
+    let entry = |slot: usize| {
+        let from = BUFFERS + ENTRY * slot;
+        let at = bytes[from + 1];
+        match bytes[from] {
+            0 => Entry::Store {
+                at,
+                word: word(bytes, from + 2),
+            },
+            1 => Entry::Flush { at },
+            2 => Entry::FlushOpt { at },
+            _ => Entry::Sfence,
+        }
+    };
+    (thread * INSTRUCTIONS..thread * INSTRUCTIONS + length)
+        .map(entry)
+        .collect()
+}

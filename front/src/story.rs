@@ -1,0 +1,31 @@
+//! What there is to tell of a case: the answer of the proved programs, the run, and the state behind each of its legal steps.
+
+use crate::case::{Case, Step};
+use crate::state::State;
+
+#[derive(Clone, Copy, Debug, PartialEq, Eq)]
+pub enum Answer {
+    Reached,
+    Unreachable,
+    Undecided,
+    Legal,
+    /// The index of the first illegal step, from 0, and its rule.
+    Illegal {
+        index: usize,
+        rule: u32,
+    },
+}
+
+pub struct Story {
+    pub file: String,
+    pub case: Case,
+    pub answer: Answer,
+    /// The budget of the question; none where a run is judged.
+    pub budget: Option<u32>,
+    /// The program's full length.
+    pub full_length: usize,
+    /// The run that reaches, or the run that is judged; its illegal step and what is behind it too. Empty where nothing is reached.
+    pub run: Vec<Step>,
+    /// The start, then the state behind each legal step.
+    pub states: Vec<State>,
+}

@@ -1,0 +1,182 @@
+//! A story in words: what each step does, what waits where, what a power cut leaves. It looks at the states that the proved judge handed out
+//! and works out none.
+
+use crate::case::{Case, Instruction, Step};
+use crate::layout;
+use crate::state::{Entry, Held, State};
+use crate::story::Story;
+
+/// One sentence for each legal step of the run.
+pub fn sentences(story: &Story) -> Vec<String> {
+    let pairs = story.states.windows(2);
+    let told = story.run.iter().zip(pairs);
+    told.map(|(step, pair)| sentence(&story.case, step, &pair[0], &pair[1]))
+        .collect()
+}
+
+fn sentence(case: &Case, step: &Step, before: &State, after: &State) -> String {
+    match *step {
+        Step::Issue { thread } => issue(case, thread as usize, before, after),
+        Step::Move { thread, position } => {
+            let entry = &before.buffers[thread as usize][position as usize];
+            moved(case, thread, entry)
+        }
+        Step::Persist { at } => {
+            let name = &case.names[at as usize];
+            match before.queues[at as usize][0] {
+                Held::Write { word } => format!("{word} persists: memory holds {name} = {word} now"),
+                Held::Marker { thread } => format!(
+                    "thread {thread}'s marker leaves {name}'s queue: all that was before it has persisted"
+                ),
+            }
+        }
+    }
+}
+
+/// What the illegal step was to do, and that it cannot be done.
+pub fn attempt(story: &Story, index: usize) -> String {
+    let (case, before) = (&story.case, &story.states[index]);
+    match story.run[index] {
+        Step::Issue { thread } => {
+            let thread = thread as usize;
+            match case.threads[thread].get(before.issued[thread]) {
+                Some(one) => format!(
+                    "thread {thread} cannot issue '{}' here",
+                    layout::instruction(case, one)
+                ),
+                None => format!("thread {thread} has no instruction left to issue"),
+            }
+        }
+        Step::Move { thread, position } => {
+            match before.buffers[thread as usize].get(position as usize) {
+                Some(entry) => format!(
+                    "{} cannot leave thread {thread}'s buffer here",
+                    shown(case, entry)
+                ),
+                None => format!("thread {thread}'s buffer has no entry at position {position}"),
+            }
+        }
+        Step::Persist { at } => format!(
+            "{}'s queue has no entry to persist",
+            case.names[at as usize]
+        ),
+    }
+}
+
+fn issue(case: &Case, thread: usize, before: &State, after: &State) -> String {
+    let one = &case.threads[thread][before.issued[thread]];
+    let does = match *one {
+        Instruction::Load { at, register } => {
+            let word = after.registers[thread][register as usize];
+            format!(
+                "r{register} takes {word}, from {}",
+                source(case, thread, at, before)
+            )
+        }
+        Instruction::Exchange { at, register, word } => {
+            let old = after.registers[thread][register as usize];
+            let name = &case.names[at as usize];
+            format!("r{register} takes {old}, and {word} joins {name}'s queue")
+        }
+        Instruction::Mfence => "its buffer is empty, and no marker of it waits".to_string(),
+        Instruction::StoreRegister { .. } => {
+            let entry = after.buffers[thread].last();
+            let entry = entry.map_or(String::new(), |entry| shown(case, entry));
+            format!("{entry} waits in its buffer")
+        }
+        _ => "it waits in its buffer".to_string(),
+    };
+    format!(
+        "thread {thread} issues '{}': {does}",
+        layout::instruction(case, one)
+    )
+}
+
+/// Where a load finds its word: the newest store in the own buffer, else the newest write in the queue, else memory.
+fn source(case: &Case, thread: usize, at: u8, before: &State) -> String {
+    let is_own = |entry: &Entry| matches!(entry, Entry::Store { at: other, .. } if *other == at);
+    let is_write = |held: &Held| matches!(held, Held::Write { .. });
+    if before.buffers[thread].iter().any(is_own) {
+        "its own buffer".to_string()
+    } else if before.queues[at as usize].iter().any(is_write) {
+        format!("{}'s queue", case.names[at as usize])
+    } else {
+        "memory".to_string()
+    }
+}
+
+fn moved(case: &Case, thread: u8, entry: &Entry) -> String {
+    let leaves = format!("{} leaves thread {thread}'s buffer", shown(case, entry));
+    match *entry {
+        Entry::Store { at, .. } => {
+            format!("{leaves} and joins {}'s queue", case.names[at as usize])
+        }
+        Entry::Flush { at } => format!("{leaves}: {}'s queue is empty", case.names[at as usize]),
+        Entry::FlushOpt { at } => {
+            format!(
+                "{leaves}, and its marker joins {}'s queue",
+                case.names[at as usize]
+            )
+        }
+        Entry::Sfence => format!("{leaves}: no queue holds a marker of thread {thread}"),
+    }
+}
+
+/// An entry of a buffer.
+pub fn shown(case: &Case, entry: &Entry) -> String {
+    let name = |at: u8| &case.names[at as usize];
+    match *entry {
+        Entry::Store { at, word } => format!("{}={word}", name(at)),
+        Entry::Flush { at } => format!("clflush {}", name(at)),
+        Entry::FlushOpt { at } => format!("clflushopt {}", name(at)),
+        Entry::Sfence => "sfence".to_string(),
+    }
+}
+
+/// An entry of a queue.
+pub fn held(one: &Held) -> String {
+    match one {
+        Held::Write { word } => word.to_string(),
+        Held::Marker { thread } => format!("marker of thread {thread}"),
+    }
+}
+
+/// What waits where, a part for each buffer and queue that holds something.
+pub fn waiting(case: &Case, state: &State) -> String {
+    let mut parts = Vec::new();
+    for (thread, buffer) in state
+        .buffers
+        .iter()
+        .enumerate()
+        .filter(|(_, buffer)| !buffer.is_empty())
+    {
+        let entries: Vec<String> = buffer.iter().map(|entry| shown(case, entry)).collect();
+        parts.push(format!("thread {thread}'s buffer: {}", entries.join(", ")));
+    }
+    for (at, queue) in state
+        .queues
+        .iter()
+        .enumerate()
+        .filter(|(_, queue)| !queue.is_empty())
+    {
+        let entries: Vec<String> = queue.iter().map(held).collect();
+        parts.push(format!(
+            "{}'s queue: {}",
+            case.names[at],
+            entries.join(", ")
+        ));
+    }
+    match parts.is_empty() {
+        true => "nothing".to_string(),
+        false => parts.join("; "),
+    }
+}
+
+/// All persistent words.
+pub fn memory(case: &Case, state: &State) -> String {
+    let words = case.names.iter().zip(&state.words);
+    let words: Vec<String> = words
+        .map(|(name, word)| format!("{name} = {word}"))
+        .collect();
+    words.join(", ")
+}
