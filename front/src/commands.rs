@@ -4,9 +4,9 @@ use crate::case::Step;
 use crate::desk::{self, Given, Outcome, Unfit};
 use crate::draw;
 use crate::frames;
-use crate::json;
 use crate::layout;
 use crate::messages::Trouble;
+use crate::objects;
 use crate::options::{self, Command, Form, Options};
 use crate::output;
 use crate::page;
@@ -183,16 +183,16 @@ fn json_line<'a>(
 ) -> String {
     let (file, command) = (desk::shown(file), options::name(options.command));
     match (read, outcome) {
-        (Err(Unfit::Mistakes(mistakes)), _) => json::bad_text(&file, command, mistakes),
-        (Err(Unfit::Unread(trouble)), _) => json::unread(&file, command, &trouble.to_string()),
+        (Err(Unfit::Mistakes(mistakes)), _) => objects::bad_text(&file, command, mistakes),
+        (Err(Unfit::Unread(trouble)), _) => objects::unread(&file, command, &trouble.to_string()),
         (_, Some(Outcome::Refused { number, offset })) => {
-            json::refused(&file, command, *number, *offset)
+            objects::refused(&file, command, *number, *offset)
         }
         (_, Some(outcome)) => {
             let status = status(outcome);
             stories
                 .next()
-                .map_or(String::new(), |story| json::told(story, command, status))
+                .map_or(String::new(), |story| objects::told(story, command, status))
         }
         (_, None) => String::new(),
     }
@@ -337,7 +337,7 @@ fn draw_one(
             eprintln!(
                 "{}: {}, so there is no run to draw",
                 given.file,
-                json::answer(answer).0
+                answer.word()
             );
             Ok(NO_ANSWER)
         }

@@ -34,20 +34,16 @@ pub fn places(story: &Story) -> Vec<Place> {
 }
 
 fn place(story: &Story, lives: &[Life], at: usize, word: u32) -> Place {
-    let writes = |life: &&Life| life.kind.word().is_some() && life.kind.queue() == Some(at as u8);
-    let persisted = lives
-        .iter()
-        .filter(writes)
-        .filter_map(|life| life.persisted.map(|step| (step, life.thread)));
-    let last = persisted.max();
-    let from = match last {
-        Some((step, thread)) => format!("thread {thread}'s write, persisted in step {}", step + 1),
+    let last = lives::newest(lives, at, story.run.len()).map(|one| &lives[one]);
+    let from = match last.and_then(|life| Some((life.thread, life.persisted?))) {
+        Some((thread, step)) => format!("thread {thread}'s write, persisted in step {}", step + 1),
         None => "what it held at first".to_string(),
     };
-    let waiting = lives
-        .iter()
-        .filter(writes)
-        .filter(|life| life.persisted.is_none());
+    let is_lost = |life: &&Life| {
+        let is_write = life.kind.word().is_some() && life.kind.queue() == Some(at as u8);
+        is_write && life.persisted.is_none()
+    };
+    let waiting = lives.iter().filter(is_lost);
     let mut lost: Vec<String> = waiting.map(|life| waited(story, life)).collect();
     lost.extend(unissued(story, at));
     Place {

@@ -2,6 +2,7 @@
 
 use crate::case::{Case, Step};
 use crate::frames::{self, Asked, Judged, Verdict};
+use crate::lives;
 use crate::messages::{Mistake, Trouble};
 use crate::output;
 use crate::parse;
@@ -190,7 +191,11 @@ pub fn stories(
     batch(programs, input, &labels, &mut |at, line| {
         take_state(&mut stories[owners[at]], frames::judged(line)?, line)
     })?;
-    Ok(stories)
+    // what is told of the entries must be what the judge's states say, or nothing is told
+    match stories.iter().find(|story| !lives::agree(story)) {
+        None => Ok(stories),
+        Some(story) => Err(Trouble::Astray(story.file.clone())),
+    }
 }
 
 fn blank(answered: (&Given, Answer, Vec<Step>), budget: Option<u32>) -> Story {

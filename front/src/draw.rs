@@ -9,6 +9,7 @@ mod plan;
 mod rows;
 pub mod words;
 
+use crate::layout;
 use crate::lives::Life;
 use crate::story::{Answer, Story};
 use ink::{escape, Ink};
@@ -57,7 +58,7 @@ fn framed(plan: &Plan, height: i32, drawn: &str) -> String {
 }
 
 fn headline(ink: &mut Ink, plan: &Plan) {
-    let answer = words::answer(plan.story);
+    let answer = &words::answer(plan.story);
     let badge = answer.len() as i32 * 10 + 16;
     ink.rect("badge", MARGIN, 10, badge, 24, 5);
     ink.text(MARGIN + badge / 2, 27, "badgewords mid", answer);
@@ -87,7 +88,7 @@ fn title(plan: &Plan) -> String {
 /// The picture in words.
 fn telling(plan: &Plan) -> String {
     let told = (0..plan.legal).map(|index| {
-        let step = words::step(plan.story.run[index]);
+        let step = layout::short_step(&plan.story.run[index]);
         format!(
             "Step {}, {step}: {}. ",
             index + 1,

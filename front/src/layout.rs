@@ -53,7 +53,11 @@ fn asked(case: &Case) -> Vec<String> {
 }
 
 pub fn instruction(case: &Case, one: &Instruction) -> String {
-    let name = |at: u8| &case.names[at as usize];
+    instruction_by(&|at| case.names[at as usize].clone(), one)
+}
+
+/// An instruction with its location's name as `name` has it.
+pub fn instruction_by(name: &dyn Fn(u8) -> String, one: &Instruction) -> String {
     match *one {
         Instruction::Store { at, word } => format!("store {} {word}", name(at)),
         Instruction::StoreRegister { at, register } => format!("store {} r{register}", name(at)),

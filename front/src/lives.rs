@@ -1,7 +1,7 @@
 //! The life of each entry of a run: the steps that issued it, moved it and let it persist. It follows the run and decides nothing.
 
 use crate::case::{Instruction, Step};
-use crate::state::Entry;
+use crate::state::{Entry, Held};
 use crate::story::Story;
 
 /// Steps are told by their index in the run, from 0.
@@ -57,6 +57,29 @@ impl Life {
     }
 }
 
+impl Life {
+    /// The entry that it is in a buffer; an exchange never stands in one.
+    fn waiting(&self) -> Option<Entry> {
+        match self.kind {
+            Kind::Store { at, word } => Some(Entry::Store { at, word }),
+            Kind::Flush { at } => Some(Entry::Flush { at }),
+            Kind::FlushOpt { at } => Some(Entry::FlushOpt { at }),
+            Kind::Sfence => Some(Entry::Sfence),
+            Kind::Exchange { .. } => None,
+        }
+    }
+
+    /// The entry that it is in a queue.
+    fn held(&self) -> Held {
+        match self.kind.word() {
+            Some(word) => Held::Write { word },
+            None => Held::Marker {
+                thread: self.thread,
+            },
+        }
+    }
+}
+
 /// Loads and mfences wait nowhere and have no life. The lives come in the order of their issue.
 pub fn lives(story: &Story) -> Vec<Life> {
     let mut ledger = Ledger {
@@ -87,6 +110,50 @@ pub fn queue(lives: &[Life], at: usize, steps: usize) -> Vec<usize> {
     let mut found: Vec<usize> = (0..lives.len()).filter(|&one| here(&lives[one])).collect();
     found.sort_by_key(|&one| lives[one].moved);
     found
+}
+
+/// Whether the lives are what the judge's states say, at each step: what waits in which buffer and queue, and the words in memory.
+pub fn agree(story: &Story) -> bool {
+    let lives = lives(story);
+    let states = story.states.iter().enumerate();
+    states.into_iter().all(|(steps, state)| {
+        let entries = |thread| {
+            buffer(&lives, thread, steps)
+                .into_iter()
+                .filter_map(|one| lives[one].waiting())
+        };
+        let held = |at| {
+            queue(&lives, at, steps)
+                .into_iter()
+                .map(|one| lives[one].held())
+        };
+        let buffers = state.buffers.iter().enumerate();
+        let queues = state.queues.iter().enumerate();
+        let words = state.words.iter().enumerate();
+        buffers
+            .into_iter()
+            .all(|(thread, buffer)| entries(thread).eq(buffer.iter().copied()))
+            && queues
+                .into_iter()
+                .all(|(at, queue)| held(at).eq(queue.iter().copied()))
+            && words.into_iter().all(|(at, word)| {
+                let last = newest(&lives, at, steps).and_then(|one| lives[one].kind.word());
+                last.unwrap_or(story.case.first[at]) == *word
+            })
+    })
+}
+
+/// The write that brought a location's word, so many steps behind the start, as an index; none where it holds its first content.
+pub fn newest(lives: &[Life], at: usize, steps: usize) -> Option<usize> {
+    let here = |one: &usize| {
+        let life = &lives[*one];
+        life.kind.word().is_some()
+            && life.kind.queue().map(usize::from) == Some(at)
+            && life.persisted.is_some_and(|index| index < steps)
+    };
+    (0..lives.len())
+        .filter(here)
+        .max_by_key(|one| lives[*one].persisted)
 }
 
 /// Lives by index: all of them, those in each buffer, those in each queue.

@@ -11,6 +11,7 @@ mod json;
 mod layout;
 mod lives;
 mod messages;
+mod objects;
 mod operands;
 mod options;
 mod output;

@@ -157,6 +157,7 @@ pub enum Trouble {
     CannotRun(String, String),
     ProgramEnded(String, String),
     OddLine(String, String),
+    Astray(String),
 }
 
 impl fmt::Display for Trouble {
@@ -179,6 +180,12 @@ impl fmt::Display for Trouble {
             }
             Trouble::ProgramEnded(program, how) => {
                 write!(out, "the program {program} gave no answer: {how}")
+            }
+            Trouble::Astray(file) => {
+                write!(
+                    out,
+                    "{file}: the run cannot be told as the judge's states have it"
+                )
             }
             Trouble::OddLine(program, line) => write!(
                 out,

@@ -2,7 +2,10 @@
 
 use crate::case::Instruction;
 use crate::draw::{self, ink::escape, words};
+use crate::json::{list, map, text};
+use crate::layout;
 use crate::lives::{self, Life};
+use crate::rules;
 use crate::state::State;
 use crate::story::{Answer, Story};
 
@@ -17,7 +20,7 @@ pub fn html(story: &Story, told: &[String]) -> String {
         )),
         "colours" => draw::variables(),
         "style" => include_str!("page.css").to_string(),
-        "answer" => words::answer(story).to_string(),
+        "answer" => words::answer(story),
         "file" => escape(words::file_name(story)),
         "verdict" => escape(&words::verdict(story)),
         "size" => if draw::width(story) <= 560 {
@@ -50,11 +53,8 @@ fn data(story: &Story, told: &[String]) -> String {
     let case = &story.case;
     let lives = lives::lives(story);
     let program = |thread: &Vec<Instruction>| {
-        list(
-            thread
-                .iter()
-                .map(|&one| quote(&words::instruction(case, one, words::FULL))),
-        )
+        let code = thread.iter().map(|one| layout::instruction(case, one));
+        list(code.map(|words| text(&words)))
     };
     let wants = case
         .wants
@@ -65,13 +65,13 @@ fn data(story: &Story, told: &[String]) -> String {
         .iter()
         .enumerate()
         .map(|(steps, state)| state_data(story, &lives, steps, state));
-    object(&[
-        ("names", list(case.names.iter().map(|name| quote(name)))),
+    map(&[
+        ("names", list(case.names.iter().map(|name| text(name)))),
         ("threads", list(case.threads.iter().map(program))),
         ("wants", list(wants)),
         (
             "start",
-            quote("The start: nothing is issued yet, and memory holds the first words."),
+            text("The start: nothing is issued yet, and memory holds the first words."),
         ),
         ("steps", list(steps(story, told))),
         ("states", list(states)),
@@ -81,8 +81,11 @@ fn data(story: &Story, told: &[String]) -> String {
 
 /// The legal steps with their sentences, then the one that is not possible.
 fn steps(story: &Story, told: &[String]) -> Vec<String> {
-    let step = |(&taken, say): (_, &String)| {
-        object(&[("code", quote(&words::step(taken))), ("say", quote(say))])
+    let step = |(taken, say): (_, &String)| {
+        map(&[
+            ("code", text(&layout::short_step(taken))),
+            ("say", text(&format!("{say}."))),
+        ])
     };
     let legal = story.states.len().saturating_sub(1);
     let mut all: Vec<String> = story.run.iter().take(legal).zip(told).map(step).collect();
@@ -90,11 +93,9 @@ fn steps(story: &Story, told: &[String]) -> Vec<String> {
         let name = story
             .run
             .get(index)
-            .map_or(String::new(), |&taken| words::step(taken));
-        let say = format!(
-            "{name} is not possible here: it breaks rule {rule}. The state stays as it is."
-        );
-        all.push(object(&[("code", quote(&name)), ("say", quote(&say))]));
+            .map_or(String::new(), |taken| layout::short_step(taken));
+        let say = format!("{name} is not possible here. {}", rules::sentence(rule));
+        all.push(map(&[("code", text(&name)), ("say", text(&say))]));
     }
     all
 }
@@ -102,16 +103,16 @@ fn steps(story: &Story, told: &[String]) -> Vec<String> {
 fn state_data(story: &Story, lives: &[Life], steps: usize, state: &State) -> String {
     let case = &story.case;
     let buffer = |thread| {
-        let text = |one: usize| words::entry(case, lives[one].kind, words::FULL);
-        entries(lives, &lives::buffer(lives, thread, steps), text)
+        let shown = |one: usize| words::entry(case, lives[one].kind, words::FULL);
+        entries(lives, &lives::buffer(lives, thread, steps), shown)
     };
     let queue = |at| {
-        let text = |one: usize| words::held(case, &lives[one]);
-        entries(lives, &lives::queue(lives, at, steps), text)
+        let shown = |one: usize| words::held(case, &lives[one]);
+        entries(lives, &lives::queue(lives, at, steps), shown)
     };
     let threads = 0..case.threads.len();
     let locations = 0..case.names.len();
-    object(&[
+    map(&[
         ("issued", list(state.issued.iter().map(usize::to_string))),
         ("buffers", list(threads.clone().map(buffer))),
         ("queues", list(locations.clone().map(queue))),
@@ -126,35 +127,27 @@ fn state_data(story: &Story, lives: &[Life], steps: usize, state: &State) -> Str
     ])
 }
 
-fn entries(lives: &[Life], waiting: &[usize], text: impl Fn(usize) -> String) -> String {
+fn entries(lives: &[Life], waiting: &[usize], shown: impl Fn(usize) -> String) -> String {
     list(waiting.iter().map(|&one| {
-        let look = quote(&draw::look(lives, one));
-        object(&[
+        let look = text(&draw::look(lives, one));
+        map(&[
             ("life", one.to_string()),
             ("look", look),
-            ("text", quote(&text(one))),
+            ("text", text(&shown(one))),
         ])
     }))
 }
 
 /// A persistent word, the look of the write that brought it, and the step that did: 0 for a first content.
 fn word_data(lives: &[Life], steps: usize, at: usize, word: u32) -> String {
-    let here = |one: &usize| {
-        let life = &lives[*one];
-        life.kind.word().is_some()
-            && life.kind.queue().map(usize::from) == Some(at)
-            && life.persisted.is_some_and(|index| index < steps)
-    };
-    let last = (0..lives.len())
-        .filter(here)
-        .max_by_key(|&one| lives[one].persisted);
+    let last = lives::newest(lives, at, steps);
     let look = last.map_or("still".to_string(), |one| draw::look(lives, one));
     let since = last
         .and_then(|one| lives[one].persisted)
         .map_or(0, |index| index + 1);
-    object(&[
-        ("text", quote(&word.to_string())),
-        ("look", quote(&look)),
+    map(&[
+        ("text", text(&word.to_string())),
+        ("look", text(&look)),
         ("since", since.to_string()),
     ])
 }
@@ -168,7 +161,7 @@ fn registers(story: &Story, thread: usize, state: &State) -> String {
     named.sort();
     named.dedup();
     let word = |&one: &u8| {
-        quote(&format!(
+        text(&format!(
             "r{one} = {}",
             state.registers[thread][one as usize]
         ))
@@ -192,31 +185,7 @@ fn end(story: &Story, lives: &[Life]) -> String {
     }
     let left = format!("A power cut here leaves {}.", draw::left(story));
     let lost = format!("Lost: {}.", draw::lost(story, lives));
-    object(&[("left", quote(&left)), ("lost", quote(&lost))])
-}
-
-fn list(items: impl IntoIterator<Item = String>) -> String {
-    format!("[{}]", items.into_iter().collect::<Vec<_>>().join(","))
-}
-
-fn object(fields: &[(&str, String)]) -> String {
-    let pairs = fields
-        .iter()
-        .map(|(name, value)| format!("\"{name}\":{value}"));
-    format!("{{{}}}", pairs.collect::<Vec<_>>().join(","))
-}
-
-/// A text as data: no sign in it can end the text, or the script element that it stands in.
-fn quote(text: &str) -> String {
-    let mut out = String::from("\"");
-    for one in text.chars() {
-        match one {
-            '"' | '\\' | '<' | '\u{2028}' | '\u{2029}' => out += &format!("\\u{:04x}", one as u32),
-            _ if one.is_control() => out += &format!("\\u{:04x}", one as u32),
-            _ => out.push(one),
-        }
-    }
-    out + "\""
+    map(&[("left", text(&left)), ("lost", text(&lost))])
 }
 
 #[cfg(test)]
@@ -225,13 +194,13 @@ mod tests {
     use crate::lives::tests::outage;
 
     fn page(story: &Story) -> String {
-        let told: Vec<String> = (1..=5).map(|step| format!("Sentence {step}.")).collect();
+        let told: Vec<String> = (1..=5).map(|step| format!("Sentence {step}")).collect();
         html(story, &told)
     }
 
     #[test]
     fn no_text_ends_the_element_that_it_stands_in() {
-        assert_eq!(quote("</script>\"\n"), r#""\u003c/script>\u0022\u000a""#);
+        assert_eq!(text("</script>\"\n"), r#""\u003c/script>\"\u000a""#);
         let mut story = outage();
         story.file = "</script><b>{{story}}".to_string();
         let page = page(&story);
@@ -254,7 +223,7 @@ mod tests {
         story.answer = Answer::Illegal { index: 5, rule: 29 };
         story.run.push(crate::case::Step::Persist { at: 1 });
         let page = page(&story);
-        assert!(page.contains("P1 is not possible here: it breaks rule 29."));
+        assert!(page.contains("P1 is not possible here. Rule 29: "));
         assert!(!page.contains("A power cut here"));
     }
 }

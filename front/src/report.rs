@@ -51,10 +51,10 @@ pub fn commas(number: u32) -> String {
     out
 }
 
-/// The wanted words and passed counts, or that nothing is asked.
-pub fn asked(case: &Case) -> String {
+/// The wanted words and passed counts, or that nothing is asked; `is` stands between a name and its word.
+pub fn asked(case: &Case, is: &str) -> String {
     let wants = case.names.iter().zip(&case.wants);
-    let wants = wants.filter_map(|(name, want)| want.map(|word| format!("{name} = {word}")));
+    let wants = wants.filter_map(|(name, want)| want.map(|word| format!("{name}{is}{word}")));
     let wants: Vec<String> = wants.collect();
     let passed = case
         .passed
@@ -88,7 +88,7 @@ pub fn words(story: &Story) -> String {
 }
 
 fn headline(story: &Story) -> Vec<String> {
-    let asked = asked(&story.case);
+    let asked = asked(&story.case, " = ");
     let runs = commas(story.budget.unwrap_or(0));
     let full = story.full_length;
     match story.answer {
@@ -107,7 +107,7 @@ fn headline(story: &Story) -> Vec<String> {
         Answer::Legal => vec![format!("LEGAL: the run, {}.", steps(story.run.len()))],
         Answer::Illegal { index, rule } => vec![
             format!("ILLEGAL: step {} of the run (index {index}) breaks rule {rule}.", index + 1),
-            format!("Rule {rule}: {}.", rules::rule(rule)),
+            rules::sentence(rule),
         ],
     }
 }

@@ -1,5 +1,10 @@
 //! Document 01's rules and refusal numbers, each in a sentence.
 
+/// A rule as a sentence with its number.
+pub fn sentence(number: u32) -> String {
+    format!("Rule {number}: {}.", rule(number))
+}
+
 pub fn rule(number: u32) -> &'static str {
     match number {
         21 => "a thread issues only while it has an instruction left",

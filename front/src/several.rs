@@ -2,7 +2,6 @@
 
 use crate::commands::{self, graver, status};
 use crate::desk::{self, Given, Outcome, Unfit};
-use crate::json;
 use crate::messages::Trouble;
 use crate::options::Options;
 use crate::output;
@@ -84,7 +83,7 @@ fn line(read: &Result<Given, Unfit>, outcome: Option<&Outcome>) -> (&'static str
             ("refused", format!(", number {number} at offset {offset}"))
         }
         (Ok(given), Some(Outcome::Answer(answer, run))) => {
-            (json::answer(*answer).0, more(given, *answer, run.len()))
+            (answer.word(), more(given, *answer, run.len()))
         }
         _ => ("not read", String::new()),
     }
@@ -95,13 +94,13 @@ fn more(given: &Given, answer: Answer, steps: usize) -> String {
         Answer::Reached => format!(
             ", {}: {}",
             report::steps(steps),
-            report::asked(&given.case())
+            report::asked(&given.case(), " = ")
         ),
         Answer::Illegal { index, rule } => {
             format!(", step {} (index {index}) breaks rule {rule}", index + 1)
         }
         Answer::Legal => format!(", {}", report::steps(steps)),
-        Answer::Unreachable => format!(": {}", report::asked(&given.case())),
-        Answer::Undecided => format!(": {}", report::asked(&given.case())),
+        Answer::Unreachable => format!(": {}", report::asked(&given.case(), " = ")),
+        Answer::Undecided => format!(": {}", report::asked(&given.case(), " = ")),
     }
 }

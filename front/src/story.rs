@@ -16,6 +16,29 @@ pub enum Answer {
     },
 }
 
+impl Answer {
+    pub fn word(self) -> &'static str {
+        match self {
+            Answer::Reached => "reached",
+            Answer::Unreachable => "unreachable",
+            Answer::Undecided => "undecided",
+            Answer::Legal => "legal",
+            Answer::Illegal { .. } => "illegal",
+        }
+    }
+
+    /// Document 01's number; of an illegal run that of its rule.
+    pub fn number(self) -> u32 {
+        match self {
+            Answer::Reached => 100,
+            Answer::Unreachable => 101,
+            Answer::Undecided => 102,
+            Answer::Legal => 103,
+            Answer::Illegal { rule, .. } => rule,
+        }
+    }
+}
+
 pub struct Story {
     pub file: String,
     pub case: Case,

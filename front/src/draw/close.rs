@@ -5,7 +5,9 @@ use super::lines::look;
 use super::plan::{Plan, MARGIN};
 use super::words;
 use crate::case::Step;
+use crate::layout;
 use crate::lives;
+use crate::rules;
 use crate::story::Answer;
 
 const STRIP: i32 = 34;
@@ -118,13 +120,8 @@ fn memory(ink: &mut Ink, plan: &Plan, top: i32) -> i32 {
 fn word(ink: &mut Ink, plan: &Plan, at: usize, top: i32) {
     let column = &plan.queues[at];
     let middle = (column.left + column.right) / 2;
-    let persisted = plan.lives.iter().enumerate().filter(|(_, life)| {
-        life.persisted.is_some()
-            && life.kind.word().is_some()
-            && life.kind.queue() == Some(at as u8)
-    });
-    let last = persisted.max_by_key(|(_, life)| life.persisted);
-    let look = last.map_or("still".to_string(), |(one, _)| look(&plan.lives, one));
+    let last = lives::newest(&plan.lives, at, plan.legal);
+    let look = last.map_or("still".to_string(), |one| look(&plan.lives, one));
     let held = plan.story.states[plan.legal].words[at];
     let text = held.to_string();
     let size = ((column.width() - 8) * 10 / (text.len() as i32 * 6)).min(30);
@@ -152,7 +149,7 @@ fn word(ink: &mut Ink, plan: &Plan, at: usize, top: i32) {
 
 fn not_possible(ink: &mut Ink, plan: &Plan, index: usize, rule: u32) -> i32 {
     let step = plan.story.run.get(index).copied();
-    let name = step.map_or(String::new(), words::step);
+    let name = step.map_or(String::new(), |step| layout::short_step(&step));
     let words = format!("{name} is not possible here: it breaks rule {rule}");
     let lines = wrap(&words, 15, plan.width - 2 * MARGIN - 40);
     let (top, height) = (plan.bottom(), STRIP - 16 + 18 * lines.len() as i32);
@@ -164,13 +161,11 @@ fn not_possible(ink: &mut Ink, plan: &Plan, index: usize, rule: u32) -> i32 {
     if let Some(step) = step {
         stopped(ink, plan, step, top);
     }
-    ink.text(
-        MARGIN,
-        top + height + 20,
-        "soft",
-        "The state stays as it is.",
-    );
-    top + height + 26
+    let why = wrap(&rules::sentence(rule), 12, plan.width - 2 * MARGIN);
+    for (row, line) in why.iter().enumerate() {
+        ink.text(MARGIN, top + height + 20 + 16 * row as i32, "soft", line);
+    }
+    top + height + 10 + 16 * why.len() as i32
 }
 
 /// A bar where the step would have led on.

@@ -5,6 +5,7 @@ use super::lines::look;
 use super::plan::{Plan, AGAIN, HEADS, MARGIN, ROW, START};
 use super::words;
 use crate::case::Step;
+use crate::layout;
 use crate::lives::Kind;
 
 /// The columns' ground, from the heads down to the closing part.
@@ -77,7 +78,7 @@ pub fn heads_again(ink: &mut Ink, plan: &Plan) {
 pub fn labels(ink: &mut Ink, plan: &Plan) {
     for row in 0..plan.legal {
         let top = plan.row_top(row);
-        let step = words::step(plan.story.run[row]);
+        let step = layout::short_step(&plan.story.run[row]);
         ink.text(MARGIN, top + 18, "soft mono", &(row + 1).to_string());
         ink.text(MARGIN + 20, top + 18, "step mono", &step);
         let (deed, full) = (plan.deed(row, words::SHORT), plan.deed(row, words::FULL));

@@ -1,8 +1,10 @@
 //! Instructions, steps and entries in words, as docs/TEXT.md writes them; names as long as the place for them allows.
 
 use super::ink::shorten;
-use crate::case::{Case, Instruction, Step};
+use crate::case::{Case, Step};
+use crate::layout;
 use crate::lives::{Kind, Life};
+use crate::report;
 use crate::story::{Answer, Story};
 
 /// The columns of a name inside a chip or a step's words; `FULL` cuts nothing.
@@ -13,38 +15,13 @@ pub fn name(case: &Case, at: u8, most: i32) -> String {
     shorten(&case.names[at as usize], most)
 }
 
-pub fn instruction(case: &Case, instruction: Instruction, most: i32) -> String {
-    let name = |at| name(case, at, most);
-    match instruction {
-        Instruction::Store { at, word } => format!("store {} {word}", name(at)),
-        Instruction::StoreRegister { at, register } => format!("store {} r{register}", name(at)),
-        Instruction::Load { at, register } => format!("load {} r{register}", name(at)),
-        Instruction::Exchange { at, register, word } => {
-            format!("xchg {} r{register} {word}", name(at))
-        }
-        Instruction::Flush { at } => format!("clflush {}", name(at)),
-        Instruction::FlushOpt { at } => format!("clflushopt {}", name(at)),
-        Instruction::Sfence => "sfence".to_string(),
-        Instruction::Mfence => "mfence".to_string(),
-    }
-}
-
-/// A step as the programs print it.
-pub fn step(step: Step) -> String {
-    match step {
-        Step::Issue { thread } => format!("I{thread}"),
-        Step::Move { thread, position } => format!("M{thread}.{position}"),
-        Step::Persist { at } => format!("P{at}"),
-    }
-}
-
 /// An entry as it waits in a buffer.
 pub fn entry(case: &Case, kind: Kind, most: i32) -> String {
     let name = |at| name(case, at, most);
     match kind {
         Kind::Store { at, word } | Kind::Exchange { at, word } => format!("{} {word}", name(at)),
-        Kind::Flush { at } => format!("flush {}", name(at)),
-        Kind::FlushOpt { at } => format!("flush-opt {}", name(at)),
+        Kind::Flush { at } => format!("clflush {}", name(at)),
+        Kind::FlushOpt { at } => format!("clflushopt {}", name(at)),
         Kind::Sfence => "sfence".to_string(),
     }
 }
@@ -63,12 +40,9 @@ pub fn deed(story: &Story, index: usize, life: Option<&Life>, most: i32) -> Stri
     let case = &story.case;
     match (story.run[index], life) {
         (Step::Issue { thread }, _) => {
-            let own = thread as usize;
-            instruction(
-                case,
-                case.threads[own][story.states[index].issued[own]],
-                most,
-            )
+            let issued = story.states[index].issued[thread as usize];
+            let one = &case.threads[thread as usize][issued];
+            layout::instruction_by(&|at| name(case, at, most), one)
         }
         (Step::Move { .. }, Some(life)) => match life.kind {
             Kind::FlushOpt { at } => format!("marker to {}", name(case, at, most)),
@@ -83,19 +57,13 @@ pub fn deed(story: &Story, index: usize, life: Option<&Life>, most: i32) -> Stri
 }
 
 /// The answer in one word, as the programs print it.
-pub fn answer(story: &Story) -> &'static str {
-    match story.answer {
-        Answer::Reached => "REACHED",
-        Answer::Unreachable => "UNREACHABLE",
-        Answer::Undecided => "UNDECIDED",
-        Answer::Legal => "LEGAL",
-        Answer::Illegal { .. } => "ILLEGAL",
-    }
+pub fn answer(story: &Story) -> String {
+    story.answer.word().to_uppercase()
 }
 
 /// What the answer means, in a sentence.
 pub fn verdict(story: &Story) -> String {
-    let asked = asked(&story.case);
+    let asked = report::asked(&story.case, " ");
     match story.answer {
         Answer::Reached => format!("A power cut can leave {asked}."),
         Answer::Unreachable => format!("No power cut can leave {asked}."),
@@ -108,27 +76,16 @@ pub fn verdict(story: &Story) -> String {
             story.states.len().saturating_sub(1)
         ),
         Answer::Illegal { index, rule } => match story.run.get(index) {
-            Some(&taken) => format!("Step {}, {}, breaks rule {rule}.", index + 1, step(taken)),
+            Some(taken) => {
+                format!(
+                    "Step {}, {}, breaks rule {rule}.",
+                    index + 1,
+                    layout::short_step(taken)
+                )
+            }
             None => format!("Step {} breaks rule {rule}.", index + 1),
         },
     }
-}
-
-/// The words wanted and the instructions that must be issued.
-fn asked(case: &Case) -> String {
-    let wants = case.names.iter().zip(&case.wants);
-    let words = wants.filter_map(|(name, want)| want.map(|word| format!("{name} {word}")));
-    let counts = case
-        .passed
-        .iter()
-        .enumerate()
-        .filter(|&(_, &count)| count > 0);
-    let issued = counts.map(|(thread, count)| format!("{count} issued of thread {thread}"));
-    let all: Vec<String> = words.chain(issued).collect();
-    if all.is_empty() {
-        return "any memory".to_string();
-    }
-    all.join(", ")
 }
 
 /// The last part of the file's path.

@@ -1,0 +1,121 @@
+//! One JSON object for a case, on one line; docs/FRONT.md has the fields.
+
+use crate::case::Case;
+use crate::cut;
+use crate::json::{list, map, text};
+use crate::layout;
+use crate::messages::Mistake;
+use crate::report;
+use crate::rules;
+use crate::story::{Answer, Story};
+use crate::tell;
+
+struct Object(Vec<(&'static str, String)>);
+
+impl Object {
+    fn new(file: &str, command: &str, status: u8, answer: &str) -> Object {
+        Object(vec![
+            ("file", text(file)),
+            ("command", text(command)),
+            ("status", status.to_string()),
+            ("answer", text(answer)),
+        ])
+    }
+
+    fn put(&mut self, name: &'static str, value: String) {
+        self.0.push((name, value));
+    }
+
+    fn line(&self) -> String {
+        map(&self.0) + "\n"
+    }
+}
+
+pub fn told(story: &Story, command: &str, status: u8) -> String {
+    let mut object = Object::new(&story.file, command, status, story.answer.word());
+    object.put("number", story.answer.number().to_string());
+    if let Answer::Illegal { index, rule } = story.answer {
+        object.put("index", index.to_string());
+        object.put("rule", text(rules::rule(rule)));
+    }
+    if let Some(budget) = story.budget {
+        object.put("budget", budget.to_string());
+        put_asked(&mut object, &story.case);
+    }
+    object.put("full_length", story.full_length.to_string());
+    if !matches!(story.answer, Answer::Unreachable | Answer::Undecided) {
+        put_run(&mut object, story);
+    }
+    object.line()
+}
+
+fn put_asked(object: &mut Object, case: &Case) {
+    let wants = case.names.iter().zip(&case.wants);
+    let wants = wants.filter_map(|(name, want)| Some((name, (*want)?.to_string())));
+    object.put("wants", map(&wants.collect::<Vec<_>>()));
+    let passed = case
+        .passed
+        .iter()
+        .enumerate()
+        .filter(|(_, count)| **count != 0);
+    let passed = passed.map(|(thread, count)| (thread.to_string(), count.to_string()));
+    object.put("passed", map(&passed.collect::<Vec<_>>()));
+}
+
+fn put_run(object: &mut Object, story: &Story) {
+    let case = &story.case;
+    let steps = story.run.iter().map(|step| text(&layout::short_step(step)));
+    object.put("steps", list(steps));
+    object.put(
+        "told",
+        list(tell::sentences(story).iter().map(|one| text(one))),
+    );
+    let Some(end) = story.states.last() else {
+        return;
+    };
+    let words = case.names.iter().zip(&end.words);
+    let words = words.map(|(name, word)| (name, word.to_string()));
+    object.put("memory", map(&words.collect::<Vec<_>>()));
+    object.put("waiting", text(&tell::waiting(case, end)));
+    if story.answer != Answer::Reached {
+        return;
+    }
+    if let Some(torn) = cut::torn(story, &cut::places(story)) {
+        let names = |found: &[usize]| list(found.iter().map(|at| text(&case.names[*at])));
+        object.put(
+            "torn",
+            map(&[("new", names(&torn.new)), ("old", names(&torn.old))]),
+        );
+    }
+}
+
+pub fn refused(file: &str, command: &str, number: u32, offset: usize) -> String {
+    let mut object = Object::new(file, command, 3, "refused");
+    object.put("number", number.to_string());
+    object.put("offset", offset.to_string());
+    object.put("meaning", text(rules::refusal(number)));
+    object.line()
+}
+
+pub fn bad_text(file: &str, command: &str, mistakes: &[Mistake]) -> String {
+    let mistake = |one: &Mistake| {
+        map(&[
+            ("line", one.line.to_string()),
+            ("column", one.column.to_string()),
+            ("message", text(&one.what.to_string())),
+        ])
+    };
+    let mut object = Object::new(file, command, 3, "bad text");
+    object.put(
+        "mistakes",
+        list(mistakes.iter().take(report::MOST_MISTAKES).map(mistake)),
+    );
+    object.put("mistakes_in_all", mistakes.len().to_string());
+    object.line()
+}
+
+pub fn unread(file: &str, command: &str, message: &str) -> String {
+    let mut object = Object::new(file, command, 3, "not read");
+    object.put("message", text(message));
+    object.line()
+}
