@@ -59,8 +59,8 @@ pub fn graver(one: u8, other: u8) -> u8 {
 /// Says on standard error why a file is no case.
 pub fn say_unfit(file: &str, unfit: &Unfit) {
     match unfit {
-        Unfit::Mistakes(mistakes) => eprint!("{}", report::mistakes(&desk::shown(file), mistakes)),
-        Unfit::Unread(trouble) => eprintln!("garluveni: {trouble}"),
+        Unfit::Mistakes(mistakes) => output::say(&report::mistakes(&desk::shown(file), mistakes)),
+        Unfit::Unread(trouble) => output::say(&format!("garluveni: {trouble}\n")),
     }
 }
 
@@ -270,10 +270,11 @@ fn turn(
     answers(programs, &judging, read, &mut |i, outcome| {
         if let Outcome::Refused { number, offset } = outcome {
             refused += 1;
-            eprint!(
-                "{}",
-                report::refused(&desk::shown(&options.files[i]), number, offset)
-            );
+            output::say(&report::refused(
+                &desk::shown(&options.files[i]),
+                number,
+                offset,
+            ));
         }
         Ok(())
     })?;
@@ -330,15 +331,12 @@ fn draw_one(
             write_drawing(options, &story)
         }
         Some(Outcome::Refused { number, offset }) => {
-            eprint!("{}", report::refused(&given.file, number, offset));
+            output::say(&report::refused(&given.file, number, offset));
             Ok(NO_ANSWER)
         }
         Some(Outcome::Answer(answer, _)) => {
-            eprintln!(
-                "{}: {}, so there is no run to draw",
-                given.file,
-                answer.word()
-            );
+            let (file, word) = (&given.file, answer.word());
+            output::say(&format!("{file}: {word}, so there is no run to draw\n"));
             Ok(NO_ANSWER)
         }
         None => Ok(NO_ANSWER),

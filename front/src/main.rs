@@ -24,6 +24,7 @@ mod rules;
 mod several;
 mod sizes;
 mod state;
+mod statements;
 mod story;
 mod tell;
 mod words;
@@ -38,7 +39,7 @@ fn main() -> ExitCode {
     match options::options(&words).and_then(|options| commands::run(&options)) {
         Ok(status) => ExitCode::from(status),
         Err(trouble) => {
-            eprintln!("garluveni: {trouble}");
+            output::say(&format!("garluveni: {trouble}\n"));
             ExitCode::from(commands::NO_ANSWER)
         }
     }

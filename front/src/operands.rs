@@ -25,8 +25,9 @@ pub fn short_step(text: &str, locations: usize) -> Option<(Step, u32, Option<Wha
         return Some((step, thread, fault));
     }
     let at = digits(text.strip_prefix('P')?)?;
-    let last = locations.max(1) - 1;
-    let fault = (at as usize > last).then_some(What::NoSuchNumber(at as usize, last));
+    // without names that is the one mistake, told already
+    let is_none = locations > 0 && at as usize >= locations;
+    let fault = is_none.then(|| What::NoSuchNumber(at as usize, locations - 1));
     Some((Step::Persist { at: low(at) }, 0, fault))
 }
 

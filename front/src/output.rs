@@ -14,6 +14,11 @@ pub fn print(bytes: &[u8]) -> Result<(), Trouble> {
     })
 }
 
+/// On standard error. Where that cannot be written nobody is left to be told.
+pub fn say(words: &str) {
+    let _ = std::io::stderr().lock().write_all(words.as_bytes());
+}
+
 /// Writes beside the file first, so that a full disk leaves what was there before. What is no plain file is written as it is.
 pub fn save(file: &str, bytes: &[u8]) -> Result<(), Trouble> {
     let trouble = |error: std::io::Error| Trouble::CannotWrite(file.to_string(), plain(&error));

@@ -5,30 +5,9 @@ use crate::hints;
 use crate::messages::{Expected, Mistake, What};
 use crate::operands::{digits, low, number, register, short_step, shown};
 use crate::sizes;
+use crate::statements::{instruction_of, known_words, step_of, Operand, INSTRUCTIONS, STEPS};
 use crate::words::{self, Line, Word};
 use std::collections::{BTreeMap, HashMap};
-
-/// Each instruction's first word and what follows it.
-const INSTRUCTIONS: [(&str, &[Expected]); 7] = [
-    ("store", &[Expected::Location, Expected::NumberOrRegister]),
-    ("load", &[Expected::Location, Expected::Register]),
-    (
-        "xchg",
-        &[Expected::Location, Expected::Register, Expected::Number],
-    ),
-    ("clflush", &[Expected::Location]),
-    ("clflushopt", &[Expected::Location]),
-    ("sfence", &[]),
-    ("mfence", &[]),
-];
-
-const STEPS: [(&str, &[Expected]); 3] = [
-    ("issue", &[Expected::Thread]),
-    ("move", &[Expected::Thread, Expected::Position]),
-    ("persist", &[Expected::Location]),
-];
-
-const OTHERS: [&str; 6] = ["locations", "first", "thread", "want", "passed", "run"];
 
 /// Where an instruction or a step belongs; behind a mistaken line it is looked at and dropped.
 #[derive(Clone, Copy, PartialEq)]
@@ -37,13 +16,6 @@ enum Section {
     Thread,
     Run,
     Dropped,
-}
-
-/// One word behind a statement's first, understood.
-struct Operand {
-    value: u32,
-    is_register: bool,
-    column: usize,
 }
 
 struct Parser {
@@ -181,7 +153,8 @@ impl Parser {
             return;
         };
         let (at, value) = (found[0].value as usize, found[1].value);
-        if !self.once(line, word, at, Some(line.words[1].text)) {
+        // without names no two locations are told apart
+        if self.names.is_empty() || !self.once(line, word, at, Some(line.words[1].text)) {
             return;
         }
         if word == "want" {
@@ -272,18 +245,7 @@ impl Parser {
         let Some(found) = self.operands(line, kinds) else {
             return;
         };
-        let step = match name {
-            "issue" => Step::Issue {
-                thread: low(found[0].value),
-            },
-            "move" => Step::Move {
-                thread: low(found[0].value),
-                position: low(found[1].value),
-            },
-            _ => Step::Persist {
-                at: low(found[0].value),
-            },
-        };
+        let step = step_of(name, &found);
         self.take_step(line, step, (found[0].value, found[0].column), belongs);
     }
 
@@ -431,38 +393,4 @@ fn is_of_threads(mistake: &Mistake) -> bool {
         mistake.what,
         What::NextThread(_) | What::MostThreads | What::Outside("thread")
     )
-}
-
-fn known_words() -> impl Iterator<Item = &'static str> {
-    let instructions = INSTRUCTIONS.iter().map(|(name, _)| *name);
-    instructions
-        .chain(STEPS.iter().map(|(name, _)| *name))
-        .chain(OTHERS)
-}
-
-fn instruction_of(name: &str, found: &[Operand]) -> Instruction {
-    let at = found.first().map_or(0, |operand| low(operand.value));
-    match name {
-        "store" if found[1].is_register => Instruction::StoreRegister {
-            at,
-            register: low(found[1].value),
-        },
-        "store" => Instruction::Store {
-            at,
-            word: found[1].value,
-        },
-        "load" => Instruction::Load {
-            at,
-            register: low(found[1].value),
-        },
-        "xchg" => Instruction::Exchange {
-            at,
-            register: low(found[1].value),
-            word: found[2].value,
-        },
-        "clflush" => Instruction::Flush { at },
-        "clflushopt" => Instruction::FlushOpt { at },
-        "sfence" => Instruction::Sfence,
-        _ => Instruction::Mfence,
-    }
 }

@@ -121,14 +121,14 @@ impl Progress<'_> {
         let seconds = self.began.elapsed().as_secs();
         if self.is_on && seconds >= 1 {
             let label = self.labels.get(at).map_or("", String::as_str);
-            eprint!("\r\x1b[K{label}: {seconds} s ..");
+            output::say(&format!("\r\x1b[K{label}: {seconds} s .."));
             self.is_shown = true;
         }
     }
 
     fn clear(&mut self) {
         if self.is_shown {
-            eprint!("\r\x1b[K");
+            output::say("\r\x1b[K");
             self.is_shown = false;
         }
     }

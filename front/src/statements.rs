@@ -1,0 +1,80 @@
+//! The statements of a text: their first words, what follows each, and the instructions and steps that they say.
+
+use crate::case::{Instruction, Step};
+use crate::messages::Expected;
+use crate::operands::low;
+
+/// Each instruction's first word and what follows it.
+pub const INSTRUCTIONS: [(&str, &[Expected]); 7] = [
+    ("store", &[Expected::Location, Expected::NumberOrRegister]),
+    ("load", &[Expected::Location, Expected::Register]),
+    (
+        "xchg",
+        &[Expected::Location, Expected::Register, Expected::Number],
+    ),
+    ("clflush", &[Expected::Location]),
+    ("clflushopt", &[Expected::Location]),
+    ("sfence", &[]),
+    ("mfence", &[]),
+];
+
+pub const STEPS: [(&str, &[Expected]); 3] = [
+    ("issue", &[Expected::Thread]),
+    ("move", &[Expected::Thread, Expected::Position]),
+    ("persist", &[Expected::Location]),
+];
+
+const OTHERS: [&str; 6] = ["locations", "first", "thread", "want", "passed", "run"];
+
+/// One word behind a statement's first, understood.
+pub struct Operand {
+    pub value: u32,
+    pub is_register: bool,
+    pub column: usize,
+}
+
+pub fn known_words() -> impl Iterator<Item = &'static str> {
+    let instructions = INSTRUCTIONS.iter().map(|(name, _)| *name);
+    instructions
+        .chain(STEPS.iter().map(|(name, _)| *name))
+        .chain(OTHERS)
+}
+
+pub fn instruction_of(name: &str, found: &[Operand]) -> Instruction {
+    let at = found.first().map_or(0, |operand| low(operand.value));
+    match name {
+        "store" if found[1].is_register => Instruction::StoreRegister {
+            at,
+            register: low(found[1].value),
+        },
+        "store" => Instruction::Store {
+            at,
+            word: found[1].value,
+        },
+        "load" => Instruction::Load {
+            at,
+            register: low(found[1].value),
+        },
+        "xchg" => Instruction::Exchange {
+            at,
+            register: low(found[1].value),
+            word: found[2].value,
+        },
+        "clflush" => Instruction::Flush { at },
+        "clflushopt" => Instruction::FlushOpt { at },
+        "sfence" => Instruction::Sfence,
+        _ => Instruction::Mfence,
+    }
+}
+
+pub fn step_of(name: &str, found: &[Operand]) -> Step {
+    let first = low(found[0].value);
+    match name {
+        "issue" => Step::Issue { thread: first },
+        "move" => Step::Move {
+            thread: first,
+            position: low(found[1].value),
+        },
+        _ => Step::Persist { at: first },
+    }
+}
