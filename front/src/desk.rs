@@ -60,7 +60,7 @@ impl Given {
         })
     }
 
-    /// To be asked only when the proved reader has taken the bytes.
+    /// Of bytes that the proved reader refuses it is some case or other.
     pub fn case(&self) -> Case {
         self.text
             .clone()

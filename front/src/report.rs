@@ -8,6 +8,10 @@ use crate::rules;
 use crate::story::{Answer, Story};
 use crate::tell;
 
+/// What a newcomer must know to follow a run.
+const LEGEND: &str =
+    "A store waits in its thread's buffer, then in its location's queue; only what has persisted outlasts a power cut.";
+
 /// So many mistakes of a text are told.
 pub const MOST_MISTAKES: usize = 20;
 
@@ -77,6 +81,7 @@ pub fn words(story: &Story) -> String {
     let mut lines = vec![story.file.clone()];
     lines.extend(headline(story));
     if !story.run.is_empty() || matches!(story.answer, Answer::Reached | Answer::Legal) {
+        lines.push(LEGEND.to_string());
         lines.push(String::new());
         lines.extend(told(story));
         lines.push(String::new());

@@ -1,5 +1,5 @@
-//! A story in words: what each step does, what waits where, what a power cut leaves. It looks at the states that the proved judge handed out
-//! and works out none.
+//! A story in words: what each step does, what waits where, what a power cut leaves. It looks at the states that the proved judge
+//! handed out and works out none.
 
 use crate::case::{Case, Instruction, Step};
 use crate::layout;
