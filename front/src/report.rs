@@ -89,6 +89,11 @@ pub fn words(story: &Story) -> String {
     }
     lines.push(String::new());
     lines.push(source(story));
+    if story.budget.is_some() && !story.case.run.is_empty() {
+        lines.push(
+            "The run in the file was not looked at: './garluveni judge' judges it.".to_string(),
+        );
+    }
     lines.join("\n") + "\n"
 }
 
