@@ -7,7 +7,7 @@ use crate::frames;
 use crate::layout;
 use crate::messages::Trouble;
 use crate::objects;
-use crate::options::{self, Command, Form, Options};
+use crate::options::{self, Command, File, Form, Options};
 use crate::output;
 use crate::page;
 use crate::programs::Programs;
@@ -57,36 +57,50 @@ pub fn graver(one: u8, other: u8) -> u8 {
 }
 
 /// Says on standard error why a file is no case.
-pub fn say_unfit(file: &str, unfit: &Unfit) {
+pub fn say_unfit(file: &File, unfit: &Unfit) {
     match unfit {
-        Unfit::Mistakes(mistakes) => output::say(&report::mistakes(&desk::shown(file), mistakes)),
+        Unfit::Mistakes(mistakes) => output::say(&report::mistakes(&file.shown(), mistakes)),
         Unfit::Unread(trouble) => output::say(&format!("garluveni: {trouble}\n")),
     }
 }
 
-/// The answers of all files that are cases, by their index; each is handed on as it comes.
+/// The answers of all files that are cases, by their index; each is handed on as it comes. With a budget the question is asked,
+/// else the run is judged.
 pub fn answers(
     programs: &Programs,
-    options: &Options,
+    budget: Option<u32>,
     read: &[Result<Given, Unfit>],
     each: &mut dyn FnMut(usize, Outcome) -> Result<(), Trouble>,
 ) -> Result<(), Trouble> {
-    let fit = read
-        .iter()
-        .enumerate()
-        .filter_map(|(i, one)| Some((i, one.as_ref().ok()?)));
+    let fit = read.iter().enumerate();
+    let fit = fit.filter_map(|(i, one)| Some((i, one.as_ref().ok()?)));
     let (places, given): (Vec<usize>, Vec<&Given>) = fit.unzip();
     if given.is_empty() {
         return Ok(());
     }
     let mut placed = |i: usize, outcome| each(places[i], outcome);
-    match options.command {
-        Command::Ask => desk::ask(programs, &given, options.budget_or_default(), &mut placed),
-        _ => desk::judge(programs, &given, &mut placed),
+    match budget {
+        Some(budget) => desk::ask(programs, &given, budget, &mut placed),
+        None => desk::judge(programs, &given, &mut placed),
     }
 }
 
-fn budget_of(options: &Options) -> Option<u32> {
+/// The answers all together.
+fn all_answers(
+    programs: &Programs,
+    budget: Option<u32>,
+    read: &[Result<Given, Unfit>],
+) -> Result<Vec<Option<Outcome>>, Trouble> {
+    let mut outcomes = vec![None; read.len()];
+    answers(programs, budget, read, &mut |i, outcome| {
+        outcomes[i] = Some(outcome);
+        Ok(())
+    })?;
+    Ok(outcomes)
+}
+
+/// The budget of the question, where one is asked.
+pub fn budget_of(options: &Options) -> Option<u32> {
     (options.command == Command::Ask).then_some(options.budget_or_default())
 }
 
@@ -95,27 +109,20 @@ fn tell_one(
     options: &Options,
     read: &Result<Given, Unfit>,
 ) -> Result<u8, Trouble> {
-    let mut found = None;
-    answers(
-        programs,
-        options,
-        std::slice::from_ref(read),
-        &mut |_, outcome| {
-            found = Some(outcome);
-            Ok(())
-        },
-    )?;
-    match (read, found) {
+    let budget = budget_of(options);
+    let found = all_answers(programs, budget, std::slice::from_ref(read))?;
+    match (read, &found[0]) {
         (Ok(given), Some(outcome)) => {
-            let status = status(&outcome);
             let words = match outcome {
                 Outcome::Answer(answer, run) => {
-                    report::words(&story(programs, given, (answer, run), budget_of(options))?)
+                    report::words(&story(programs, given, (*answer, run.clone()), budget)?)
                 }
-                Outcome::Refused { number, offset } => report::refused(&given.file, number, offset),
+                Outcome::Refused { number, offset } => {
+                    report::refused(&given.file, *number, *offset)
+                }
             };
             output::print(words.as_bytes())?;
-            Ok(status)
+            Ok(status(outcome))
         }
         (Err(unfit), _) => {
             say_unfit(&options.files[0], unfit);
@@ -141,11 +148,8 @@ fn json_lines(
     options: &Options,
     read: &[Result<Given, Unfit>],
 ) -> Result<u8, Trouble> {
-    let mut outcomes: Vec<Option<Outcome>> = vec![None; read.len()];
-    answers(programs, options, read, &mut |i, outcome| {
-        outcomes[i] = Some(outcome);
-        Ok(())
-    })?;
+    let budget = budget_of(options);
+    let outcomes = all_answers(programs, budget, read)?;
     let answered = read.iter().zip(&outcomes).filter_map(|pair| match pair {
         (Ok(given), Some(Outcome::Answer(answer, run))) => Some((given, *answer, run.clone())),
         _ => None,
@@ -153,21 +157,14 @@ fn json_lines(
     let answered: Vec<_> = answered.collect();
     let stories = match answered.is_empty() {
         true => Vec::new(),
-        false => desk::stories(programs, answered, budget_of(options))?,
+        false => desk::stories(programs, answered, budget)?,
     };
     let mut stories = stories.iter();
     let mut gravest = 0;
     let mut lines = String::new();
-    for (i, one) in read.iter().enumerate() {
-        let status = outcomes[i].as_ref().map_or(NO_ANSWER, status);
-        gravest = graver(gravest, status);
-        lines += &json_line(
-            options,
-            &options.files[i],
-            one,
-            outcomes[i].as_ref(),
-            &mut stories,
-        );
+    for ((file, one), outcome) in options.files.iter().zip(read).zip(&outcomes) {
+        gravest = graver(gravest, outcome.as_ref().map_or(NO_ANSWER, status));
+        lines += &json_line(options, file, one, outcome.as_ref(), &mut stories);
     }
     output::print(lines.as_bytes())?;
     Ok(gravest)
@@ -176,12 +173,12 @@ fn json_lines(
 /// The object of one file; the stories are those of the answered ones, in order.
 fn json_line<'a>(
     options: &Options,
-    file: &str,
+    file: &File,
     read: &Result<Given, Unfit>,
     outcome: Option<&Outcome>,
     stories: &mut impl Iterator<Item = &'a Story>,
 ) -> String {
-    let (file, command) = (desk::shown(file), options::name(options.command));
+    let (file, command) = (file.shown(), options::name(options.command));
     match (read, outcome) {
         (Err(Unfit::Mistakes(mistakes)), _) => objects::bad_text(&file, command, mistakes),
         (Err(Unfit::Unread(trouble)), _) => objects::unread(&file, command, &trouble.to_string()),
@@ -207,7 +204,7 @@ fn raw(
     let mut gravest = 0;
     for (file, one) in options.files.iter().zip(read) {
         if read.len() > 1 {
-            output::print(format!("== {}\n", desk::shown(file)).as_bytes())?;
+            output::print(format!("== {}\n", file.shown()).as_bytes())?;
         }
         let status = match one {
             Ok(given) => raw_one(programs, options, given)?,
@@ -260,45 +257,41 @@ fn turn(
     options: &Options,
     read: &[Result<Given, Unfit>],
 ) -> Result<u8, Trouble> {
-    let mut refused = 0;
-    let judging = Options {
-        command: Command::Judge,
-        files: Vec::new(),
-        out: None,
-        ..*options
-    };
-    answers(programs, &judging, read, &mut |i, outcome| {
-        if let Outcome::Refused { number, offset } = outcome {
-            refused += 1;
-            output::say(&report::refused(
-                &desk::shown(&options.files[i]),
-                number,
-                offset,
-            ));
-        }
-        Ok(())
-    })?;
-    for (file, one) in options.files.iter().zip(read) {
-        if let Err(unfit) = one {
-            refused += 1;
-            say_unfit(file, unfit);
-        }
-    }
-    if refused > 0 {
-        return Ok(NO_ANSWER);
-    }
+    let outcomes = all_answers(programs, None, read)?;
     let mut out = Vec::new();
-    for given in read.iter().flatten() {
-        match (options.command, read.len()) {
-            (Command::Text, 1) => out.extend(layout::text(&given.case()).bytes()),
-            (Command::Text, _) => {
-                out.extend(format!("# {}\n{}", given.file, layout::text(&given.case())).bytes())
+    let mut status = 0;
+    for ((file, one), outcome) in options.files.iter().zip(read).zip(&outcomes) {
+        match (one, outcome) {
+            (Ok(given), Some(Outcome::Answer(..))) => {
+                out.extend(turned(options.command, given, read.len() > 1));
+                continue;
             }
-            _ => out.extend(&given.bytes),
+            (Ok(given), _) => say_refused(given, outcome.as_ref()),
+            (Err(unfit), _) => say_unfit(file, unfit),
         }
+        status = NO_ANSWER;
     }
-    output::print(&out)?;
-    Ok(0)
+    if status == 0 {
+        output::print(&out)?;
+    }
+    Ok(status)
+}
+
+fn say_refused(given: &Given, outcome: Option<&Outcome>) {
+    if let Some(Outcome::Refused { number, offset }) = outcome {
+        output::say(&report::refused(&given.file, *number, *offset));
+    }
+}
+
+/// The case as text, with its file's name where there are several; or its records.
+fn turned(command: Command, given: &Given, is_one_of_several: bool) -> Vec<u8> {
+    match command {
+        Command::Text if is_one_of_several => {
+            format!("# {}\n{}", given.file, layout::text(&given.case())).into_bytes()
+        }
+        Command::Text => layout::text(&given.case()).into_bytes(),
+        _ => given.bytes.clone(),
+    }
 }
 
 /// The run in the file, else the run that answers its question.
@@ -316,35 +309,22 @@ fn draw_one(
     };
     let has_run = !given.case().run.is_empty();
     let budget = (!has_run).then_some(options.budget_or_default());
-    let mut found = None;
-    let mut take = |_: usize, outcome: Outcome| {
-        found = Some(outcome);
-        Ok(())
-    };
-    match budget {
-        Some(budget) => desk::ask(programs, &[given], budget, &mut take)?,
-        None => desk::judge(programs, &[given], &mut take)?,
-    }
-    match found {
-        Some(Outcome::Answer(answer, run)) if !is_empty_handed(answer) => {
-            let story = story(programs, given, (answer, run), budget)?;
-            write_drawing(options, &story)
-        }
-        Some(Outcome::Refused { number, offset }) => {
-            output::say(&report::refused(&given.file, number, offset));
-            Ok(NO_ANSWER)
-        }
-        Some(Outcome::Answer(answer, _)) => {
+    let found = all_answers(programs, budget, std::slice::from_ref(read))?;
+    match &found[0] {
+        Some(Outcome::Answer(answer @ (Answer::Unreachable | Answer::Undecided), _)) => {
             let (file, word) = (&given.file, answer.word());
             output::say(&format!("{file}: {word}, so there is no run to draw\n"));
             Ok(NO_ANSWER)
         }
-        None => Ok(NO_ANSWER),
+        Some(Outcome::Answer(answer, run)) => {
+            let story = story(programs, given, (*answer, run.clone()), budget)?;
+            write_drawing(options, &story)
+        }
+        refused => {
+            say_refused(given, refused.as_ref());
+            Ok(NO_ANSWER)
+        }
     }
-}
-
-fn is_empty_handed(answer: Answer) -> bool {
-    matches!(answer, Answer::Unreachable | Answer::Undecided)
 }
 
 fn write_drawing(options: &Options, story: &Story) -> Result<u8, Trouble> {
@@ -356,10 +336,9 @@ fn write_drawing(options: &Options, story: &Story) -> Result<u8, Trouble> {
         None => output::print(drawing.as_bytes())?,
         Some(file) => {
             output::save(file, drawing.as_bytes())?;
-            let steps = report::steps(story.run.len());
-            output::print(
-                format!("{}: {steps} drawn to {}\n", story.file, desk::shown(file)).as_bytes(),
-            )?;
+            // not an answer, so not for standard output
+            let (case, file) = (&story.file, options::shown(file));
+            output::say(&format!("{case}: the run is drawn to {file}\n"));
         }
     }
     Ok(0)

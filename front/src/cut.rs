@@ -11,14 +11,15 @@ pub struct Place {
     pub word: u32,
     /// How the word came to be there.
     pub from: String,
-    pub is_written: bool,
     /// The writes that did not get there.
     pub lost: Vec<String>,
 }
 
-/// The wanted words of which some have all their writes in memory and others have lost some.
+/// Wanted words of which one is in memory while a write that was issued before it, to another wanted location, is lost.
 pub struct Torn {
+    /// The locations that have the later write.
     pub new: Vec<usize>,
+    /// The locations that lack the earlier one.
     pub old: Vec<usize>,
 }
 
@@ -39,18 +40,15 @@ fn place(story: &Story, lives: &[Life], at: usize, word: u32) -> Place {
         Some((thread, step)) => format!("thread {thread}'s write, persisted in step {}", step + 1),
         None => "what it held at first".to_string(),
     };
-    let is_lost = |life: &&Life| {
-        let is_write = life.kind.word().is_some() && life.kind.queue() == Some(at as u8);
-        is_write && life.persisted.is_none()
-    };
-    let waiting = lives.iter().filter(is_lost);
+    let waiting = lives
+        .iter()
+        .filter(|life| life.is_write_to(at) && life.persisted.is_none());
     let mut lost: Vec<String> = waiting.map(|life| waited(story, life)).collect();
     lost.extend(unissued(story, at));
     Place {
         at,
         word,
         from,
-        is_written: last.is_some(),
         lost,
     }
 }
@@ -96,17 +94,31 @@ fn written(one: &Instruction) -> Option<usize> {
     }
 }
 
-pub fn torn(story: &Story, places: &[Place]) -> Option<Torn> {
-    let wanted = || {
-        places
+pub fn torn(story: &Story) -> Option<Torn> {
+    let lives = lives::lives(story);
+    let wanted: Vec<usize> = (0..story.case.names.len())
+        .filter(|at| story.case.wants[*at].is_some())
+        .collect();
+    let there = |at: usize| lives::newest(&lives, at, story.run.len()).map(|one| lives[one].issued);
+    let lost = |at: usize| {
+        let lost = lives
             .iter()
-            .filter(|place| story.case.wants[place.at].is_some())
+            .filter(|life| life.is_write_to(at) && life.persisted.is_none());
+        lost.map(|life| life.issued).min()
     };
-    let new = wanted().filter(|place| place.is_written && place.lost.is_empty());
-    let old = wanted().filter(|place| !place.lost.is_empty());
+    let is_torn = |new: usize, old: usize| match (there(new), lost(old)) {
+        (Some(later), Some(earlier)) => new != old && earlier < later,
+        _ => false,
+    };
+    let new = wanted
+        .iter()
+        .filter(|new| wanted.iter().any(|old| is_torn(**new, *old)));
+    let old = wanted
+        .iter()
+        .filter(|old| wanted.iter().any(|new| is_torn(*new, **old)));
     let torn = Torn {
-        new: new.map(|place| place.at).collect(),
-        old: old.map(|place| place.at).collect(),
+        new: new.copied().collect(),
+        old: old.copied().collect(),
     };
-    (!torn.new.is_empty() && !torn.old.is_empty()).then_some(torn)
+    (!torn.new.is_empty()).then_some(torn)
 }

@@ -4,6 +4,7 @@ use crate::case::{Case, Step};
 use crate::frames::{self, Asked, Judged, Verdict};
 use crate::lives;
 use crate::messages::{Mistake, Trouble};
+use crate::options::File;
 use crate::output;
 use crate::parse;
 use crate::programs::Programs;
@@ -39,22 +40,23 @@ pub enum Outcome {
 }
 
 impl Given {
-    pub fn read(file: &str) -> Result<Given, Unfit> {
-        let bytes = contents(file).map_err(Unfit::Unread)?;
+    pub fn read(from: &File) -> Result<Given, Unfit> {
+        let bytes = contents(from).map_err(Unfit::Unread)?;
+        let file = from.shown();
         if records::is_records(&bytes) {
             return Ok(Given {
-                file: shown(file),
+                file,
                 bytes,
                 text: None,
             });
         }
         if bytes.len() as u64 > MOST_BYTES {
-            return Err(Unfit::Unread(Trouble::TextTooLong(shown(file))));
+            return Err(Unfit::Unread(Trouble::TextTooLong(file)));
         }
         let case = parse::parse(&bytes).map_err(Unfit::Mistakes)?;
         let bytes = records::bytes_of(&case);
         Ok(Given {
-            file: shown(file),
+            file,
             bytes,
             text: Some(case),
         })
@@ -68,27 +70,18 @@ impl Given {
     }
 }
 
-/// A file's name as messages show it.
-pub fn shown(file: &str) -> String {
-    let name = if file == "-" { "standard input" } else { file };
-    name.chars()
-        .map(|c| if c.is_control() { '?' } else { c })
-        .collect()
-}
-
-fn contents(file: &str) -> Result<Vec<u8>, Trouble> {
+fn contents(from: &File) -> Result<Vec<u8>, Trouble> {
+    let most = MOST_BYTES + 1;
     let mut bytes = Vec::new();
-    let got = match file {
-        "-" => std::io::stdin()
-            .lock()
-            .take(MOST_BYTES + 1)
-            .read_to_end(&mut bytes),
-        _ => std::fs::File::open(file)
-            .and_then(|open| open.take(MOST_BYTES + 1).read_to_end(&mut bytes)),
+    let got = match from {
+        File::Input => std::io::stdin().lock().take(most).read_to_end(&mut bytes),
+        File::Named(name) => {
+            std::fs::File::open(name).and_then(|open| open.take(most).read_to_end(&mut bytes))
+        }
     };
     match got {
         Ok(_) => Ok(bytes),
-        Err(error) => Err(Trouble::CannotRead(shown(file), output::plain(&error))),
+        Err(error) => Err(Trouble::CannotRead(from.shown(), output::plain(&error))),
     }
 }
 

@@ -58,6 +58,10 @@ impl Life {
 }
 
 impl Life {
+    pub fn is_write_to(&self, at: usize) -> bool {
+        self.kind.word().is_some() && self.kind.queue().map(usize::from) == Some(at)
+    }
+
     /// The entry that it is in a buffer; an exchange never stands in one.
     fn waiting(&self) -> Option<Entry> {
         match self.kind {
@@ -147,9 +151,7 @@ pub fn agree(story: &Story) -> bool {
 pub fn newest(lives: &[Life], at: usize, steps: usize) -> Option<usize> {
     let here = |one: &usize| {
         let life = &lives[*one];
-        life.kind.word().is_some()
-            && life.kind.queue().map(usize::from) == Some(at)
-            && life.persisted.is_some_and(|index| index < steps)
+        life.is_write_to(at) && life.persisted.is_some_and(|index| index < steps)
     };
     (0..lives.len())
         .filter(here)

@@ -29,13 +29,11 @@ mod story;
 mod tell;
 mod words;
 
+use std::ffi::OsString;
 use std::process::ExitCode;
 
 fn main() -> ExitCode {
-    let words: Vec<String> = std::env::args_os()
-        .skip(1)
-        .map(|word| word.to_string_lossy().into_owned())
-        .collect();
+    let words: Vec<OsString> = std::env::args_os().skip(1).collect();
     match options::options(&words).and_then(|options| commands::run(&options)) {
         Ok(status) => ExitCode::from(status),
         Err(trouble) => {

@@ -80,7 +80,7 @@ fn put_run(object: &mut Object, story: &Story) {
     if story.answer != Answer::Reached {
         return;
     }
-    if let Some(torn) = cut::torn(story, &cut::places(story)) {
+    if let Some(torn) = cut::torn(story) {
         let names = |found: &[usize]| list(found.iter().map(|at| text(&case.names[*at])));
         object.put(
             "torn",

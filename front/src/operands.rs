@@ -4,31 +4,56 @@ use crate::case::Step;
 use crate::messages::What;
 use crate::sizes;
 
-/// I0, M0.1 or P1, its thread's number, and what is wrong with its other number.
-pub fn short_step(text: &str, locations: usize) -> Option<(Step, u32, Option<What>)> {
-    if let Some(thread) = text.strip_prefix('I').and_then(digits) {
-        return Some((
-            Step::Issue {
-                thread: low(thread),
-            },
-            thread,
-            None,
-        ));
+/// A step as the programs print it: I0, M0.1 or P1.
+pub struct Short<'a> {
+    pub step: Step,
+    /// The digits of its thread; a persist has none.
+    pub thread: Option<&'a str>,
+    /// The digits of its last number.
+    pub last: &'a str,
+}
+
+pub fn short_step(text: &str) -> Option<Short<'_>> {
+    if let Some(last) = text.strip_prefix('I') {
+        let thread = low(digits(last)?);
+        let step = Step::Issue { thread };
+        return Some(Short {
+            step,
+            thread: Some(last),
+            last,
+        });
     }
-    if let Some((thread, position)) = text.strip_prefix('M').and_then(|rest| rest.split_once('.')) {
-        let (thread, position) = (digits(thread)?, digits(position)?);
-        let fault = (position as usize >= sizes::POSITIONS).then_some(What::MostPosition);
-        let step = Step::Move {
-            thread: low(thread),
-            position: low(position),
-        };
-        return Some((step, thread, fault));
+    if let Some((of, last)) = text.strip_prefix('M').and_then(|rest| rest.split_once('.')) {
+        let (thread, position) = (low(digits(of)?), low(digits(last)?));
+        let step = Step::Move { thread, position };
+        return Some(Short {
+            step,
+            thread: Some(of),
+            last,
+        });
     }
-    let at = digits(text.strip_prefix('P')?)?;
-    // without names that is the one mistake, told already
-    let is_none = locations > 0 && at as usize >= locations;
-    let fault = is_none.then(|| What::NoSuchNumber(at as usize, locations - 1));
-    Some((Step::Persist { at: low(at) }, 0, fault))
+    let last = text.strip_prefix('P')?;
+    let at = low(digits(last)?);
+    Some(Short {
+        step: Step::Persist { at },
+        thread: None,
+        last,
+    })
+}
+
+impl Short<'_> {
+    /// What is wrong with its last number. Without names that is the one mistake, told already.
+    pub fn fault(&self, locations: usize) -> Option<What> {
+        match self.step {
+            Step::Move { position, .. } if position as usize >= sizes::POSITIONS => {
+                Some(What::MostPosition)
+            }
+            Step::Persist { at } if locations > 0 && at as usize >= locations => {
+                Some(What::NoSuchNumber(shown(self.last), locations - 1))
+            }
+            _ => None,
+        }
+    }
 }
 
 pub fn register(text: &str) -> Option<u32> {

@@ -2,6 +2,7 @@
 
 use crate::messages::Trouble;
 use crate::sizes;
+use std::ffi::{OsStr, OsString};
 
 #[derive(Clone, Copy, Debug, PartialEq, Eq)]
 pub enum Command {
@@ -26,8 +27,32 @@ pub struct Options {
     /// None: the budget of the program `question`.
     pub budget: Option<u32>,
     pub html: bool,
-    pub out: Option<String>,
-    pub files: Vec<String>,
+    /// None: standard output.
+    pub out: Option<OsString>,
+    pub files: Vec<File>,
+}
+
+/// Where a case is read from.
+#[derive(Clone, Debug, PartialEq, Eq)]
+pub enum File {
+    Input,
+    Named(OsString),
+}
+
+impl File {
+    /// As messages show it.
+    pub fn shown(&self) -> String {
+        match self {
+            File::Input => "standard input".to_string(),
+            File::Named(name) => shown(name),
+        }
+    }
+}
+
+/// A name as messages show it.
+pub fn shown(name: &OsStr) -> String {
+    let plain = |c: char| if c.is_control() { '?' } else { c };
+    name.to_string_lossy().chars().map(plain).collect()
 }
 
 pub fn name(command: Command) -> &'static str {
@@ -44,20 +69,21 @@ fn usage<T>(what: String) -> Result<T, Trouble> {
     Err(Trouble::Usage(what))
 }
 
-pub fn options(words: &[String]) -> Result<Options, Trouble> {
+pub fn options(words: &[OsString]) -> Result<Options, Trouble> {
     let Some(first) = words.first() else {
         return usage("a command is missing: ask, judge, draw, text or help".to_string());
     };
-    let command = match first.as_str() {
-        "ask" => Command::Ask,
-        "judge" => Command::Judge,
-        "draw" => Command::Draw,
-        "text" => Command::Text,
-        "help" | "--help" | "-h" => Command::Help,
-        other => {
+    let command = match first.to_str() {
+        Some("ask") => Command::Ask,
+        Some("judge") => Command::Judge,
+        Some("draw") => Command::Draw,
+        Some("text") => Command::Text,
+        Some("help" | "--help" | "-h") => Command::Help,
+        _ => {
+            let other = shown(first);
             return usage(format!(
                 "'{other}' is no command: ask, judge, draw, text or help"
-            ))
+            ));
         }
     };
     let mut found = Options {
@@ -75,25 +101,35 @@ pub fn options(words: &[String]) -> Result<Options, Trouble> {
     Ok(found)
 }
 
-fn take_words(found: &mut Options, words: &[String]) -> Result<(), Trouble> {
+fn take_words(found: &mut Options, words: &[OsString]) -> Result<(), Trouble> {
     let mut rest = words.iter();
-    let mut plain = false;
+    let mut is_plain = false;
     while let Some(word) = rest.next() {
-        match word.as_str() {
-            _ if plain => found.files.push(word.clone()),
-            "--" => plain = true,
-            "--help" | "-h" => found.command = Command::Help,
-            "--raw" => take_form(found, Form::Raw)?,
-            "--json" => take_form(found, Form::Json)?,
-            "--bytes" => take_form(found, Form::Bytes)?,
-            "--html" => found.html = true,
-            "--budget" => found.budget = Some(budget(rest.next())?),
-            "-o" => found.out = Some(file_after(rest.next())?),
-            "-" => found.files.push(word.clone()),
-            other if other.starts_with('-') => return usage(format!("'{other}' is no option")),
-            _ => found.files.push(word.clone()),
+        match word.to_str() {
+            _ if is_plain => found.files.push(File::Named(word.clone())),
+            Some("--") => is_plain = true,
+            Some("--help" | "-h") => found.command = Command::Help,
+            Some("--raw") => take_form(found, Form::Raw)?,
+            Some("--json") => take_form(found, Form::Json)?,
+            Some("--bytes") => take_form(found, Form::Bytes)?,
+            Some("--html") => found.html = true,
+            Some("--budget") => found.budget = Some(budget(rest.next())?),
+            Some("-o") => found.out = file_after(rest.next())?,
+            Some("-") => take_input(found)?,
+            Some(option) if option.starts_with('-') => {
+                return usage(format!("'{}' is no option", shown(word)));
+            }
+            _ => found.files.push(File::Named(word.clone())),
         }
     }
+    Ok(())
+}
+
+fn take_input(found: &mut Options) -> Result<(), Trouble> {
+    if found.files.contains(&File::Input) {
+        return usage("standard input can be read only once".to_string());
+    }
+    found.files.push(File::Input);
     Ok(())
 }
 
@@ -105,17 +141,24 @@ fn take_form(found: &mut Options, form: Form) -> Result<(), Trouble> {
     Ok(())
 }
 
-fn budget(word: Option<&String>) -> Result<u32, Trouble> {
-    let digits = word.map(|word| word.replace(',', ""));
-    match digits.and_then(|digits| digits.parse().ok()) {
-        Some(number) => Ok(number),
-        None => usage("--budget wants a number of runs, 0 to 4294967295".to_string()),
+/// Digits, with commas before each three or none.
+fn budget(word: Option<&OsString>) -> Result<u32, Trouble> {
+    let text = word.and_then(|word| word.to_str()).unwrap_or("");
+    let groups: Vec<&str> = text.split(',').collect();
+    let is_grouped = groups[0].len() <= 3 && groups[1..].iter().all(|group| group.len() == 3);
+    let digits = groups.concat();
+    let is_number = digits.bytes().all(|byte| byte.is_ascii_digit());
+    match digits.parse() {
+        Ok(number) if is_number && (is_grouped || groups.len() == 1) => Ok(number),
+        _ => usage("--budget wants a number of runs, 0 to 4294967295".to_string()),
     }
 }
 
-fn file_after(word: Option<&String>) -> Result<String, Trouble> {
+/// A file's name; - is standard output.
+fn file_after(word: Option<&OsString>) -> Result<Option<OsString>, Trouble> {
     match word {
-        Some(word) => Ok(word.clone()),
+        Some(word) if word == "-" => Ok(None),
+        Some(word) => Ok(Some(word.clone())),
         None => usage("-o wants the name of a file".to_string()),
     }
 }
@@ -138,7 +181,20 @@ fn fits(found: &Options) -> Result<(), Trouble> {
     if !is(Command::Draw) && (found.html || found.out.is_some()) {
         return usage("--html and -o go with draw".to_string());
     }
+    if is(Command::Draw) && is_same(&found.files[0], found.out.as_ref()) {
+        return usage("-o names the file that is to be drawn".to_string());
+    }
     Ok(())
+}
+
+fn is_same(file: &File, out: Option<&OsString>) -> bool {
+    match (file, out) {
+        (File::Named(name), Some(out)) => {
+            let place = |name| std::fs::canonicalize(name).ok();
+            place(name).is_some() && place(name) == place(out)
+        }
+        _ => false,
+    }
 }
 
 impl Options {

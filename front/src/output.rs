@@ -1,6 +1,8 @@
 //! Writing: to standard output, or to a file that is there whole or not at all.
 
 use crate::messages::Trouble;
+use crate::options;
+use std::ffi::OsStr;
 use std::fs;
 use std::io::{ErrorKind, Write};
 use std::path::{Path, PathBuf};
@@ -20,19 +22,33 @@ pub fn say(words: &str) {
 }
 
 /// Writes beside the file first, so that a full disk leaves what was there before. What is no plain file is written as it is.
-pub fn save(file: &str, bytes: &[u8]) -> Result<(), Trouble> {
-    let trouble = |error: std::io::Error| Trouble::CannotWrite(file.to_string(), plain(&error));
-    let path = fs::canonicalize(file).unwrap_or_else(|_| PathBuf::from(file));
-    if fs::metadata(&path).is_ok_and(|about| !about.is_file()) {
+pub fn save(file: &OsStr, bytes: &[u8]) -> Result<(), Trouble> {
+    let trouble = |error: std::io::Error| Trouble::CannotWrite(options::shown(file), plain(&error));
+    let path = place_of(Path::new(file));
+    let before = fs::metadata(&path).ok();
+    if before.as_ref().is_some_and(|about| !about.is_file()) {
         return fs::write(&path, bytes).map_err(trouble);
     }
     let beside = beside(&path);
-    let done = write_whole(&beside, bytes).and_then(|()| fs::rename(&beside, &path));
+    let mut done = write_whole(&beside, bytes);
+    if let (Ok(()), Some(before)) = (&done, before) {
+        done = fs::set_permissions(&beside, before.permissions());
+    }
+    let done = done.and_then(|()| fs::rename(&beside, &path));
     if done.is_err() {
         // the first error is the one to tell
         let _ = fs::remove_file(&beside);
     }
     done.map_err(trouble)
+}
+
+/// What a name stands for, through links, also through one that leads to nothing yet.
+fn place_of(path: &Path) -> PathBuf {
+    match (fs::canonicalize(path), fs::read_link(path)) {
+        (Ok(whole), _) => whole,
+        (Err(_), Ok(target)) => path.with_file_name(target),
+        _ => path.to_path_buf(),
+    }
 }
 
 fn beside(path: &Path) -> PathBuf {

@@ -87,6 +87,12 @@
     all("want").forEach((place, at) => fillWant(place, story.wants[at], state.words[at]));
     find("end").hidden = !lost;
   };
+  // what changed must be seen, also where the cards are longer than the screen; at the end what the power cut leaves
+  const showChange = () => {
+    const change = [...document.querySelectorAll(".touched")].pop();
+    const place = find("end").hidden ? change : find("end");
+    if (place) place.scrollIntoView({ block: "nearest" });
+  };
   const showStep = (step) => {
     const code = step ? story.steps[step - 1].code : "start";
     find("where").replaceChildren(`Step ${step} of ${last}`, make("span", "code", code));
@@ -106,6 +112,7 @@
     showState(shown);
     showStep(shown);
     showKeys(shown);
+    showChange();
     document.body.dataset.step = String(shown);
     if (location.hash !== `#${shown}`) history.replaceState(null, "", `#${shown}`);
   };
@@ -123,7 +130,8 @@
   }
   document.addEventListener("keydown", (event) => {
     const way = keys[event.key];
-    if (!way || event.ctrlKey || event.altKey || event.metaKey || event.shiftKey) return;
+    // in the picture the arrow keys scroll
+    if (!way || event.target.closest(".picture") || event.ctrlKey || event.altKey || event.metaKey || event.shiftKey) return;
     event.preventDefault();
     show(ways[way]());
   });

@@ -9,6 +9,9 @@ use crate::statements::{instruction_of, known_words, step_of, Operand, INSTRUCTI
 use crate::words::{self, Line, Word};
 use std::collections::{BTreeMap, HashMap};
 
+/// So many names are kept of a text.
+const MOST_NAMES: usize = 64;
+
 /// Where an instruction or a step belongs; behind a mistaken line it is looked at and dropped.
 #[derive(Clone, Copy, PartialEq)]
 enum Section {
@@ -25,12 +28,15 @@ struct Parser {
     first: BTreeMap<usize, u32>,
     threads: Vec<Vec<Instruction>>,
     wants: BTreeMap<usize, u32>,
-    /// The count, its line, and the columns of thread and count.
-    passed: BTreeMap<usize, (u32, usize, usize, usize)>,
-    /// Each step with its thread's number and place: the thread may come later.
-    run: Vec<(Step, u32, usize, usize)>,
+    /// The count and its place.
+    passed: BTreeMap<usize, (u32, usize, usize)>,
+    run: Vec<Step>,
+    /// The threads that passed counts and steps name, as written, with their places: a thread may come later.
+    named: Vec<(u32, String, usize, usize)>,
     /// The line of each statement that may be there only once, by its first word and number.
     seen: HashMap<(&'static str, usize), usize>,
+    /// Whether some line cannot be read: what is missing may stand there.
+    has_unread: bool,
 }
 
 pub fn parse(bytes: &[u8]) -> Result<Case, Vec<Mistake>> {
@@ -55,6 +61,7 @@ pub fn parse(bytes: &[u8]) -> Result<Case, Vec<Mistake>> {
 impl Parser {
     fn new(mistakes: Vec<Mistake>) -> Parser {
         Parser {
+            has_unread: !mistakes.is_empty(),
             mistakes,
             section: Section::Outside,
             names: Vec::new(),
@@ -63,6 +70,7 @@ impl Parser {
             wants: BTreeMap::new(),
             passed: BTreeMap::new(),
             run: Vec::new(),
+            named: Vec::new(),
             seen: HashMap::new(),
         }
     }
@@ -71,12 +79,18 @@ impl Parser {
         self.mistakes.push(Mistake { line, column, what });
     }
 
-    fn statement(&mut self, line: &Line, word: &Word) {
-        let is_locations = word.text == "locations";
-        if !is_locations && self.names.is_empty() && !self.seen.contains_key(&("locations", 0)) {
-            self.wrong(line.number, word.column, What::NoLocations);
-            self.seen.insert(("locations", 0), line.number);
+    /// Something is not where it must be; a line that cannot be read may have it.
+    fn absent(&mut self, line: usize, column: usize, what: What) {
+        if !self.has_unread {
+            self.wrong(line, column, what);
         }
+    }
+
+    fn statement(&mut self, line: &Line, word: &Word) {
+        if known_words().any(|known| known == word.text) {
+            self.need_locations(line, word);
+        }
+        let is = |(name, _): &&(&str, _)| *name == word.text;
         match word.text {
             "locations" => self.locations(line),
             "first" => self.content(line, "first"),
@@ -84,15 +98,23 @@ impl Parser {
             "thread" => self.thread(line),
             "passed" => self.passed(line),
             "run" => self.start_run(line),
-            other => {
-                if let Some((name, kinds)) = INSTRUCTIONS.iter().find(|(name, _)| *name == other) {
+            _ => {
+                if let Some((name, kinds)) = INSTRUCTIONS.iter().find(is) {
                     self.instruction(line, name, kinds);
-                } else if let Some((name, kinds)) = STEPS.iter().find(|(name, _)| *name == other) {
+                } else if let Some((name, kinds)) = STEPS.iter().find(is) {
                     self.step(line, name, kinds);
                 } else {
                     self.short_step(line, word);
                 }
             }
+        }
+    }
+
+    /// The first statement must be that of the locations; told once.
+    fn need_locations(&mut self, line: &Line, word: &Word) {
+        if word.text != "locations" && !self.seen.contains_key(&("locations", 0)) {
+            self.absent(line.number, word.column, What::NoLocations);
+            self.seen.insert(("locations", 0), line.number);
         }
     }
 
@@ -120,7 +142,8 @@ impl Parser {
         if line.words.len() == 1 {
             self.wrong(line.number, line.end, What::Missing(Expected::Name));
         }
-        for (i, word) in line.words.iter().skip(1).enumerate() {
+        // some that are too many are kept, so that their use is no second mistake
+        for (i, word) in line.words.iter().skip(1).take(MOST_NAMES).enumerate() {
             if let Some(what) = self.bad_name(word.text, i) {
                 self.wrong(line.number, word.column, what);
             }
@@ -177,7 +200,7 @@ impl Parser {
         } else if next == sizes::THREADS {
             self.wrong(line.number, found[0].column, What::MostThreads);
         } else if thread > next {
-            self.wrong(line.number, found[0].column, What::NextThread(next));
+            self.absent(line.number, found[0].column, What::NextThread(next));
         } else {
             self.seen.insert(("thread", thread), line.number);
             self.threads.push(Vec::new());
@@ -194,12 +217,19 @@ impl Parser {
         if !self.once(line, "passed", thread, Some(line.words[1].text)) {
             return;
         }
+        self.name_thread(line, &found[0], line.words[1].text);
         if count == 0 {
             self.wrong(line.number, found[1].column, What::PassedZero);
         } else {
-            let place = (count, line.number, found[0].column, found[1].column);
+            let place = (count, line.number, found[1].column);
             self.passed.insert(thread, place);
         }
+    }
+
+    fn name_thread(&mut self, line: &Line, thread: &Operand, text: &str) {
+        let text = shown(text);
+        self.named
+            .push((thread.value, text, line.number, thread.column));
     }
 
     fn start_run(&mut self, line: &Line) {
@@ -212,7 +242,7 @@ impl Parser {
     /// Whether the line stands where it belongs; the first of several that do not is a mistake.
     fn belongs(&mut self, line: &Line, section: Section, word: &'static str) -> bool {
         if self.section != section && self.section != Section::Dropped {
-            self.wrong(line.number, line.words[0].column, What::Outside(word));
+            self.absent(line.number, line.words[0].column, What::Outside(word));
             self.section = Section::Dropped;
         }
         self.section == section
@@ -245,34 +275,48 @@ impl Parser {
         let Some(found) = self.operands(line, kinds) else {
             return;
         };
-        let step = step_of(name, &found);
-        self.take_step(line, step, (found[0].value, found[0].column), belongs);
+        if name != "persist" {
+            self.name_thread(line, &found[0], line.words[1].text);
+        }
+        self.take_step(line, step_of(name, &found), belongs);
     }
 
     /// A step as the programs print it, or nothing that is known.
     fn short_step(&mut self, line: &Line, word: &Word) {
-        let Some((step, thread, fault)) = short_step(word.text, self.names.len()) else {
-            let known: Vec<&str> = known_words().collect();
-            let hint = hints::statement(word.text, &known);
-            self.wrong(
-                line.number,
-                word.column,
-                What::Unknown(shown(word.text), hint),
-            );
-            return;
+        let Some(short) = short_step(word.text) else {
+            return self.unknown(line, word);
         };
         let belongs = self.belongs(line, Section::Run, "run");
-        if let Some(what) = fault {
-            self.wrong(line.number, word.column + 1, what);
+        let behind = |text: &str| word.column + word.text.len() - text.len();
+        if let Some(text) = short.thread {
+            let thread = Operand {
+                value: digits(text).unwrap_or(0),
+                is_register: false,
+                column: word.column + 1,
+            };
+            self.name_thread(line, &thread, text);
+        }
+        if let Some(what) = short.fault(self.names.len()) {
+            self.wrong(line.number, behind(short.last), what);
         }
         if self.operands(line, &[]).is_some() {
-            self.take_step(line, step, (thread, word.column + 1), belongs);
+            self.take_step(line, short.step, belongs);
         }
     }
 
-    fn take_step(&mut self, line: &Line, step: Step, of: (u32, usize), belongs: bool) {
+    fn unknown(&mut self, line: &Line, word: &Word) {
+        let known: Vec<&str> = known_words().collect();
+        let hint = hints::statement(word.text, &known);
+        if hint.contains("'locations'") {
+            self.seen.entry(("locations", 0)).or_insert(line.number);
+        }
+        let what = What::Unknown(shown(word.text), hint);
+        self.wrong(line.number, word.column, what);
+    }
+
+    fn take_step(&mut self, line: &Line, step: Step, belongs: bool) {
         if belongs && self.run.len() <= sizes::STEPS {
-            self.run.push((step, of.0, line.number, of.1));
+            self.run.push(step);
             if self.run.len() == sizes::STEPS + 1 {
                 self.wrong(line.number, line.words[0].column, What::MostSteps);
             }
@@ -341,31 +385,27 @@ impl Parser {
     /// What can be told only when all is read; the place is the end of the last statement.
     fn finish(&mut self, end: (usize, usize)) {
         if !self.seen.contains_key(&("locations", 0)) {
-            self.wrong(end.0, end.1, What::NoLocations);
+            self.absent(end.0, end.1, What::NoLocations);
         } else if self.threads.is_empty() && !self.mistakes.iter().any(is_of_threads) {
-            self.wrong(end.0, end.1, What::NoThread);
+            self.absent(end.0, end.1, What::NoThread);
         }
         if self.threads.is_empty() {
             return;
         }
         let last = self.threads.len() - 1;
-        for (thread, (count, line, column, count_column)) in self.passed.clone() {
-            match self.threads.get(thread).map(Vec::len) {
-                None => self.wrong(line, column, What::NoSuchThread(thread, last)),
-                Some(has) if has < count as usize => {
-                    self.wrong(line, count_column, What::PassedMore(thread, has))
-                }
-                Some(_) => {}
+        for (thread, text, line, column) in std::mem::take(&mut self.named) {
+            if thread as usize > last {
+                self.absent(line, column, What::NoSuchThread(text, last));
             }
         }
-        self.finish_run(last);
+        self.finish_counts();
     }
 
-    fn finish_run(&mut self, last: usize) {
-        for (step, thread, line, column) in self.run.clone() {
-            let is_persist = matches!(step, Step::Persist { .. });
-            if !is_persist && thread as usize > last {
-                self.wrong(line, column, What::NoSuchThread(thread as usize, last));
+    fn finish_counts(&mut self) {
+        for (thread, (count, line, column)) in self.passed.clone() {
+            let has = self.threads.get(thread).map_or(usize::MAX, Vec::len);
+            if has < count as usize {
+                self.absent(line, column, What::PassedMore(thread, has));
             }
         }
     }
@@ -381,7 +421,7 @@ impl Parser {
                 .map(|at| self.wants.get(&at).copied())
                 .collect(),
             passed: (0..self.threads.len()).map(passed).collect(),
-            run: self.run.iter().map(|(step, ..)| *step).collect(),
+            run: self.run,
             names: self.names,
             threads: self.threads,
         }

@@ -3,6 +3,7 @@
 use crate::messages::Trouble;
 use crate::output;
 use std::io::{BufRead, BufReader, IsTerminal, Write};
+use std::os::unix::process::CommandExt;
 use std::path::PathBuf;
 use std::process::{Child, Command, Stdio};
 use std::sync::mpsc::{self, Receiver, RecvTimeoutError};
@@ -58,12 +59,31 @@ impl Programs {
     }
 
     fn start(&self, program: &str) -> Result<Child, Trouble> {
-        Command::new(self.root.join("tests/run"))
+        let mut command = Command::new(self.root.join("tests/run"));
+        command
             .arg(program)
             .stdin(Stdio::piped())
-            .stdout(Stdio::piped())
+            .stdout(Stdio::piped());
+        end_with_parent(&mut command);
+        command
             .spawn()
             .map_err(|error| Trouble::CannotRun(program.to_string(), output::plain(&error)))
+    }
+}
+
+/// A walk can take hours: whoever ends the front door ends the program too.
+fn end_with_parent(command: &mut Command) {
+    extern "C" {
+        fn prctl(option: i32, ...) -> i32;
+    }
+    const SET_PARENT_DEATH_SIGNAL: i32 = 1;
+    const KILL: u64 = 9;
+    // SAFETY: between fork and exec only this one system call is made, with two numbers
+    unsafe {
+        command.pre_exec(|| match prctl(SET_PARENT_DEATH_SIGNAL, KILL) {
+            0 => Ok(()),
+            _ => Err(std::io::Error::last_os_error()),
+        });
     }
 }
 
@@ -97,6 +117,7 @@ fn take_lines(
             Ok(line) => {
                 taken += 1;
                 progress.clear();
+                progress.began = Instant::now();
                 each(&line)?;
             }
             Err(RecvTimeoutError::Timeout) => progress.show(taken),

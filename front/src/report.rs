@@ -55,11 +55,33 @@ pub fn commas(number: u32) -> String {
     out
 }
 
-/// The wanted words and passed counts, or that nothing is asked; `is` stands between a name and its word.
+/// The wanted words and passed counts, or that nothing is wanted; `is` stands between a name and its word.
 pub fn asked(case: &Case, is: &str) -> String {
+    match (wanted_words(case, is), issued(case)) {
+        (None, None) => "nothing is wanted".to_string(),
+        (Some(words), None) => words,
+        (None, Some(issued)) => issued,
+        (Some(words), Some(issued)) => format!("{words} with {issued}"),
+    }
+}
+
+/// What a power cut can do or not, behind "can".
+pub fn deed(case: &Case, is: &str) -> String {
+    match (wanted_words(case, is), issued(case)) {
+        (None, None) => "come at once, and nothing is wanted".to_string(),
+        (None, Some(issued)) => format!("come with {issued}"),
+        (Some(_), _) => format!("leave {}", asked(case, is)),
+    }
+}
+
+fn wanted_words(case: &Case, is: &str) -> Option<String> {
     let wants = case.names.iter().zip(&case.wants);
     let wants = wants.filter_map(|(name, want)| want.map(|word| format!("{name}{is}{word}")));
     let wants: Vec<String> = wants.collect();
+    (!wants.is_empty()).then(|| wants.join(", "))
+}
+
+fn issued(case: &Case) -> Option<String> {
     let passed = case
         .passed
         .iter()
@@ -67,14 +89,7 @@ pub fn asked(case: &Case, is: &str) -> String {
         .filter(|(_, count)| **count != 0);
     let passed = passed.map(|(thread, count)| format!("{count} of thread {thread}'s instructions"));
     let passed: Vec<String> = passed.collect();
-    let memory = match wants.is_empty() {
-        true => "any memory at all".to_string(),
-        false => wants.join(", "),
-    };
-    match passed.is_empty() {
-        true => memory,
-        false => format!("{memory} with at least {} issued", passed.join(" and ")),
-    }
+    (!passed.is_empty()).then(|| format!("at least {} issued", passed.join(" and ")))
 }
 
 pub fn words(story: &Story) -> String {
@@ -98,18 +113,18 @@ pub fn words(story: &Story) -> String {
 }
 
 fn headline(story: &Story) -> Vec<String> {
-    let asked = asked(&story.case, " = ");
+    let deed = deed(&story.case, " = ");
     let runs = commas(story.budget.unwrap_or(0));
     let full = story.full_length;
     match story.answer {
-        Answer::Reached => vec![format!("REACHED: a power cut can leave {asked}.")],
+        Answer::Reached => vec![format!("REACHED: a power cut can {deed}.")],
         Answer::Unreachable => vec![
-            format!("UNREACHABLE: no power cut leaves {asked}."),
+            format!("UNREACHABLE: no power cut can {deed}."),
             format!("Every run of this program was gone through; the longest have {}.", steps(full)),
         ],
         Answer::Undecided => vec![
-            format!("UNDECIDED: none of the first {runs} runs leaves {asked}, and there are more."),
-            "That is neither yes nor no. A larger --budget, up to 4,294,967,295, or a smaller program may tell.".to_string(),
+            format!("UNDECIDED: none of the first {runs} runs shows that a power cut can {deed}."),
+            "There are more runs, so that is neither yes nor no. A larger --budget, up to 4,294,967,295, or a smaller program may tell.".to_string(),
         ],
         Answer::Legal if story.run.is_empty() => {
             vec!["LEGAL: the file has no run, and the empty run is legal.".to_string()]
@@ -223,28 +238,28 @@ fn passed(story: &Story) -> Vec<String> {
         .collect()
 }
 
-fn torn(story: &Story, places: &[Place]) -> Vec<String> {
-    let Some(torn) = cut::torn(story, places) else {
-        return Vec::new();
-    };
-    let words = |found: &[usize]| {
-        let words = found
-            .iter()
-            .map(|at| format!("{} = {}", story.case.names[*at], places[*at].word));
-        words.collect::<Vec<String>>().join(", ")
-    };
-    let (new, old) = (words(&torn.new), words(&torn.old));
-    vec![format!(
-        "The torn row: {new} is in memory as written; {old} is without its last write."
-    )]
+fn torn(story: &Story, places: &[Place]) -> Option<String> {
+    let torn = cut::torn(story)?;
+    let names = &story.case.names;
+    let new = torn
+        .new
+        .iter()
+        .map(|at| format!("{} = {}", names[*at], places[*at].word));
+    let new = new.collect::<Vec<String>>().join(", ");
+    let old = torn.old.iter().map(|at| names[*at].as_str());
+    let old = old.collect::<Vec<&str>>().join(", ");
+    let is = if torn.new.len() == 1 { "is" } else { "are" };
+    Some(format!(
+        "The torn row: {new} {is} in memory, but what was issued to {old} earlier is not."
+    ))
 }
 
 fn source(story: &Story) -> String {
     match story.budget {
         Some(budget) => format!(
-            "Answered by the proved programs, within a budget of {} runs; this front door only tells it.",
+            "Answered by the proved search, within a budget of {} runs; this front door only tells it.",
             commas(budget)
         ),
-        None => "Judged by the proved programs; this front door only tells it.".to_string(),
+        None => "Judged by the proved judge; this front door only tells it.".to_string(),
     }
 }

@@ -1,7 +1,7 @@
 //! Several files at once: a line each, as the answers come, and a summary.
 
 use crate::commands::{self, graver, status};
-use crate::desk::{self, Given, Outcome, Unfit};
+use crate::desk::{Given, Outcome, Unfit};
 use crate::messages::Trouble;
 use crate::options::Options;
 use crate::output;
@@ -34,10 +34,15 @@ pub fn tell(
         counts: Vec::new(),
     };
     table.advance()?;
-    commands::answers(programs, options, read, &mut |i, outcome| {
-        table.outcomes[i] = Some(outcome);
-        table.advance()
-    })?;
+    commands::answers(
+        programs,
+        commands::budget_of(options),
+        read,
+        &mut |i, outcome| {
+            table.outcomes[i] = Some(outcome);
+            table.advance()
+        },
+    )?;
     let counts = table
         .counts
         .iter()
@@ -62,7 +67,7 @@ impl Table<'_> {
             }
             self.gravest = graver(self.gravest, outcome.map_or(commands::NO_ANSWER, status));
             let (word, rest) = line(read, outcome);
-            output::print(format!("{}: {word}{rest}\n", desk::shown(file)).as_bytes())?;
+            output::print(format!("{}: {word}{rest}\n", file.shown()).as_bytes())?;
             match self.counts.iter_mut().find(|(other, _)| *other == word) {
                 Some((_, count)) => *count += 1,
                 None => self.counts.push((word, 1)),

@@ -26,7 +26,7 @@ fn sentence(case: &Case, step: &Step, before: &State, after: &State) -> String {
             match before.queues[at as usize][0] {
                 Held::Write { word } => format!("{word} persists: memory holds {name} = {word} now"),
                 Held::Marker { thread } => format!(
-                    "thread {thread}'s marker leaves {name}'s queue: all that was before it has persisted"
+                    "thread {thread}'s marker leaves {name}'s queue: all that was before it there has persisted"
                 ),
             }
         }
@@ -68,10 +68,10 @@ fn issue(case: &Case, thread: usize, before: &State, after: &State) -> String {
     let does = match *one {
         Instruction::Load { at, register } => {
             let word = after.registers[thread][register as usize];
-            format!(
-                "r{register} takes {word}, from {}",
-                source(case, thread, at, before)
-            )
+            match source(case, thread, at, before) {
+                (held, place) if held == word => format!("r{register} takes {word}, from {place}"),
+                _ => format!("r{register} takes {word}"),
+            }
         }
         Instruction::Exchange { at, register, word } => {
             let old = after.registers[thread][register as usize];
@@ -92,16 +92,26 @@ fn issue(case: &Case, thread: usize, before: &State, after: &State) -> String {
     )
 }
 
-/// Where a load finds its word: the newest store in the own buffer, else the newest write in the queue, else memory.
-fn source(case: &Case, thread: usize, at: u8, before: &State) -> String {
-    let is_own = |entry: &Entry| matches!(entry, Entry::Store { at: other, .. } if *other == at);
-    let is_write = |held: &Held| matches!(held, Held::Write { .. });
-    if before.buffers[thread].iter().any(is_own) {
-        "its own buffer".to_string()
-    } else if before.queues[at as usize].iter().any(is_write) {
-        format!("{}'s queue", case.names[at as usize])
-    } else {
-        "memory".to_string()
+/// Where a load finds its word, and the word there: the newest store in the own buffer, else the newest write in the queue, else memory.
+fn source(case: &Case, thread: usize, at: u8, before: &State) -> (u32, String) {
+    let own = before.buffers[thread]
+        .iter()
+        .rev()
+        .find_map(|entry| match entry {
+            Entry::Store { at: other, word } if *other == at => Some(*word),
+            _ => None,
+        });
+    let written = before.queues[at as usize]
+        .iter()
+        .rev()
+        .find_map(|held| match held {
+            Held::Write { word } => Some(*word),
+            Held::Marker { .. } => None,
+        });
+    match (own, written) {
+        (Some(word), _) => (word, "its own buffer".to_string()),
+        (None, Some(word)) => (word, format!("{}'s queue", case.names[at as usize])),
+        (None, None) => (before.words[at as usize], "memory".to_string()),
     }
 }
 

@@ -56,20 +56,21 @@ fn is_control(c: char) -> bool {
 
 fn line_of(number: usize, text: &str) -> Line<'_> {
     let text = &text[..text.find('#').unwrap_or(text.len())];
-    let mut words = Vec::new();
-    let mut rest = text;
-    while let Some(start) = rest.find(|c| !is_blank(c)) {
-        let from = text.len() - rest.len() + start;
-        let length = text[from..].find(is_blank).unwrap_or(text.len() - from);
-        words.push(Word {
-            text: &text[from..from + length],
-            column: text[..from].chars().count() + 1,
-        });
-        rest = &text[from + length..];
+    let (mut words, mut end, mut start) = (Vec::new(), 1, None);
+    // a blank behind the last character ends the last word
+    for (column, (at, c)) in (1..).zip(text.char_indices().chain([(text.len(), ' ')])) {
+        match (start, is_blank(c)) {
+            (None, false) => start = Some((at, column)),
+            (Some((from, column_from)), true) => {
+                words.push(Word {
+                    text: &text[from..at],
+                    column: column_from,
+                });
+                (start, end) = (None, column);
+            }
+            _ => {}
+        }
     }
-    let end = words
-        .last()
-        .map_or(1, |word: &Word| word.column + word.text.chars().count());
     Line { number, words, end }
 }
 

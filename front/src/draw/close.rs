@@ -1,6 +1,6 @@
 //! The end of the picture: the power cut with what it leaves and what is lost, or the step that is not possible.
 
-use super::ink::{wrap, Ink};
+use super::ink::{wrap, Ink, CHIP_OVER};
 use super::lines::look;
 use super::plan::{Plan, MARGIN};
 use super::words;
@@ -69,7 +69,7 @@ fn lost(ink: &mut Ink, plan: &Plan, top: i32) -> i32 {
         return top;
     }
     ink.text(MARGIN, top + 20, "bad strong", "lost");
-    ink.text(MARGIN, top + 34, "deed", "never persisted");
+    ink.text(MARGIN, top + 34, "deed", "was waiting");
     for (index, entries) in waiting.iter().enumerate() {
         lost_column(ink, plan, index, entries, top + 23);
     }
@@ -99,9 +99,9 @@ fn lost_column(ink: &mut Ink, plan: &Plan, index: usize, entries: &[usize], top:
     if entries.len() > LOST_MOST {
         let more = format!("and {} more", entries.len() - LOST_MOST);
         ink.text(
-            column.left + 4,
+            column.lane + CHIP_OVER,
             top + LOST_ROW * LOST_MOST as i32 + 4,
-            "bad",
+            "bad tail",
             &more,
         );
     }

@@ -52,7 +52,7 @@ const LOCATION: &str = "
 const SHAPES: &str = "
 .run text{font:12px system-ui,-apple-system,'Segoe UI',Roboto,'Noto Sans',sans-serif}
 .run .mono{font-family:ui-monospace,SFMono-Regular,Menlo,Consolas,'DejaVu Sans Mono','Liberation Mono',monospace}
-.run .mid{text-anchor:middle}.run .strong,.run .step{font-weight:700;font-size:13px}
+.run .mid{text-anchor:middle}.run .tail{text-anchor:end}.run .strong,.run .step{font-weight:700;font-size:13px}
 .run .soft,.run .deed,.run .small{font-size:11px}.run .sub{font-size:10px}.run .chip text{font-size:11.5px;font-weight:600}
 .run .verdict{font-size:16px;font-weight:650}.run .badgewords{font-size:13px;font-weight:700;letter-spacing:.5px}
 .run .cutwords,.run .stopwords{font-size:15px;font-weight:700}

@@ -63,12 +63,12 @@ pub fn answer(story: &Story) -> String {
 
 /// What the answer means, in a sentence.
 pub fn verdict(story: &Story) -> String {
-    let asked = report::asked(&story.case, " ");
+    let deed = report::deed(&story.case, " ");
     match story.answer {
-        Answer::Reached => format!("A power cut can leave {asked}."),
-        Answer::Unreachable => format!("No power cut can leave {asked}."),
+        Answer::Reached => format!("A power cut can {deed}."),
+        Answer::Unreachable => format!("No power cut can {deed}."),
         Answer::Undecided => format!(
-            "Can a power cut leave {asked}? Not decided within {} runs.",
+            "Can a power cut {deed}? Not decided within {} runs.",
             story.budget.unwrap_or(0)
         ),
         Answer::Legal => format!(
