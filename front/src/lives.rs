@@ -116,8 +116,31 @@ pub fn queue(lives: &[Life], at: usize, steps: usize) -> Vec<usize> {
     found
 }
 
+/// Whether each step finds what it takes in the state before it.
+fn has_steps(story: &Story) -> bool {
+    let pairs = story.run.iter().zip(story.states.iter());
+    let legal = story.states.len().saturating_sub(1);
+    pairs.take(legal).all(|(step, before)| match *step {
+        Step::Issue { thread } => {
+            let code = story.case.threads.get(thread as usize);
+            code.is_some_and(|code| before.issued[thread as usize] < code.len())
+        }
+        Step::Move { thread, position } => {
+            let buffer = before.buffers.get(thread as usize);
+            buffer.is_some_and(|buffer| (position as usize) < buffer.len())
+        }
+        Step::Persist { at } => {
+            let queue = before.queues.get(at as usize);
+            queue.is_some_and(|queue| !queue.is_empty())
+        }
+    })
+}
+
 /// Whether the lives are what the judge's states say, at each step: what waits in which buffer and queue, and the words in memory.
 pub fn agree(story: &Story) -> bool {
+    if !has_steps(story) {
+        return false;
+    }
     let lives = lives(story);
     let states = story.states.iter().enumerate();
     states.into_iter().all(|(steps, state)| {
@@ -169,7 +192,10 @@ impl Ledger {
     fn issue(&mut self, story: &Story, index: usize, thread: u8) {
         let own = thread as usize;
         let instruction = story.states[index].issued[own];
-        let kind = match story.case.threads[own][instruction] {
+        let Some(&one) = story.case.threads[own].get(instruction) else {
+            return;
+        };
+        let kind = match one {
             Instruction::Store { at, word } => Kind::Store { at, word },
             // the judge's state has the word that the register held
             Instruction::StoreRegister { at, .. } => {
@@ -202,7 +228,11 @@ impl Ledger {
     }
 
     fn move_out(&mut self, index: usize, thread: u8, position: u8) {
-        let one = self.buffers[thread as usize].remove(position as usize);
+        let buffer = &mut self.buffers[thread as usize];
+        if position as usize >= buffer.len() {
+            return;
+        }
+        let one = buffer.remove(position as usize);
         self.lives[one].moved = Some(index);
         if let Some(at) = self.lives[one].kind.queue() {
             self.queues[at as usize].push(one);
@@ -210,8 +240,10 @@ impl Ledger {
     }
 
     fn persist(&mut self, index: usize, at: u8) {
-        let one = self.queues[at as usize].remove(0);
-        self.lives[one].persisted = Some(index);
+        let queue = &mut self.queues[at as usize];
+        if !queue.is_empty() {
+            self.lives[queue.remove(0)].persisted = Some(index);
+        }
     }
 }
 

@@ -79,14 +79,14 @@ impl fmt::Display for What {
             What::AgainOf(word, of, line) => {
                 write!(out, "'{word} {of}' is there already, on line {line}")
             }
-            _ => self.limit(out),
+            _ => self.order(out),
         }
     }
 }
 
 impl What {
-    /// The messages about order and size.
-    fn limit(&self, out: &mut fmt::Formatter) -> fmt::Result {
+    /// The messages about what is missing or out of place.
+    fn order(&self, out: &mut fmt::Formatter) -> fmt::Result {
         match self {
             What::NoLocations => write!(out, "expected 'locations' and their names first"),
             What::NoThread => write!(
@@ -96,20 +96,22 @@ impl What {
             What::NextThread(next) => {
                 write!(out, "expected 'thread {next}': threads come in order")
             }
-            What::NoSuchThread(thread, last) => {
-                write!(
-                    out,
-                    "there is no thread {thread}: the last is thread {last}"
-                )
+            What::NoSuchThread(name, last) => {
+                write!(out, "there is no thread {name}: the last is thread {last}")
             }
-            What::NoSuchNumber(location, last) => {
-                write!(
-                    out,
-                    "there is no location {location}: the last is number {last}"
-                )
-            }
+            What::NoSuchNumber(name, last) => write!(
+                out,
+                "there is no location {name}: the last is number {last}"
+            ),
             What::Outside("run") => write!(out, "expected 'run' before a step"),
             What::Outside(_) => write!(out, "expected 'thread' before an instruction"),
+            _ => self.limit(out),
+        }
+    }
+
+    /// The messages about size.
+    fn limit(&self, out: &mut fmt::Formatter) -> fmt::Result {
+        match self {
             What::MostLocations => {
                 write!(out, "one location too many: {} at most", sizes::LOCATIONS)
             }
