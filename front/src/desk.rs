@@ -85,22 +85,18 @@ fn contents(from: &File) -> Result<Vec<u8>, Trouble> {
     }
 }
 
+/// What is done with each answer as it comes, by the place of its case.
+type Each<'a> = dyn FnMut(usize, Outcome) -> Result<(), Trouble> + 'a;
+
 /// Asks the question of each, in one stream, and hands on each answer as it comes.
 pub fn ask(
     programs: &Programs,
     given: &[&Given],
     budget: u32,
-    each: &mut dyn FnMut(usize, Outcome) -> Result<(), Trouble>,
+    each: &mut Each,
 ) -> Result<(), Trouble> {
-    let input = given
-        .iter()
-        .flat_map(|one| frames::question(&one.bytes, budget))
-        .collect();
-    let labels: Vec<String> = given
-        .iter()
-        .map(|one| format!("asking {}", one.file))
-        .collect();
-    batch(programs, input, &labels, &mut |i, line| {
+    let frame = |one: &Given| frames::question(&one.bytes, budget);
+    stream(programs, given, "asking", &frame, &mut |i, line| {
         let outcome = match frames::asked(line)? {
             Asked::Reached(run) => Outcome::Answer(Answer::Reached, run),
             Asked::Unreachable => Outcome::Answer(Answer::Unreachable, Vec::new()),
@@ -112,29 +108,32 @@ pub fn ask(
 }
 
 /// Has the run of each judged, likewise.
-pub fn judge(
-    programs: &Programs,
-    given: &[&Given],
-    each: &mut dyn FnMut(usize, Outcome) -> Result<(), Trouble>,
-) -> Result<(), Trouble> {
-    let input = given
-        .iter()
-        .flat_map(|one| frames::judge(&one.bytes))
-        .collect();
-    let labels: Vec<String> = given
-        .iter()
-        .map(|one| format!("judging {}", one.file))
-        .collect();
-    batch(programs, input, &labels, &mut |i, line| {
+pub fn judge(programs: &Programs, given: &[&Given], each: &mut Each) -> Result<(), Trouble> {
+    let frame = |one: &Given| frames::judge(&one.bytes);
+    stream(programs, given, "judging", &frame, &mut |i, line| {
+        let run = || given[i].case().run;
         let outcome = match frames::judged(line)?.verdict {
-            Verdict::Legal(_) => Outcome::Answer(Answer::Legal, given[i].case().run),
+            Verdict::Legal(_) => Outcome::Answer(Answer::Legal, run()),
             Verdict::Illegal { index, rule } => {
-                Outcome::Answer(Answer::Illegal { index, rule }, given[i].case().run)
+                Outcome::Answer(Answer::Illegal { index, rule }, run())
             }
             Verdict::Refused { number, offset } => Outcome::Refused { number, offset },
         };
         each(i, outcome)
     })
+}
+
+/// One frame for each case; `doing` is said of it where it takes long.
+fn stream(
+    programs: &Programs,
+    given: &[&Given],
+    doing: &str,
+    frame: &dyn Fn(&Given) -> Vec<u8>,
+    each: &mut dyn FnMut(usize, &str) -> Result<(), Trouble>,
+) -> Result<(), Trouble> {
+    let input = given.iter().flat_map(|one| frame(one)).collect();
+    let labels = given.iter().map(|one| format!("{doing} {}", one.file));
+    batch(programs, input, &labels.collect::<Vec<String>>(), each)
 }
 
 /// One answer for each frame, or the program gave none.
