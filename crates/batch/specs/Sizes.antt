@@ -5,7 +5,7 @@
 -- Assumes nothing.
 use Prim.Native.Nat.{ℕ, _+_, _*_}
 use Rattle.cases.specs.Sizes.{mostThreads, mostLocations, mostCode}
-use Rattle.machine.specs.Sizes.{mostSlots, mostPlaces}
+use Rattle.machine.specs.Sizes.{mostSlots, allRegisters}
 
 abbrev pub mostInput : ℕ
 mostInput = 65536
@@ -16,4 +16,4 @@ mostRoom = 2048
 abbrev pub stateBytes : ℕ
 stateBytes =
     4 * mostLocations + 4 * mostSlots + mostSlots + mostLocations + 6 * mostCode
-    + mostThreads + 4 * mostPlaces + mostThreads
+    + mostThreads + 4 * allRegisters + mostThreads

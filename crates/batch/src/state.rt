@@ -9,7 +9,7 @@ use cases::sizes::THREADS;
 use machine::cells::Entry;
 use machine::cells::State;
 use machine::cells::Waiting;
-use machine::sizes::PLACES;
+use machine::sizes::ALL_REGISTERS;
 use machine::sizes::SLOTS;
 ghost use Prim.Native.Nat.{_+_, _≤_};
 ghost use Rattle.batch.specs.Sizes.{stateBytes};
@@ -27,7 +27,7 @@ const WAITING: usize = BUFFERS + 6 * CODE;
 
 const REGISTERS_AT: usize = WAITING + THREADS;
 
-const ISSUED: usize = REGISTERS_AT + 4 * PLACES;
+const ISSUED: usize = REGISTERS_AT + 4 * ALL_REGISTERS;
 
 // A state's bytes are the first of as many as `print` takes.
 pub const STATE_BYTES: usize = ISSUED + THREADS;
@@ -126,7 +126,7 @@ fn read_buffers(s: State, raw: &[u8; ROOM]) -> State {
 fn read_registers(s: State, raw: &[u8; ROOM]) -> State {
     let mut u = s;
     let mut i = 0;
-    while i < PLACES {
+    while i < ALL_REGISTERS {
         u.registers[i] = word_at(raw, REGISTERS_AT + 4 * i);
         i += 1;
     }
@@ -187,7 +187,7 @@ fn put_buffers(raw: &mut [u8; ROOM], s: State) {
 fn put_registers(raw: &mut [u8; ROOM], s: State) {
     let u = s;
     let mut i = 0;
-    while i < PLACES {
+    while i < ALL_REGISTERS {
         put_word(raw, REGISTERS_AT + 4 * i, u.registers[i]);
         i += 1;
     }

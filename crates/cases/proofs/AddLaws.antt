@@ -14,13 +14,13 @@ use Rattle.cases.specs.declared.record.Record.{Record}
 use Rattle.cases.specs.declared.record.Record.the-variants.{Declare, First, Instruct, Want, Passed, Take}
 use Rattle.cases.specs.Checks.{disordered, faultOf, passedOut, stepOut, stepLeft}
 use Rattle.cases.specs.Draft.{addOf, withAsk, withRun, withWant, withPassed, withStep}
-use Rattle.cases.specs.Places.{fromWants, fromPassed, fromSteps, wantPlace, passedPlace}
+use Rattle.cases.specs.Seats.{fromWants, fromPassed, fromSteps, wantSeat, passedSeat}
 use Rattle.cases.proofs.ChoiceLaws.{refuse-none}
-use Rattle.cases.proofs.PlaceLaws.{place-want, place-passed, place-step, place-same}
+use Rattle.cases.proofs.SeatLaws.{seat-want, seat-passed, seat-step, seat-same}
 use Rattle.cases.proofs.WithLaws.{want-same, want-other, passed-same, passed-other, step-same}
 use Rattle.cases.proofs.WithLaws.{step-other}
 use Rattle.cases.proofs.FitLaws.{RecordFits, Grown}
-use Rattle.cases.proofs.DraftLaws.{in-turn, want-placed, passed-placed, step-placed, ordered}
+use Rattle.cases.proofs.DraftLaws.{in-turn, want-seated, passed-seated, step-seated, ordered}
 use Rattle.cases.proofs.SoundLaws.{ProgramSized, Sound, Added, added}
 use Rattle.cases.proofs.AddProgramLaws.{declared-once, add-first, add-instruction}
 
@@ -38,20 +38,20 @@ module _ (d : Draft) (front : ℕ) (s : Sound d front) where
 
   -- the want of a location
   pub add-want : (w : Write) → faultOf d (Want w) ≡ 0 → Added d (Want w)
-  unfolding faultOf addOf withAsk withWant passedPlace RecordFits
+  unfolding faultOf addOf withAsk withWant passedSeat RecordFits
   add-want w h =
       let in-range = refuse-none (leb (program .locations) (w .location .0)) 4 _ (refuse-none _ 3 _ h .1) in
       let in-order = refuse-none (disordered d 4 (w .location .0)) 5 _ (in-range .1) in
       let ask = s .sized .of-ask in
-      let low = want-placed d (sized .few-threads) (sized .few-locations) w h in
+      let low = want-seated d (sized .few-threads) (sized .few-locations) w h in
       added d front s (Want w) (fromWants + w .location .0)
       (record {
         reached = s .fronts .to-wants (in-turn d (Want w) h) (w .location .0) (ordered d 4 _ (in-order .0));
         inside = omega arith;
         here =
-            place-want _ _ (w .location .0) refl low
+            seat-want _ _ (w .location .0) refl low
             ∙ want-same (d .case .ask) w (omega (arith, ask .wanted-long)) (omega (arith, ask .want-long));
-        other = λ j n. place-same (addOf d (Want w) .case) (d .case) j (λ z. refl) (λ l z. refl) (λ m z. refl)
+        other = λ j n. seat-same (addOf d (Want w) .case) (d .case) j (λ z. refl) (λ l z. refl) (λ m z. refl)
             (λ l z. want-other (d .case .ask) w l (λ q. n (omega arith))) (λ t z. refl) (λ i z. refl);
         grown = kept program;
         fit = in-range .0;
@@ -76,21 +76,21 @@ module _ (d : Draft) (front : ℕ) (s : Sound d front) where
 
   -- the passed count of a thread
   pub add-passed : (t : Thread) (n : ℕ) → faultOf d (Passed t n) ≡ 0 → Added d (Passed t n)
-  unfolding faultOf addOf withAsk withPassed wantPlace RecordFits
+  unfolding faultOf addOf withAsk withPassed wantSeat RecordFits
   add-passed t n h =
       let in-range = refuse-none (passedOut program t n) 4 _ (refuse-none _ 3 _ h .1) in
       let clean = refuse-none (eqb n 0) 7 _ (in-range .1) in
       let in-order = refuse-none (disordered d 5 (t .0)) 5 _ (clean .1) in
       let ask = s .sized .of-ask in
-      let low = passed-placed d (sized .few-threads) (sized .few-locations) t n h in
+      let low = passed-seated d (sized .few-threads) (sized .few-locations) t n h in
       added d front s (Passed t n) (fromPassed + t .0)
       (record {
         reached = s .fronts .to-passed (in-turn d (Passed t n) h) (t .0) (ordered d 5 _ (in-order .0));
         inside = omega arith;
         here =
-            place-passed _ _ (t .0) refl low
+            seat-passed _ _ (t .0) refl low
             ∙ passed-same (d .case .ask) t n (omega (arith, ask .passed-long)) (clean .0);
-        other = λ j m. place-same (addOf d (Passed t n) .case) (d .case) j (λ z. refl) (λ l z. refl)
+        other = λ j m. seat-same (addOf d (Passed t n) .case) (d .case) j (λ z. refl) (λ l z. refl)
             (λ i z. refl) (λ l z. refl)
             (λ u z. passed-other (d .case .ask) t n u (λ q. m (omega arith))) (λ i z. refl);
         grown = kept program;
@@ -121,15 +121,15 @@ module _ (d : Draft) (front : ℕ) (s : Sound d front) where
       let in-range = refuse-none (stepOut program k) 4 _ (refuse-none _ 3 _ h .1) in
       let clean = refuse-none (stepLeft k) 7 _ (in-range .1) in
       let run = s .sized .of-run in
-      let low = step-placed d k h in
+      let low = step-seated d k h in
       added d front s (Take k) (fromSteps + d .case .run .count)
       (record {
         reached = s .fronts .to-steps;
         inside = omega arith;
         here =
-            place-step _ _ (d .case .run .count) refl
+            seat-step _ _ (d .case .run .count) refl
             ∙ step-same (d .case .run) k (omega (arith, run .steps-long));
-        other = λ j n. place-same (addOf d (Take k) .case) (d .case) j (λ z. refl) (λ l z. refl) (λ m z. refl)
+        other = λ j n. seat-same (addOf d (Take k) .case) (d .case) j (λ z. refl) (λ l z. refl) (λ m z. refl)
             (λ l z. refl) (λ t z. refl) (λ i z. step-other (d .case .run) k i (λ q. n (omega arith)));
         grown = kept program;
         fit = (in-range .0, clean .0);

@@ -13,15 +13,15 @@ use Rattle.cases.specs.declared.draft.Draft.{Draft}
 use Rattle.cases.specs.declared.record.Header.{Header}
 use Rattle.cases.specs.declared.record.Record.the-variants.{Declare, First, Instruct}
 use Rattle.cases.specs.Sizes.{mostInstructions}
-use Rattle.cases.specs.Checks.{misplaced, disordered, countOf, faultOf, instructionOut, instructionLeft}
+use Rattle.cases.specs.Checks.{misplaced, disordered, countAt, faultOf, instructionOut, instructionLeft}
 use Rattle.cases.specs.Draft.{addOf, withProgram, withFirst, withInstruction}
-use Rattle.cases.specs.Places.{fromFirsts, fromCode, headerPlace, firstPlace, instructionPlace}
+use Rattle.cases.specs.Seats.{fromFirsts, fromCode, headerSeat, firstSeat, instructionSeat}
 use Rattle.cases.proofs.ChoiceLaws.{refuse-none}
-use Rattle.cases.proofs.PlaceLaws.{place-first, place-code, place-same}
+use Rattle.cases.proofs.SeatLaws.{seat-first, seat-code, seat-same}
 use Rattle.cases.proofs.WithLaws.{first-same, first-other, instruction-same, instruction-other}
 use Rattle.cases.proofs.CountLaws.{count-more, count-few, count-front}
 use Rattle.cases.proofs.FitLaws.{RecordFits}
-use Rattle.cases.proofs.DraftLaws.{placed-kind, in-turn, first-placed, instruction-placed, ordered}
+use Rattle.cases.proofs.DraftLaws.{seated-kind, in-turn, first-seated, instruction-seated, ordered}
 use Rattle.cases.proofs.SoundLaws.{ProgramSized, Sound, Added, added}
 
 -- A faultless record behind a sound draft: that it is added as `Added` says
@@ -34,20 +34,20 @@ module _ (d : Draft) (front : ℕ) (s : Sound d front) where
 
   -- the first content of a location
   pub add-first : (w : Write) → faultOf d (First w) ≡ 0 → Added d (First w)
-  unfolding faultOf addOf withProgram withFirst headerPlace instructionPlace RecordFits
+  unfolding faultOf addOf withProgram withFirst headerSeat instructionSeat RecordFits
   add-first w h =
       let in-range = refuse-none (leb (program .locations) (w .location .0)) 4 _ (refuse-none _ 3 _ h .1) in
       let clean = refuse-none (eqb (w .word) 0) 7 _ (in-range .1) in
       let in-order = refuse-none (disordered d 2 (w .location .0)) 5 _ (clean .1) in
-      let low = first-placed d (sized .few-threads) (sized .few-locations) w h in
+      let low = first-seated d (sized .few-threads) (sized .few-locations) w h in
       added d front s (First w) (fromFirsts + w .location .0)
       (record {
         reached = s .fronts .to-firsts (in-turn d (First w) h) (w .location .0) (ordered d 2 _ (in-order .0));
         inside = omega arith;
         here =
-            place-first _ _ (w .location .0) refl low
+            seat-first _ _ (w .location .0) refl low
             ∙ first-same program w (omega (arith, sized .first-long)) (clean .0);
-        other = λ j n. place-same (addOf d (First w) .case) (d .case) j (λ z. refl)
+        other = λ j n. seat-same (addOf d (First w) .case) (d .case) j (λ z. refl)
             (λ l z. first-other program w l (λ q. n (omega arith)))
             (λ m z. refl) (λ l z. refl) (λ t z. refl) (λ i z. refl);
         grown = record { same-threads = refl; same-locations = refl; more = λ t. omega arith };
@@ -78,22 +78,22 @@ module _ (d : Draft) (front : ℕ) (s : Sound d front) where
 
   -- an instruction, behind its thread's
   pub add-instruction : (t : Thread) (x : Instruction) → faultOf d (Instruct t x) ≡ 0 → Added d (Instruct t x)
-  unfolding faultOf addOf withProgram withInstruction headerPlace firstPlace RecordFits
+  unfolding faultOf addOf withProgram withInstruction headerSeat firstSeat RecordFits
   add-instruction t x h =
       let in-range = refuse-none (instructionOut program t x) 4 _ (refuse-none _ 3 _ h .1) in
       let clean = refuse-none (instructionLeft x) 7 _ (in-range .1) in
       let in-order = refuse-none (disordered d 3 (t .0)) 5 _ (clean .1) in
-      let placed = instruction-placed d (sized .few-threads) (sized .few-locations) t x h in
-      let low : t .0 < length (program .counts) = omega (arith, placed .0, sized .counts-long) in
-      let few : countOf program t < mostInstructions = placed .1 in
-      added d front s (Instruct t x) (fromCode + (t .0 * mostInstructions + countOf program t))
+      let seated = instruction-seated d (sized .few-threads) (sized .few-locations) t x h in
+      let low : t .0 < length (program .counts) = omega (arith, seated .0, sized .counts-long) in
+      let few : countAt program (t .0) < mostInstructions = seated .1 in
+      added d front s (Instruct t x) (fromCode + (t .0 * mostInstructions + countAt program (t .0)))
       (record {
         reached = s .fronts .to-code (in-turn d (Instruct t x) h) (t .0) (ordered d 3 _ (in-order .0));
-        inside = omega (arith, placed .0);
+        inside = omega (arith, seated .0);
         here =
-            place-code _ _ (t .0 * mostInstructions + countOf program t) refl (omega (arith, placed .0))
-            ∙ instruction-same program t x low (omega (arith, placed .0, sized .code-long)) few;
-        other = λ j n. place-same (addOf d (Instruct t x) .case) (d .case) j (λ z. refl) (λ l z. refl)
+            seat-code _ _ (t .0 * mostInstructions + countAt program (t .0)) refl (omega (arith, seated .0))
+            ∙ instruction-same program t x low (omega (arith, seated .0, sized .code-long)) few;
+        other = λ j n. seat-same (addOf d (Instruct t x) .case) (d .case) j (λ z. refl) (λ l z. refl)
             (λ m z. instruction-other program t x m low (λ q. n (omega arith)))
             (λ l z. refl) (λ u z. refl) (λ i z. refl);
         grown = record { same-threads = refl; same-locations = refl; more = count-more program t low };
@@ -116,9 +116,9 @@ module _ (d : Draft) (front : ℕ) (s : Sound d front) where
           begun = omega arith;
           to-firsts = λ q n z. absurd (omega arith);
           to-code = λ q u z. count-front program t low few u (z refl);
-          to-wants = λ q n z. omega (arith, placed .0);
-          to-passed = λ q n z. omega (arith, placed .0);
-          to-steps = omega (arith, placed .0);
+          to-wants = λ q n z. omega (arith, seated .0);
+          to-passed = λ q n z. omega (arith, seated .0);
+          to-steps = omega (arith, seated .0);
         };
       })
 
@@ -127,4 +127,4 @@ module _ (d : Draft) (front : ℕ) (s : Sound d front) where
   unfolding faultOf
   declared-once h f =
       let a = refuse-none (misplaced (d .kind) 1) 3 _ f in
-      placed-kind (d .kind) 1 (s .fronts .begun) (a .0) .1 refl
+      seated-kind (d .kind) 1 (s .fronts .begun) (a .0) .1 refl

@@ -10,21 +10,21 @@ use Rattle.cases.specs.declared.draft.Draft.{Draft}
 use Rattle.cases.specs.declared.record.Header.{Header}
 use Rattle.cases.specs.declared.record.Record.{Record}
 use Rattle.cases.specs.declared.record.Record.the-variants.{Declare, First, Instruct, Want, Passed, Take}
-use Rattle.cases.specs.declared.places.Place.{Place}
-use Rattle.cases.specs.declared.places.Place.the-variants.{Holds, Empty}
+use Rattle.cases.specs.declared.seats.Seat.{Seat}
+use Rattle.cases.specs.declared.seats.Seat.the-variants.{Holds, Empty}
 use Rattle.cases.specs.Sizes.{mostThreads, mostInstructions, mostLocations}
 use Rattle.cases.specs.Choice.{pick, refuse}
 use Rattle.cases.specs.Record.{recordBytes}
 use Rattle.cases.specs.Checks.{misplaced, headerOut, faultOf}
 use Rattle.cases.specs.Draft.{emptyCase, blankDraft, addOf, withProgram, withSizes}
-use Rattle.cases.specs.Places.{headerPlace, firstPlace, instructionPlace}
-use Rattle.cases.specs.Places.{wantPlace, passedPlace, stepPlace}
-use Rattle.cases.specs.Places.{places, placeOf, placeBytes, bytesAt, encodeOf}
+use Rattle.cases.specs.Seats.{headerSeat, firstSeat, instructionSeat}
+use Rattle.cases.specs.Seats.{wantSeat, passedSeat, stepSeat}
+use Rattle.cases.specs.Seats.{seats, seatOf, seatBytes, bytesAt, encodeOf}
 use Rattle.cases.proofs.ChoiceLaws.{either-false, refuse-none}
 use Rattle.cases.proofs.ArrayLaws.{getD-blank}
 use Rattle.cases.proofs.EachLaws.{each-more, each-none}
-use Rattle.cases.proofs.PlaceLaws.{place-cases, place-header}
-use Rattle.cases.proofs.FitLaws.{RecordFits, PlaceFits, outside-low}
+use Rattle.cases.proofs.SeatLaws.{seat-cases, seat-header}
+use Rattle.cases.proofs.FitLaws.{RecordFits, SeatFits, outside-low}
 use Rattle.cases.proofs.SoundLaws.{Sound}
 
 -- the first record is the program
@@ -43,18 +43,18 @@ module _ (h : Header) (fit : headerOut h ≡ false) where
   abbrev begun : Draft
   begun = addOf blankDraft (Declare h)
 
-  -- the program's record stands at its place, every other place is empty, and what stands there is in range
-  begun-here : placeOf (begun .case) 0 ≡ Holds (Declare h)
-  unfolding addOf withProgram withSizes headerPlace headerOut
+  -- the program's record stands at its seat, every other seat is empty, and what stands there is in range
+  begun-here : seatOf (begun .case) 0 ≡ Holds (Declare h)
+  unfolding addOf withProgram withSizes headerSeat headerOut
   begun-here =
       let v : h .version ≡ 1 = eqb-true (h .version) 1 (not-false _ (either-false _ _ fit .0)) in
-      place-header (begun .case) 0 refl ∙ rw (← v)
+      seat-header (begun .case) 0 refl ∙ rw (← v)
 
-  begun-blank : (j : ℕ) → 1 ≤ j → placeOf (begun .case) j ≡ Empty
+  begun-blank : (j : ℕ) → 1 ≤ j → seatOf (begun .case) j ≡ Empty
   unfolding addOf withProgram withSizes blankDraft emptyCase
-      firstPlace instructionPlace wantPlace passedPlace stepPlace pick
+      firstSeat instructionSeat wantSeat passedSeat stepSeat pick
   begun-blank j low =
-      place-cases (λ (x : Place). x ≡ Empty) (begun .case) j
+      seat-cases (λ (x : Seat). x ≡ Empty) (begun .case) j
       (λ e. absurd (omega arith))
       (λ l e m. rw (getD-blank {A = ℕ} mostLocations l 0))
       (λ m e n. rw (getD-blank {A = ℕ} mostThreads (m / mostInstructions) 0, leb·zero (m % mostInstructions)))
@@ -62,20 +62,20 @@ module _ (h : Header) (fit : headerOut h ≡ false) where
       (λ t e m. rw (getD-blank {A = ℕ} mostThreads t 0))
       (λ k e. rw (leb·zero k))
 
-  begun-fits : (j : ℕ) → PlaceFits (begun .case .program) (placeOf (begun .case) j)
-  unfolding PlaceFits RecordFits
+  begun-fits : (j : ℕ) → SeatFits (begun .case .program) (seatOf (begun .case) j)
+  unfolding SeatFits RecordFits
   begun-fits zero = rw begun-here fit
   begun-fits (suc j) = rw (begun-blank (suc j) (omega arith)) tt
 
   -- the file is the program's record
   pub begun-longer : encodeOf (begun .case) ≡ recordBytes (Declare h)
-  unfolding encodeOf bytesAt placeBytes
+  unfolding encodeOf bytesAt seatBytes
   begun-longer =
-      each-more places 0 (bytesAt (begun .case)) (λ k. []) (omega arith)
-      (λ k n. ap placeBytes (begun-blank k (omega arith))) (λ k n. refl)
-      ∙ rw (each-none places (λ (k : ℕ). []) (λ k. refl), begun-here)
+      each-more seats 0 (bytesAt (begun .case)) (λ k. []) (omega arith)
+      (λ k n. ap seatBytes (begun-blank k (omega arith))) (λ k n. refl)
+      ∙ rw (each-none seats (λ (k : ℕ). []) (λ k. refl), begun-here)
 
-  -- the draft is sound, and the next record comes behind place 0
+  -- the draft is sound, and the next record comes behind seat 0
   pub begun-sound : Sound begun 1
   unfolding addOf withProgram withSizes blankDraft emptyCase headerOut
   begun-sound =

@@ -12,7 +12,7 @@ use native.Mathlib.Omega.{arith}
 use Rattle.cases.specs.Choice.{pick}
 use Rattle.cases.specs.Bytes.{half, wordAt, halfBytes, wordBytes, IsBytes}
 use Rattle.cases.specs.Record.{payloadOf, payloadBytes, recordBytes, recordOf, openNo, sizeOf}
-use Rattle.cases.specs.Record.{headerIn, writeIn, instructionIn, stepIn}
+use Rattle.cases.specs.Record.{asHeader, asWrite, asInstruction, asStep}
 use Rattle.cases.proofs.ChoiceLaws.{refuse-none}
 
 -- what is left of bytes is bytes; so are the first of them, and two lists of bytes joined
@@ -154,7 +154,7 @@ record-back : (t : List ℕ) (k : ℕ) → IsBytes t
     → half t 0 ≡ payloadOf k
     → 4 + payloadOf k ≤ length t
     → recordBytes (recordOf k t) ≡ take (4 + payloadOf k) t
-unfolding recordBytes payloadBytes recordOf headerIn writeIn instructionIn stepIn payloadOf pick halfBytes
+unfolding recordBytes payloadBytes recordOf asHeader asWrite asInstruction asStep payloadOf pick halfBytes
 record-back t k b known =
     kind-cases (λ (k : ℕ). half t 2 ≡ k → half t 0 ≡ payloadOf k → 4 + payloadOf k ≤ length t
     → recordBytes (recordOf k t) ≡ take (4 + payloadOf k) t)

@@ -12,18 +12,18 @@ use Rattle.cases.specs.declared.case.Write.{Write}
 use Rattle.cases.specs.declared.draft.Draft.{Draft}
 use Rattle.cases.specs.declared.record.Record.{Record}
 use Rattle.cases.specs.declared.record.Record.the-variants.{Declare, First, Instruct, Want, Passed, Take}
-use Rattle.cases.specs.declared.places.Place.{Place}
-use Rattle.cases.specs.declared.places.Place.the-variants.{Holds, Empty}
+use Rattle.cases.specs.declared.seats.Seat.{Seat}
+use Rattle.cases.specs.declared.seats.Seat.the-variants.{Holds, Empty}
 use Rattle.cases.specs.Sizes.{mostThreads, mostLocations}
 use Rattle.cases.specs.Choice.{pick}
 use Rattle.cases.specs.Bytes.{halfBytes, wordBytes, IsBytes}
 use Rattle.cases.specs.Record.{payloadOf, payloadBytes, recordBytes}
-use Rattle.cases.specs.Checks.{outside, countOf}
+use Rattle.cases.specs.Checks.{outside, countAt}
 use Rattle.cases.specs.Checks.{headerOut, passedOut}
-use Rattle.cases.specs.Places.{places}
-use Rattle.cases.specs.Places.{placeBytes, bytesAt, each, encodeOf}
+use Rattle.cases.specs.Seats.{seats}
+use Rattle.cases.specs.Seats.{seatBytes, bytesAt, each, encodeOf}
 use Rattle.cases.proofs.ChoiceLaws.{either-false}
-use Rattle.cases.proofs.FitLaws.{RecordFits, PlaceFits, outside-low}
+use Rattle.cases.proofs.FitLaws.{RecordFits, SeatFits, outside-low}
 use Rattle.cases.proofs.SoundLaws.{ProgramSized, Sound}
 use Rattle.cases.proofs.FitLaws.{instruction-fits, step-low}
 
@@ -89,7 +89,7 @@ record-are p s (Passed t n) f =
     let e = either-false (leb (p .threads) (t .0)) _ f in
     joined (joined (half-are 2) (half-are 5))
     (byte (t .0) (omega (arith, leb-false (p .threads) (t .0) (e .0), s .few-threads))
-    (byte n (omega (arith, ltb-false (countOf p t) n (e .1), s .few-instructions (t .0))) none))
+    (byte n (omega (arith, ltb-false (countAt p (t .0)) n (e .1), s .few-instructions (t .0))) none))
 record-are p s (Take k) f =
     let i = step-low p k (s .some-threads) (s .some-locations) (f .0) (f .1) in
     joined (joined (half-are 4) (half-are 6))
@@ -98,14 +98,14 @@ record-are p s (Take k) f =
     (byte (k .position) (omega (arith, i .2))
     (byte (k .location .0) (omega (arith, i .3, s .few-locations)) none))))
 
-place-are : (p : Program) → ProgramSized p → (x : Place) → PlaceFits p x → Bytewise (placeBytes x)
-unfolding PlaceFits placeBytes
-place-are p s (Holds r) f = record-are p s r f
-place-are p s Empty f = none
+seat-are : (p : Program) → ProgramSized p → (x : Seat) → SeatFits p x → Bytewise (seatBytes x)
+unfolding SeatFits seatBytes
+seat-are p s (Holds r) f = record-are p s r f
+seat-are p s Empty f = none
 
 -- a sound draft's file is made of bytes
 pub sound-bytes : (d : Draft) (front : ℕ) → Sound d front → IsBytes (encodeOf (d .case))
 unfolding encodeOf bytesAt
 sound-bytes d front s =
-    bytewise-is (bytes-each places (bytesAt (d .case))
-    (λ k. place-are _ (s .sized .of-program) _ (s .ranged k)))
+    bytewise-is (bytes-each seats (bytesAt (d .case))
+    (λ k. seat-are _ (s .sized .of-program) _ (s .ranged k)))

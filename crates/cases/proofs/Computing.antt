@@ -3,22 +3,22 @@
 use Prim.Native.Nat.{ℕ}
 use Rattle.cases.specs.Choice.{pick, both, either, refuse}
 use Rattle.cases.specs.Bytes.{half, wordAt, halfBytes, wordBytes}
-use Rattle.cases.specs.Record.{payloadOf, payloadBytes, recordBytes, headerIn, writeIn, instructionIn}
-use Rattle.cases.specs.Record.{stepIn, recordOf, openNo, sizeOf}
+use Rattle.cases.specs.Record.{payloadOf, payloadBytes, recordBytes, asHeader, asWrite, asInstruction}
+use Rattle.cases.specs.Record.{asStep, recordOf, openNo, sizeOf}
 use Rattle.cases.specs.Checks.{misplaced, disordered, outside, beyond, leftOver, headerOut, usesRegister}
 use Rattle.cases.specs.Checks.{usesWord, instructionOut, instructionLeft, passedOut, stepOut, stepLeft}
 use Rattle.cases.specs.Checks.{faultOf}
 use Rattle.cases.specs.Draft.{emptyCase, withSizes, withFirst, withInstruction, withWant, withPassed}
 use Rattle.cases.specs.Draft.{withStep, withProgram, withAsk, withRun, blankDraft, addOf}
 use Rattle.cases.specs.Reading.{refusedOf, endedOf, readFrom, readOf}
-use Rattle.cases.specs.Places.{headerPlace, firstPlace, instructionPlace, wantPlace, passedPlace}
-use Rattle.cases.specs.Places.{stepPlace, placeOf, placeBytes, bytesAt, each, encodeOf}
+use Rattle.cases.specs.Seats.{headerSeat, firstSeat, instructionSeat, wantSeat, passedSeat}
+use Rattle.cases.specs.Seats.{stepSeat, seatOf, seatBytes, bytesAt, each, encodeOf}
 use Rattle.cases.specs.Writing.{sameList, sameInstruction, sameStep, sameProgram, sameAsk, sameRun}
 use Rattle.cases.specs.Writing.{sameCase, readsAs, readsBack}
 
 -- readOf, and what it takes to know a record's fault
 unfoldable pub reading-computes : ℕ
-unfolding pick both either refuse half wordAt payloadOf headerIn writeIn instructionIn stepIn recordOf openNo
+unfolding pick both either refuse half wordAt payloadOf asHeader asWrite asInstruction asStep recordOf openNo
     sizeOf misplaced disordered outside beyond leftOver headerOut usesRegister usesWord instructionOut
     instructionLeft passedOut stepOut stepLeft faultOf emptyCase withSizes withFirst withInstruction withWant
     withPassed withStep withProgram withAsk withRun blankDraft addOf refusedOf endedOf readFrom readOf
@@ -31,8 +31,8 @@ bytes-compute = 0
 
 -- encodeOf
 unfoldable pub writing-computes : ℕ
-unfolding bytes-compute headerPlace firstPlace instructionPlace wantPlace passedPlace stepPlace placeOf
-    placeBytes bytesAt each encodeOf
+unfolding bytes-compute headerSeat firstSeat instructionSeat wantSeat passedSeat stepSeat seatOf
+    seatBytes bytesAt each encodeOf
 writing-computes = 0
 
 -- readsBack

@@ -11,18 +11,18 @@ use native.Mathlib.Omega.{arith}
 use Rattle.cases.specs.declared.case.Program.{Program}
 use Rattle.cases.specs.declared.case.Thread.{Thread}
 use Rattle.cases.specs.Sizes.{mostInstructions}
-use Rattle.cases.specs.Checks.{countOf}
-use Rattle.cases.specs.Places.{fromCode}
+use Rattle.cases.specs.Checks.{countAt}
+use Rattle.cases.specs.Seats.{fromCode}
 
 -- The counts with one more for thread t: whose count it is, and what the counts stay below
 module _ (p : Program) (t : Thread) (low : t .0 < length (p .counts)) where
   abbrev pub counted : ℕ → ℕ
-  counted u = getD (set (p .counts) (t .0) (countOf p t + 1)) u 0
+  counted u = getD (set (p .counts) (t .0) (countAt p (t .0) + 1)) u 0
 
   -- thread u is t, with one more; or another, with as many
   abbrev CountedAs : ℕ → Type 0
   CountedAs u =
-      ((u ≡ t .0) × (counted u ≡ countOf p t + 1))
+      ((u ≡ t .0) × (counted u ≡ countAt p (t .0) + 1))
       ⊎ ((u ≢ t .0) × (counted u ≡ getD (p .counts) u 0))
 
   count-cases : (u : ℕ) → CountedAs u
@@ -31,10 +31,10 @@ module _ (p : Program) (t : Thread) (low : t .0 < length (p .counts)) where
       go : (b : Bool) → eqb u (t .0) ≡ b → CountedAs u
       go true e =
           let q = eqb-true u (t .0) e in
-          inl (q, rw q (getD-set-same (p .counts) (t .0) (countOf p t + 1) 0 low))
+          inl (q, rw q (getD-set-same (p .counts) (t .0) (countAt p (t .0) + 1) 0 low))
       go false e =
           let q = eqb-false u (t .0) e in
-          inr (q, getD-set-other (p .counts) (t .0) u (countOf p t + 1) 0 q)
+          inr (q, getD-set-other (p .counts) (t .0) u (countAt p (t .0) + 1) 0 q)
 
   pub count-more : (u : ℕ) → getD (p .counts) u 0 ≤ counted u
   count-more u = go (count-cases u)
@@ -43,7 +43,7 @@ module _ (p : Program) (t : Thread) (low : t .0 < length (p .counts)) where
       go (inl e) = omega (arith, ap (λ (n : ℕ). getD (p .counts) n 0) (e .0))
       go (inr e) = omega arith
 
-  pub count-few : countOf p t < mostInstructions
+  pub count-few : countAt p (t .0) < mostInstructions
       → ((u : ℕ) → getD (p .counts) u 0 ≤ mostInstructions)
       → (u : ℕ) → counted u ≤ mostInstructions
   count-few few all u = go (count-cases u)
@@ -52,12 +52,13 @@ module _ (p : Program) (t : Thread) (low : t .0 < length (p .counts)) where
       go (inl e) = omega arith
       go (inr e) = omega (arith, all u)
 
-  -- the next place of a thread that is not below t stands behind the place that t's next instruction takes
+  -- the next seat of a thread that is not below t stands behind the seat that t's next instruction takes
   abbrev pub Behind : ℕ → Type 0
   Behind u =
-      suc (fromCode + (t .0 * mostInstructions + countOf p t)) ≤ fromCode + (u * mostInstructions + counted u)
+      suc (fromCode + (t .0 * mostInstructions + countAt p (t .0)))
+      ≤ fromCode + (u * mostInstructions + counted u)
 
-  pub count-front : countOf p t < mostInstructions → (u : ℕ) → t .0 ≤ u → Behind u
+  pub count-front : countAt p (t .0) < mostInstructions → (u : ℕ) → t .0 ≤ u → Behind u
   count-front few u h = go (count-cases u)
     where
       go : CountedAs u → Behind u

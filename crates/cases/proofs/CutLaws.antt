@@ -24,9 +24,9 @@ use Rattle.cases.specs.Draft.{runWith, withRun, withStep, addOf}
 use Rattle.cases.specs.Reading.{numberOf, refusedOf, endedOf, readFrom}
 use Rattle.cases.proofs.ChoiceLaws.{pick-cases}
 use Rattle.cases.proofs.BytesLaws.{bytes-drop, bytes-take, bytes-join}
-use Rattle.cases.proofs.DraftLaws.{in-turn, step-behind, add-kind, add-run, step-placed}
+use Rattle.cases.proofs.DraftLaws.{in-turn, step-behind, add-kind, add-run, step-seated}
 use Rattle.cases.proofs.RunLaws.{run-more}
-use Rattle.cases.proofs.ReadLaws.{recordIn, behind, read-cases}
+use Rattle.cases.proofs.ReadLaws.{asRecord, behind, read-cases}
 use Rattle.cases.proofs.PartLaws.{Goes, goes-none, goes-one, goes-both, front-begins}
 
 pub record Stepless (e : Draft) (c : Case) (js : List Step) : Type 0 where
@@ -56,7 +56,7 @@ unfolding addOf withRun runWith
 split-step d e js k s f =
     let same = s .parts .same in
     let count = ap (λ (c : Case). c .run .count) same in
-    let more = run-more js k (omega (arith, step-placed d k f)) in
+    let more = run-more js k (omega (arith, step-seated d k f)) in
     record {
       parts = record {
         same = ap (λ (c : Case). withRun c (withStep (c .run) k)) same ∙ ap (withRun (e .case)) more;
@@ -113,7 +113,7 @@ module _ (d e : Draft) (js : List Step) (s : Split d e js) where
     abbrev after : Record → Reading
     after r = readFrom n (addOf d r) at (behind t)
 
-    cut-other : (r : Record) → recordIn t ≡ r → faultOf d r ≡ 0 → kindOf r ≤ 5
+    cut-other : (r : Record) → asRecord t ≡ r → faultOf d r ≡ 0 → kindOf r ≤ 5
         → numberOf (after r .answer) ≡ 0
         → Cut e (after r .case)
     cut-other r is f low q =
@@ -123,7 +123,7 @@ module _ (d e : Draft) (js : List Step) (s : Split d e js) where
         cut-before e (addOf d r) _ (take (sizeOf t) t) (rw same one) (bytes-take (sizeOf t) t b)
         (next (addOf d r) (addOf d r) [] (split-none _ none (omega (arith, add-kind d r))) q)
 
-    cut-next : (r : Record) → recordIn t ≡ r → faultOf d r ≡ 0 → numberOf (after r .answer) ≡ 0
+    cut-next : (r : Record) → asRecord t ≡ r → faultOf d r ≡ 0 → numberOf (after r .answer) ≡ 0
         → Cut e (after r .case)
     cut-next (Declare h) is f = cut-other (Declare h) is f (omega arith)
     cut-next (First w) is f = cut-other (First w) is f (omega arith)
@@ -144,4 +144,4 @@ cut-from (suc n) d e js at t s b =
     (λ m z o q. absurd (omega arith))
     (λ m z o f q. absurd (omega arith))
     (λ z o f. cut-next d e js s n (at + sizeOf t) t b o (λ g h ks i.
-    cut-from n g h ks (at + sizeOf t) (behind t) i (bytes-drop (sizeOf t) t b)) (recordIn t) refl f)
+    cut-from n g h ks (at + sizeOf t) (behind t) i (bytes-drop (sizeOf t) t b)) (asRecord t) refl f)

@@ -1,4 +1,4 @@
--- Laws of `addOf`: a faultless record comes in turn and finds its place, and the case so far keeps within the
+-- Laws of `addOf`: a faultless record comes in turn and finds its seat, and the case so far keeps within the
 -- most threads and locations. Assumes nothing.
 use Prim.Native.Nat.{ℕ, _<_, _≤_}
 use mathlib.Core.Path.{_≡_, refl}
@@ -18,26 +18,26 @@ use Rattle.cases.specs.declared.record.Record.the-variants.{Declare, Fir
 use Rattle.cases.specs.Sizes.{mostThreads, mostInstructions, mostLocations, mostSteps}
 use Rattle.cases.specs.Choice.{pick, both, either, refuse}
 use Rattle.cases.specs.Record.{kindOf}
-use Rattle.cases.specs.Checks.{misplaced, disordered, headerOut, instructionOut, passedOut, countOf}
+use Rattle.cases.specs.Checks.{misplaced, disordered, headerOut, instructionOut, passedOut, countAt}
 use Rattle.cases.specs.Checks.{faultOf}
 use Rattle.cases.specs.Draft.{withSizes, withFirst, withInstruction, withProgram, withAsk, withRun, addOf}
 use Rattle.cases.proofs.ChoiceLaws.{either-false, refuse-none}
 use Rattle.cases.proofs.FitLaws.{outside-low}
 
 -- a record behind the first that is not misplaced: kinds don't go down, and it is not of kind 1
-pub placed-kind : (before kind : ℕ) → 1 ≤ before → misplaced before kind ≡ false → (before ≤ kind) × (kind ≢ 1)
+pub seated-kind : (before kind : ℕ) → 1 ≤ before → misplaced before kind ≡ false → (before ≤ kind) × (kind ≢ 1)
 unfolding misplaced pick
-placed-kind before kind b h =
+seated-kind before kind b h =
     let e = either-false (eqb kind 1) (ltb kind before) (rw (ne-eqb before 0 (λ z. omega arith)) at h) in
     (ltb-false kind before (e .1), eqb-false kind 1 (e .0))
 
 -- any record that is not misplaced, the first too: kinds don't go down
-placed : (before kind : ℕ) → misplaced before kind ≡ false → before ≤ kind
-placed before kind h = go (eqb before 0) refl
+seated : (before kind : ℕ) → misplaced before kind ≡ false → before ≤ kind
+seated before kind h = go (eqb before 0) refl
   where
     go : (b : Bool) → eqb before 0 ≡ b → before ≤ kind
     go true e = omega (arith, eqb-true before 0 e)
-    go false e = placed-kind before kind (omega (arith, eqb-false before 0 e)) h .0
+    go false e = seated-kind before kind (omega (arith, eqb-false before 0 e)) h .0
 
 -- a record in order: its number is not below the next, where its kind is the draft's
 pub ordered : (d : Draft) (kind n : ℕ) → disordered d kind n ≡ false → d .kind ≡ kind → d .next ≤ n
@@ -47,12 +47,12 @@ ordered d kind n h e = ltb-false n (d .next) (rw (eq-eqb (d .kind) kind e) at h)
 -- a faultless record: kinds don't go down, and a step is not the first
 pub in-turn : (d : Draft) (r : Record) → faultOf d r ≡ 0 → d .kind ≤ kindOf r
 unfolding faultOf
-in-turn d (Declare h) f = placed (d .kind) 1 (refuse-none _ 3 _ f .0)
-in-turn d (First w) f = placed (d .kind) 2 (refuse-none _ 3 _ f .0)
-in-turn d (Instruct t x) f = placed (d .kind) 3 (refuse-none _ 3 _ f .0)
-in-turn d (Want w) f = placed (d .kind) 4 (refuse-none _ 3 _ f .0)
-in-turn d (Passed t n) f = placed (d .kind) 5 (refuse-none _ 3 _ f .0)
-in-turn d (Take k) f = placed (d .kind) 6 (refuse-none _ 3 _ f .0)
+in-turn d (Declare h) f = seated (d .kind) 1 (refuse-none _ 3 _ f .0)
+in-turn d (First w) f = seated (d .kind) 2 (refuse-none _ 3 _ f .0)
+in-turn d (Instruct t x) f = seated (d .kind) 3 (refuse-none _ 3 _ f .0)
+in-turn d (Want w) f = seated (d .kind) 4 (refuse-none _ 3 _ f .0)
+in-turn d (Passed t n) f = seated (d .kind) 5 (refuse-none _ 3 _ f .0)
+in-turn d (Take k) f = seated (d .kind) 6 (refuse-none _ 3 _ f .0)
 
 pub step-behind : (d : Draft) (k : Step) → faultOf d (Take k) ≡ 0 → d .kind ≢ 0
 unfolding faultOf misplaced pick
@@ -90,50 +90,50 @@ header-sizes d h e =
     (outside-low _ _ (sizes .0) .1, outside-low _ _ (sizes .1) .1)
 
 -- a faultless step finds room
-pub step-placed : (d : Draft) (k : Step) → faultOf d (Take k) ≡ 0 → d .case .run .count < mostSteps
+pub step-seated : (d : Draft) (k : Step) → faultOf d (Take k) ≡ 0 → d .case .run .count < mostSteps
 unfolding faultOf
-step-placed d k e =
+step-seated d k e =
     let clean = refuse-none _ 7 _ (refuse-none _ 4 _ (refuse-none _ 3 _ e .1) .1) .1 in
     leb-false _ _ (refuse-none _ 8 _ clean .0)
 
 module _ (d : Draft) (few : d .case .program .threads ≤ mostThreads)
     (near : d .case .program .locations ≤ mostLocations) where
   -- a record that passed 4 and 5 names a location, or a thread, that there is
-  located : (misplace : Bool) (l later : ℕ)
-      → refuse misplace 4 (refuse (leb (d .case .program .locations) l) 5 later) ≡ 0
+  located : (misseat : Bool) (l later : ℕ)
+      → refuse misseat 4 (refuse (leb (d .case .program .locations) l) 5 later) ≡ 0
       → l < mostLocations
-  located misplace l later e =
+  located misseat l later e =
       let inside = refuse-none _ 4 _ (refuse-none _ 3 _ e .1) .0 in
       let there : l < d .case .program .locations = leb-false _ _ inside in
       omega arith
 
-  threaded : (misplace more : Bool) (t later : ℕ)
-      → refuse misplace 4 (refuse (either (leb (d .case .program .threads) t) more) 5 later) ≡ 0
+  threaded : (misseat more : Bool) (t later : ℕ)
+      → refuse misseat 4 (refuse (either (leb (d .case .program .threads) t) more) 5 later) ≡ 0
       → t < mostThreads
-  threaded misplace more t later e =
+  threaded misseat more t later e =
       let inside = refuse-none _ 4 _ (refuse-none _ 3 _ e .1) .0 in
       let there : t < d .case .program .threads = leb-false _ _ (either-false _ _ inside .0) in
       omega arith
 
   -- so a faultless record of each kind names what there is, and an instruction finds room
-  pub first-placed : (w : Write) → faultOf d (First w) ≡ 0 → w .location .0 < mostLocations
+  pub first-seated : (w : Write) → faultOf d (First w) ≡ 0 → w .location .0 < mostLocations
   unfolding faultOf
-  first-placed w e = located _ _ _ e
+  first-seated w e = located _ _ _ e
 
-  pub instruction-placed : (t : Thread) (x : Instruction) → faultOf d (Instruct t x) ≡ 0
-      → (t .0 < mostThreads) × (countOf (d .case .program) t < mostInstructions)
+  pub instruction-seated : (t : Thread) (x : Instruction) → faultOf d (Instruct t x) ≡ 0
+      → (t .0 < mostThreads) × (countAt (d .case .program) (t .0) < mostInstructions)
   unfolding faultOf instructionOut
-  instruction-placed t x e =
+  instruction-seated t x e =
       let clean = refuse-none _ 7 _ (refuse-none _ 4 _ (refuse-none _ 3 _ e .1) .1) .1 in
       (threaded _ _ _ _ e, leb-false _ _ (refuse-none _ 6 _ (refuse-none _ 5 _ clean .1) .0))
 
-  pub want-placed : (w : Write) → faultOf d (Want w) ≡ 0 → w .location .0 < mostLocations
+  pub want-seated : (w : Write) → faultOf d (Want w) ≡ 0 → w .location .0 < mostLocations
   unfolding faultOf
-  want-placed w e = located _ _ _ e
+  want-seated w e = located _ _ _ e
 
-  pub passed-placed : (t : Thread) (n : ℕ) → faultOf d (Passed t n) ≡ 0 → t .0 < mostThreads
+  pub passed-seated : (t : Thread) (n : ℕ) → faultOf d (Passed t n) ≡ 0 → t .0 < mostThreads
   unfolding faultOf passedOut
-  passed-placed t n e = threaded _ _ _ _ e
+  passed-seated t n e = threaded _ _ _ _ e
 
   -- only a program's own record changes its sizes
   pub add-sizes : (r : Record) → faultOf d r ≡ 0

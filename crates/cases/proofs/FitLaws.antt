@@ -1,6 +1,6 @@
--- What stands at a place is in range of its program: what the checks 5 and 8 leave of a record.
+-- What stands at a seat is in range of its program: what the checks 5 and 8 leave of a record.
 --   RecordFits p r   what is known of a record that passed its checks behind a program
---   PlaceFits p x    the same of a place: nothing, where it is empty
+--   SeatFits p x    the same of a seat: nothing, where it is empty
 -- Assumes nothing.
 use Prim.Native.Nat.{ℕ, _<_, _≤_}
 use mathlib.Core.Path.{_≡_}
@@ -15,15 +15,16 @@ use Rattle.cases.specs.declared.case.Instruction.{Instruction}
 use Rattle.cases.specs.declared.case.Step.{Step}
 use Rattle.cases.specs.declared.record.Record.{Record}
 use Rattle.cases.specs.declared.record.Record.the-variants.{Declare, First, Instruct, Want, Passed, Take}
-use Rattle.cases.specs.declared.places.Place.{Place}
-use Rattle.cases.specs.declared.places.Place.the-variants.{Holds, Empty}
+use Rattle.cases.specs.declared.seats.Seat.{Seat}
+use Rattle.cases.specs.declared.seats.Seat.the-variants.{Holds, Empty}
 use Rattle.cases.specs.Sizes.{mostInstructions}
 use Rattle.cases.specs.Choice.{both, either}
-use Rattle.cases.specs.Checks.{outside, beyond, leftOver, countOf}
+use Rattle.cases.specs.Checks.{outside, beyond, leftOver, countAt}
 use Rattle.cases.specs.Checks.{headerOut, instructionOut, instructionLeft, passedOut, stepOut, stepLeft}
 use Rattle.cases.specs.Ranges.{InstructionFits}
 use Rattle.cases.specs.Checks.{usesLocation, usesRegister}
 use Rattle.cases.proofs.ChoiceLaws.{either-false}
+use Rattle.cases.specs.Operations.{lastOperation, move, persist, lastCode}
 
 unfoldable pub RecordFits : Program → Record → Type 0
 RecordFits p (Declare h) = headerOut h ≡ false
@@ -33,9 +34,9 @@ RecordFits p (Want w) = leb (p .locations) (w .location .0) ≡ false
 RecordFits p (Passed t n) = passedOut p t n ≡ false
 RecordFits p (Take k) = (stepOut p k ≡ false) × (stepLeft k ≡ false)
 
-unfoldable pub PlaceFits : Program → Place → Type 0
-PlaceFits p (Holds r) = RecordFits p r
-PlaceFits p Empty = Unit {0}
+unfoldable pub SeatFits : Program → Seat → Type 0
+SeatFits p (Holds r) = RecordFits p r
+SeatFits p Empty = Unit {0}
 
 -- a field that passed 5 and 8 is below its limit, used or not
 pub field-low : (used : Bool) (x limit : ℕ) → beyond used x limit ≡ false → leftOver used x ≡ false
@@ -66,15 +67,15 @@ record-grown p q g (First w) f = rw (g .same-locations) f
 record-grown p q g (Instruct t x) f = (rw (g .same-threads, g .same-locations) (f .0), f .1)
 record-grown p q g (Want w) f = rw (g .same-locations) f
 record-grown p q g (Passed t n) f =
-    let e = either-false (leb (p .threads) (t .0)) (ltb (countOf p t) n) f in
-    let few = ltb-false (countOf p t) n (e .1) in
-    rw (g .same-threads, e .0) (le-ltb (countOf q t) n (omega (arith, g .more (t .0), few)))
+    let e = either-false (leb (p .threads) (t .0)) (ltb (countAt p (t .0)) n) f in
+    let few = ltb-false (countAt p (t .0)) n (e .1) in
+    rw (g .same-threads, e .0) (le-ltb (countAt q (t .0)) n (omega (arith, g .more (t .0), few)))
 record-grown p q g (Take k) f = (rw (g .same-threads, g .same-locations) (f .0), f .1)
 
-pub place-grown : (p q : Program) → Grown p q → (x : Place) → PlaceFits p x → PlaceFits q x
-unfolding PlaceFits
-place-grown p q g (Holds r) f = record-grown p q g r f
-place-grown p q g Empty f = f
+pub seat-grown : (p q : Program) → Grown p q → (x : Seat) → SeatFits p x → SeatFits q x
+unfolding SeatFits
+seat-grown p q g (Holds r) f = record-grown p q g r f
+seat-grown p q g Empty f = f
 
 -- What the checks leave of an instruction and of a step
 pub instruction-fits : (p : Program) (t : Thread) (x : Instruction) → 1 ≤ p .locations
@@ -84,11 +85,11 @@ pub instruction-fits : (p : Program) (t : Thread) (x : Instruction) → 1 ≤ p 
 unfolding instructionOut instructionLeft
 instruction-fits p t x some out left =
     let a = either-false (leb (p .threads) (t .0)) _ out in
-    let b = either-false (outside (x .operation) 8) _ (a .1) in
+    let b = either-false (outside (x .operation) lastOperation) _ (a .1) in
     let c = either-false (beyond (usesLocation (x .operation)) (x .location .0) (p .locations)) _ (b .1) in
     let e = either-false (leftOver (usesLocation (x .operation)) (x .location .0)) _ left in
     let f = either-false (leftOver (usesRegister (x .operation)) (x .register .0)) _ (e .1) in
-    let o = outside-low (x .operation) 8 (b .0) in (
+    let o = outside-low (x .operation) lastOperation (b .0) in (
       leb-false (p .threads) (t .0) (a .0),
       record {
         some-operation = o .0;
@@ -101,19 +102,19 @@ instruction-fits p t x some out left =
 pub step-low : (p : Program) (k : Step) → 1 ≤ p .threads → 1 ≤ p .locations
     → stepOut p k ≡ false
     → stepLeft k ≡ false
-    → (k .code ≤ 2)
+    → (k .code ≤ lastCode)
     × (k .thread .0 < p .threads)
     × (k .position < mostInstructions)
     × (k .location .0 < p .locations)
 unfolding stepOut stepLeft
 step-low p k some any out left =
-    let a = either-false (ltb 2 (k .code)) _ out in
-    let b = either-false (beyond (leb (k .code) 1) (k .thread .0) (p .threads)) _ (a .1) in
-    let c = either-false (beyond (eqb (k .code) 1) (k .position) mostInstructions) _ (b .1) in
-    let e = either-false (leftOver (leb (k .code) 1) (k .thread .0)) _ left in
-    let f = either-false (leftOver (eqb (k .code) 1) (k .position)) _ (e .1) in (
-      ltb-false 2 (k .code) (a .0),
-      field-low (leb (k .code) 1) _ _ (b .0) (e .0) some,
-      field-low (eqb (k .code) 1) _ _ (c .0) (f .0) (omega arith),
-      field-low (eqb (k .code) 2) _ _ (c .1) (f .1) any,
+    let a = either-false (ltb lastCode (k .code)) _ out in
+    let b = either-false (beyond (leb (k .code) move) (k .thread .0) (p .threads)) _ (a .1) in
+    let c = either-false (beyond (eqb (k .code) move) (k .position) mostInstructions) _ (b .1) in
+    let e = either-false (leftOver (leb (k .code) move) (k .thread .0)) _ left in
+    let f = either-false (leftOver (eqb (k .code) move) (k .position)) _ (e .1) in (
+      ltb-false lastCode (k .code) (a .0),
+      field-low (leb (k .code) move) _ _ (b .0) (e .0) some,
+      field-low (eqb (k .code) move) _ _ (c .0) (f .0) (omega arith),
+      field-low (eqb (k .code) persist) _ _ (c .1) (f .1) any,
     )

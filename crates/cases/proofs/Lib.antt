@@ -4,11 +4,11 @@ pub mod Promises
 pub mod ChoiceLaws
 pub mod ArrayLaws
 pub mod Computing
--- definitions' own laws: bytes, records, places, checks, drafts
+-- definitions' own laws: bytes, records, seats, checks, drafts
 mod BytesLaws
 mod RecordLaws
 mod EachLaws
-mod PlaceLaws
+mod SeatLaws
 mod WithLaws
 mod FitLaws
 mod DraftLaws

@@ -22,13 +22,13 @@ use Rattle.cases.specs.declared.reader.Reading.{Reading}
 use Rattle.cases.specs.Choice.{pick, refuse}
 use Rattle.cases.specs.Bytes.{half, wordAt, halfBytes}
 use Rattle.cases.specs.Record.{payloadOf, payloadBytes, recordBytes, recordOf, openNo, sizeOf}
-use Rattle.cases.specs.Record.{headerIn, writeIn, instructionIn, stepIn}
+use Rattle.cases.specs.Record.{asHeader, asWrite, asInstruction, asStep}
 use Rattle.cases.specs.Checks.{faultOf}
 use Rattle.cases.specs.Draft.{blankDraft, addOf}
 use Rattle.cases.specs.Reading.{endedOf, readFrom, readOf}
 use Rattle.cases.proofs.ChoiceLaws.{pick-false}
 use Rattle.cases.proofs.BytesLaws.{half-same, word-same, open-whole, kind-cases}
-use Rattle.cases.proofs.ReadLaws.{recordIn, read-cases}
+use Rattle.cases.proofs.ReadLaws.{asRecord, read-cases}
 use Rattle.cases.proofs.PrefixLaws.{fuel-same}
 
 -- a record opens where its kind has a payload, its length is the kind's, and it is whole
@@ -54,7 +54,7 @@ module _ (t u : List ℕ) (o : openNo t ≡ 0) (long : sizeOf t ≤ length u)
   word-front = word-same t u (sizeOf t) same
 
   record-front : (k : ℕ) → payloadOf k ≢ 0 → sizeOf t ≡ 4 + payloadOf k → recordOf k u ≡ recordOf k t
-  unfolding recordOf headerIn writeIn instructionIn stepIn payloadOf pick
+  unfolding recordOf asHeader asWrite asInstruction asStep payloadOf pick
   record-front =
       kind-cases (λ (k : ℕ). sizeOf t ≡ 4 + payloadOf k → recordOf k u ≡ recordOf k t)
       (λ n. rw (half-front 4 (omega arith), same 6 (omega arith), same 7 (omega arith)))
@@ -71,7 +71,7 @@ module _ (t u : List ℕ) (o : openNo t ≡ 0) (long : sizeOf t ≤ length u)
       (λ n. rw (same 4 (omega arith), same 5 (omega arith), same 6 (omega arith), same 7 (omega arith)))
 
   -- it starts with that record
-  front-is : (openNo u ≡ 0) × (recordIn u ≡ recordIn t) × (sizeOf u ≡ sizeOf t)
+  front-is : (openNo u ≡ 0) × (asRecord u ≡ asRecord t) × (sizeOf u ≡ sizeOf t)
   unfolding sizeOf
   front-is =
       let w = open-whole t o in
@@ -85,25 +85,25 @@ module _ (t u : List ℕ) (o : openNo t ≡ 0) (long : sizeOf t ≤ length u)
 
 pub record Begins (p : List ℕ) (r : Record) : Type 0 where
   pub opened : (x : List ℕ) → openNo (p ++ x) ≡ 0
-  pub is : (x : List ℕ) → recordIn (p ++ x) ≡ r
+  pub is : (x : List ℕ) → asRecord (p ++ x) ≡ r
   pub size : (x : List ℕ) → sizeOf (p ++ x) ≡ length p
 
 -- the bytes that a record was read from; a step's own bytes
-pub front-begins : (t : List ℕ) → openNo t ≡ 0 → Begins (take (sizeOf t) t) (recordIn t)
+pub front-begins : (t : List ℕ) → openNo t ≡ 0 → Begins (take (sizeOf t) t) (asRecord t)
 front-begins t o = record { opened = λ x. all x .0; is = λ x. all x .1; size = λ x. all x .2 ∙ sym long }
   where
     long : length (take (sizeOf t) t) ≡ sizeOf t
     long = length-take-le (sizeOf t) t (open-whole t o .within)
 
     all : (x : List ℕ) → (openNo (take (sizeOf t) t ++ x) ≡ 0)
-        × (recordIn (take (sizeOf t) t ++ x) ≡ recordIn t)
+        × (asRecord (take (sizeOf t) t ++ x) ≡ asRecord t)
         × (sizeOf (take (sizeOf t) t ++ x) ≡ sizeOf t)
     all x =
         front-is t (take (sizeOf t) t ++ x) o (omega (arith, length-append (take (sizeOf t) t) x, long))
         (λ i h. List·getD-append (take (sizeOf t) t) x 0 i (omega (arith, long)) ∙ getD-take (sizeOf t) t i 0 h)
 
 pub step-begins : (k : Step) → Begins (recordBytes (Take k)) (Take k)
-unfolding recordBytes payloadBytes halfBytes payloadOf pick half sizeOf recordOf stepIn
+unfolding recordBytes payloadBytes halfBytes payloadOf pick half sizeOf recordOf asStep
 step-begins k =
     record {
       opened = λ x. opens (recordBytes (Take k) ++ x) (λ z. omega arith) refl (omega arith);

@@ -16,18 +16,18 @@ use Rattle.cases.specs.Sizes.{longest, longestRecord}
 use Rattle.cases.specs.Choice.{refuse}
 use Rattle.cases.specs.Bytes.{half, wordAt}
 use Rattle.cases.specs.Record.{payloadOf, recordBytes, recordOf, openNo, sizeOf}
-use Rattle.cases.specs.Record.{headerIn, writeIn, instructionIn, stepIn}
+use Rattle.cases.specs.Record.{asHeader, asWrite, asInstruction, asStep}
 use Rattle.cases.specs.Checks.{faultOf}
 use Rattle.cases.specs.Draft.{blankDraft, addOf}
 use Rattle.cases.specs.Reading.{endedOf, refusedOf, readFrom, readOf}
-use Rattle.cases.specs.Places.{encodeOf}
+use Rattle.cases.specs.Seats.{encodeOf}
 use Rattle.cases.proofs.ChoiceLaws.{pick-cases}
 use Rattle.cases.proofs.ArrayLaws.{drop-take}
 use Rattle.cases.proofs.SoundLaws.{Sound}
 use Rattle.cases.proofs.AddLaws.{add-record}
 use Rattle.cases.proofs.LengthLaws.{encode-length}
 use Rattle.cases.proofs.BytesLaws.{half-same, word-same, open-whole}
-use Rattle.cases.proofs.ReadLaws.{recordIn, behind, read-cases}
+use Rattle.cases.proofs.ReadLaws.{asRecord, behind, read-cases}
 use Rattle.cases.proofs.BlankLaws.{blank-first, begun-longer, begun-sound}
 use Rattle.cases.proofs.RoundTrip.{longer-by, less-left}
 
@@ -68,8 +68,8 @@ module _ (t : List ℕ) (m : ℕ) (enough : longestRecord ≤ m) where
   unfolding sizeOf
   size-prefix = rw (half-prefix 0 (omega arith))
 
-  record-prefix : recordIn (take m t) ≡ recordIn t
-  unfolding recordOf headerIn writeIn instructionIn stepIn
+  record-prefix : asRecord (take m t) ≡ asRecord t
+  unfolding recordOf asHeader asWrite asInstruction asStep
   record-prefix =
       rw (
         half-prefix 2 (omega arith),
@@ -122,8 +122,8 @@ module _ (t : List ℕ) (m : ℕ) (enough : longestRecord ≤ m) where
 
   -- a turn of reading: the same, if what follows is
   turn-prefix : (n k : ℕ) (d : Draft) (at : ℕ)
-      → (openNo t ≡ 0 → faultOf d (recordIn t) ≡ 0
-      → SamePrefix n k (addOf d (recordIn t)) (at + sizeOf t) (m - sizeOf t) (behind t))
+      → (openNo t ≡ 0 → faultOf d (asRecord t) ≡ 0
+      → SamePrefix n k (addOf d (asRecord t)) (at + sizeOf t) (m - sizeOf t) (behind t))
       → SamePrefix (suc n) (suc k) d at m t
   turn-prefix n k d at next =
       read-cases (λ (y : Reading). readFrom (suc k) d at (take m t) ≡ y) n d at t
@@ -140,7 +140,7 @@ module _ (t : List ℕ) (m : ℕ) (enough : longestRecord ≤ m) where
       (λ j w q. absurd (omega (arith, open-prefix)))
       (λ j w q g. ap (λ (a : ℕ). refusedOf a at) (sym g ∙ ap (faultOf d) record-prefix ∙ f))
       (λ w q g. absurd (omega (arith, ap (faultOf d) record-prefix))))
-      (λ z o f. let after : Reading = readFrom n (addOf d (recordIn t)) (at + sizeOf t) (behind t) in
+      (λ z o f. let after : Reading = readFrom n (addOf d (asRecord t)) (at + sizeOf t) (behind t) in
       read-cases (λ (x : Reading). x ≡ after) k d at (take m t)
       (λ e. absurd (z (none-prefix e)))
       (λ j w q. absurd (omega (arith, open-prefix)))
@@ -149,7 +149,7 @@ module _ (t : List ℕ) (m : ℕ) (enough : longestRecord ≤ m) where
 
 -- what follows a record that was read behind the bytes `done`: the file is longer by it, and less is left
 on-prefix : (done t : List ℕ) (m n k : ℕ) (e : Draft) → openNo t ≡ 0
-    → encodeOf (e .case) ≡ done ++ recordBytes (recordIn t)
+    → encodeOf (e .case) ≡ done ++ recordBytes (asRecord t)
     → length t < suc n
     → length (take m t) < suc k
     → longest + longestRecord ≤ length done + m
@@ -179,19 +179,19 @@ prefix-from zero k d front m t s f g b = absurd (omega arith)
 prefix-from (suc n) zero d front m t s f g b = absurd (omega arith)
 prefix-from (suc n) (suc k) d front m t s f g b =
     turn-prefix t m (omega (arith, encode-length (d .case))) n k d (length (encodeOf (d .case))) (λ o h.
-    let a = add-record d front s (recordIn t) h in
-    on-prefix (encodeOf (d .case)) t m n k (addOf d (recordIn t)) o (a .longer) f g b (encode-length (d .case))
-    (prefix-from n k (addOf d (recordIn t)) (suc (a .spot)) (m - sizeOf t) (behind t) (a .sound)))
+    let a = add-record d front s (asRecord t) h in
+    on-prefix (encodeOf (d .case)) t m n k (addOf d (asRecord t)) o (a .longer) f g b (encode-length (d .case))
+    (prefix-from n k (addOf d (asRecord t)) (suc (a .spot)) (m - sizeOf t) (behind t) (a .sound)))
 
 pub read-prefix : (s : List ℕ) (m : ℕ) → longest + longestRecord ≤ m → readOf (take m s) ≡ readOf s
 unfolding readOf
 read-prefix s m b =
     let k : ℕ = length (take m s) in
     turn-prefix s m (omega arith) (length s) k blankDraft 0 (λ o h.
-    let f = blank-first (recordIn s) h in
-    on-prefix [] s m (length s) k (addOf blankDraft (recordIn s)) o (rw (f .1) (begun-longer (f .0) (f .2)))
+    let f = blank-first (asRecord s) h in
+    on-prefix [] s m (length s) k (addOf blankDraft (asRecord s)) o (rw (f .1) (begun-longer (f .0) (f .2)))
     (omega arith) (omega arith) (omega arith) (omega arith)
-    (prefix-from (length s) k (addOf blankDraft (recordIn s)) 1 (m - sizeOf s) (behind s)
+    (prefix-from (length s) k (addOf blankDraft (asRecord s)) 1 (m - sizeOf s) (behind s)
     (rw (f .1) (begun-sound (f .0) (f .2)))))
 
 -- the number that reading counts down never decides, once it is above the input's length
@@ -205,5 +205,5 @@ fuel-same (suc n) (suc k) d at t f g =
     ∙ turn-prefix t m (omega arith) n k d at (λ o h.
     let size = size-most t o in
     let left = length-drop (sizeOf t) t in
-    ap (readFrom k (addOf d (recordIn t)) (at + sizeOf t)) (take-all (m - sizeOf t) (behind t) (omega arith))
-    ∙ fuel-same n k (addOf d (recordIn t)) (at + sizeOf t) (behind t) (less-left t n o f) (less-left t k o g))
+    ap (readFrom k (addOf d (asRecord t)) (at + sizeOf t)) (take-all (m - sizeOf t) (behind t) (omega arith))
+    ∙ fuel-same n k (addOf d (asRecord t)) (at + sizeOf t) (behind t) (less-left t n o f) (less-left t k o g))

@@ -13,14 +13,14 @@ use Rattle.cases.specs.declared.case.Case.{Case}
 use Rattle.cases.specs.declared.draft.Draft.{Draft}
 use Rattle.cases.specs.declared.reader.Answer.the-variants.{Whole}
 use Rattle.cases.specs.declared.writer.Wrote.the-variants.{Stored, Untouched}
-use Rattle.cases.specs.Sizes.{mostSteps, longest, longestRecord}
+use Rattle.cases.specs.Sizes.{mostSteps, longest, longestRecord, stepSize}
 use Rattle.cases.specs.Choice.{both}
 use Rattle.cases.specs.Bytes.{IsBytes, half}
 use Rattle.cases.specs.Record.{recordOf, openNo, sizeOf}
 use Rattle.cases.specs.Checks.{stepFault, faultOf}
 use Rattle.cases.specs.Draft.{noStep, emptyCase, runWith, withRun, blankDraft, addOf}
 use Rattle.cases.specs.Reading.{numberOf, offsetOf, refusedOf, readFrom, readOf, unreadOf}
-use Rattle.cases.specs.Places.{encodeOf, stepsBytes}
+use Rattle.cases.specs.Seats.{encodeOf, stepsBytes}
 use Rattle.cases.specs.Ranges.{Ranged}
 use Rattle.cases.specs.Writing.{readsAs, readsBack, wroteOf, writtenOf}
 use Rattle.cases.proofs.ChoiceLaws.{both-true}
@@ -140,7 +140,7 @@ module _ (c : Case) (readable : readsBack c ≡ true) where
   pub run-is : c .run ≡ runWith (take (c .run .count) (c .run .steps))
   run-is = rw file-case at (run-steps (encodeOf c) file-bytes file-number)
 
-  -- with other steps that 5 and 8 have nothing against it passes the test too
+  -- with other steps that pass the checks 5 and 8 it passes the test too
   pub other-run-reads-back : (ks : List Step) → length ks ≤ mostSteps
       → ((i : ℕ) → i < length ks → stepFault (c .program) (getD ks i noStep) ≡ 0)
       → readsBack (withRun c (runWith ks)) ≡ true
@@ -152,7 +152,7 @@ pub other-run-file : (c : Case) (ks : List Step) → length ks ≤ mostSteps
 other-run-file c ks few = file-more c ks [] (omega arith)
 
 -- eight bytes for each step
-pub steps-bytes-length : (ks : List Step) → length (stepsBytes ks) ≡ 8 * length ks
+pub steps-bytes-length : (ks : List Step) → length (stepsBytes ks) ≡ stepSize * length ks
 steps-bytes-length ks = steps-length ks
 
 -- 32 refuses a case exactly when no byte string reads as it

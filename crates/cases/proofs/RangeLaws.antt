@@ -13,19 +13,19 @@ use Rattle.cases.specs.declared.case.Instruction.{Instruction}
 use Rattle.cases.specs.declared.draft.Draft.{Draft}
 use Rattle.cases.specs.declared.record.Record.{Record}
 use Rattle.cases.specs.declared.record.Record.the-variants.{Instruct}
-use Rattle.cases.specs.declared.places.Place.the-variants.{Holds}
+use Rattle.cases.specs.declared.seats.Seat.the-variants.{Holds}
 use Rattle.cases.specs.Sizes.{mostThreads, mostInstructions, mostLocations}
 use Rattle.cases.specs.Choice.{refuse}
 use Rattle.cases.specs.Checks.{stepFault}
 use Rattle.cases.specs.Checks.{passedOut}
 use Rattle.cases.specs.Draft.{noInstruction, noStep}
-use Rattle.cases.specs.Places.{fromCode, fromWants, fromPassed, fromSteps}
-use Rattle.cases.specs.Places.{instructionPlace, wantPlace, passedPlace, stepPlace}
-use Rattle.cases.specs.Places.{placeOf}
+use Rattle.cases.specs.Seats.{fromCode, fromWants, fromPassed, fromSteps}
+use Rattle.cases.specs.Seats.{instructionSeat, wantSeat, passedSeat, stepSeat}
+use Rattle.cases.specs.Seats.{seatOf}
 use Rattle.cases.specs.Ranges.{InstructionFits, Ranged}
 use Rattle.cases.proofs.ChoiceLaws.{never-both, either-false, pick-true, pick-false}
-use Rattle.cases.proofs.PlaceLaws.{place-code, place-want, place-passed, place-step}
-use Rattle.cases.proofs.FitLaws.{RecordFits, PlaceFits}
+use Rattle.cases.proofs.SeatLaws.{seat-code, seat-want, seat-passed, seat-step}
+use Rattle.cases.proofs.FitLaws.{RecordFits, SeatFits}
 use Rattle.cases.proofs.SoundLaws.{Sound}
 use Rattle.cases.proofs.FitLaws.{instruction-fits}
 
@@ -42,16 +42,16 @@ module _ (d : Draft) (front : ℕ) (s : Sound d front) where
   abbrev program : Program
   program = d .case .program
 
-  -- a place that holds a record: the record is in range
-  held : (j : ℕ) (r : Record) → placeOf (d .case) j ≡ Holds r → RecordFits program r
-  unfolding PlaceFits
+  -- a seat that holds a record: the record is in range
+  held : (j : ℕ) (r : Record) → seatOf (d .case) j ≡ Holds r → RecordFits program r
+  unfolding SeatFits
   held j r e = rw e at (s .ranged j)
 
   -- what stands in its case is in range: the instructions, the wants, the passed counts and the steps
   instruction-ranged : (t i : ℕ) → i < getD (program .counts) t 0
       → (t < program .threads)
       × InstructionFits program (getD (program .code) (t * mostInstructions + i) noInstruction)
-  unfolding RecordFits instructionPlace
+  unfolding RecordFits instructionSeat
   instruction-ranged t i h =
       let p = s .sized .of-program in
       let m : ℕ = t * mostInstructions + i in
@@ -61,19 +61,19 @@ module _ (d : Draft) (front : ℕ) (s : Sound d front) where
       let q : m / mostInstructions ≡ t = omega arith in
       let r : m % mostInstructions ≡ i = omega arith in
       let x : Instruction = getD (program .code) m noInstruction in
-      let e : placeOf (d .case) (fromCode + m) ≡ Holds (Instruct (record { 0 = t }) x) =
-      place-code (d .case) (fromCode + m) m refl (omega arith)
+      let e : seatOf (d .case) (fromCode + m) ≡ Holds (Instruct (record { 0 = t }) x) =
+      seat-code (d .case) (fromCode + m) m refl (omega arith)
       ∙ rw (q, r) (pick-false (leb (getD (program .counts) t 0) i) _ _ (lt-leb _ _ h)) in
       let f = held (fromCode + m) _ e in
       instruction-fits program (record { 0 = t }) _ (p .some-locations) (f .0) (f .1)
 
   want-ranged : (l : ℕ) → getD (d .case .ask .wanted) l false ≡ true → l < program .locations
-  unfolding RecordFits wantPlace
+  unfolding RecordFits wantSeat
   want-ranged l h =
       let a = s .sized .of-ask in
       let there = within (d .case .ask .wanted) l false (never-both h) in
       let low : l < mostLocations = omega (arith, there, a .wanted-long) in
-      let e = place-want (d .case) (fromWants + l) l refl low
+      let e = seat-want (d .case) (fromWants + l) l refl low
       ∙ pick-true (getD (d .case .ask .wanted) l false) _ _ h in
       leb-false (program .locations) l (held (fromWants + l) _ e)
 
@@ -81,7 +81,7 @@ module _ (d : Draft) (front : ℕ) (s : Sound d front) where
   passed-by t = getD (d .case .ask .passed) t 0
 
   passed-ranged : (t : ℕ) → passed-by t ≤ getD (program .counts) t 0
-  unfolding RecordFits passedPlace passedOut
+  unfolding RecordFits passedSeat passedOut
   passed-ranged t = go (eqb (passed-by t) 0) refl
     where
       go : (b : Bool) → eqb (passed-by t) 0 ≡ b → passed-by t ≤ getD (program .counts) t 0
@@ -90,13 +90,13 @@ module _ (d : Draft) (front : ℕ) (s : Sound d front) where
           let some = within (d .case .ask .passed) t 0 (eqb-false _ _ e) in
           let low : t < mostThreads = omega (arith, some, s .sized .of-ask .passed-long) in
           let f = held (fromPassed + t) _
-          (place-passed (d .case) (fromPassed + t) t refl low ∙ pick-false _ _ _ e) in
+          (seat-passed (d .case) (fromPassed + t) t refl low ∙ pick-false _ _ _ e) in
           ltb-false _ _ (either-false (leb (program .threads) t) _ f .1)
 
   step-ranged : (k : ℕ) → k < d .case .run .count → stepFault program (getD (d .case .run .steps) k noStep) ≡ 0
-  unfolding RecordFits stepPlace stepFault refuse
+  unfolding RecordFits stepSeat stepFault refuse
   step-ranged k h =
-      let e = place-step (d .case) (fromSteps + k) k refl
+      let e = seat-step (d .case) (fromSteps + k) k refl
       ∙ pick-false (leb (d .case .run .count) k) _ _ (lt-leb _ _ h) in
       let f = held (fromSteps + k) _ e in
       rw (f .0, f .1)

@@ -1,5 +1,5 @@
 -- Laws of `readFrom`: one law for all that a turn of reading may come to, and which record decides.
---   recordIn t   the record that t starts with
+--   asRecord t   the record that t starts with
 --   behind t     what stands behind that record
 -- Assumes nothing.
 use Prim.Native.Nat.{ℕ, zero, suc, _+_}
@@ -17,8 +17,8 @@ use Rattle.cases.specs.Checks.{faultOf}
 use Rattle.cases.specs.Draft.{addOf}
 use Rattle.cases.specs.Reading.{refusedOf, endedOf, readFrom}
 
-abbrev pub recordIn : List ℕ → Record
-recordIn t = recordOf (half t 2) t
+abbrev pub asRecord : List ℕ → Record
+asRecord t = recordOf (half t 2) t
 
 abbrev pub behind : List ℕ → List ℕ
 behind t = drop (sizeOf t) t
@@ -27,12 +27,12 @@ behind t = drop (sizeOf t) t
 pub read-cases {ℓ} : (P : Reading → Type ℓ) (n : ℕ) (d : Draft) (at : ℕ) (t : List ℕ)
     → (length t ≡ 0 → P (endedOf d at))
     → ((m : ℕ) → length t ≢ 0 → openNo t ≡ suc m → P (refusedOf (suc m) at))
-    → ((m : ℕ) → length t ≢ 0 → openNo t ≡ 0 → faultOf d (recordIn t) ≡ suc m → P (refusedOf (suc m) at))
-    → (length t ≢ 0 → openNo t ≡ 0 → faultOf d (recordIn t) ≡ 0
-    → P (readFrom n (addOf d (recordIn t)) (at + sizeOf t) (behind t)))
+    → ((m : ℕ) → length t ≢ 0 → openNo t ≡ 0 → faultOf d (asRecord t) ≡ suc m → P (refusedOf (suc m) at))
+    → (length t ≢ 0 → openNo t ≡ 0 → faultOf d (asRecord t) ≡ 0
+    → P (readFrom n (addOf d (asRecord t)) (at + sizeOf t) (behind t)))
     → P (readFrom (suc n) d at t)
 unfolding readFrom
-read-cases P n d at t ended bad fault next = go (length t) (openNo t) (faultOf d (recordIn t)) refl refl refl
+read-cases P n d at t ended bad fault next = go (length t) (openNo t) (faultOf d (asRecord t)) refl refl refl
   where
     by : ℕ → ℕ → ℕ → Reading
     by l o f =
@@ -44,12 +44,12 @@ read-cases P n d at t ended bad fault next = go (length t) (openNo t) (faultOf d
                 | zero ↦
                     elim f as (λ _. Reading) [
                       | suc m ↦ refusedOf (suc m) at
-                      | zero ↦ readFrom n (addOf d (recordIn t)) (at + sizeOf t) (behind t)
+                      | zero ↦ readFrom n (addOf d (asRecord t)) (at + sizeOf t) (behind t)
                     ]
               ]
         ]
 
-    go : (l o f : ℕ) → length t ≡ l → openNo t ≡ o → faultOf d (recordIn t) ≡ f → P (by l o f)
+    go : (l o f : ℕ) → length t ≡ l → openNo t ≡ o → faultOf d (asRecord t) ≡ f → P (by l o f)
     go zero o f p q r = ended p
     go (suc l) (suc m) f p q r = bad m (λ z. omega arith) q
     go (suc l) zero (suc m) p q r = fault m (λ z. omega arith) q r
@@ -66,19 +66,19 @@ module _ (n : ℕ) (d : Draft) (at : ℕ) (t : List ℕ) (some : length t ≢ 0)
       (λ h o f. absurd (bad o))
 
   module _ (opens : openNo t ≡ 0) where
-    pub faulty-decides : faultOf d (recordIn t) ≢ 0
-        → readFrom (suc n) d at t ≡ refusedOf (faultOf d (recordIn t)) at
+    pub faulty-decides : faultOf d (asRecord t) ≢ 0
+        → readFrom (suc n) d at t ≡ refusedOf (faultOf d (asRecord t)) at
     faulty-decides bad =
-        read-cases (λ (y : Reading). y ≡ refusedOf (faultOf d (recordIn t)) at) n d at t
+        read-cases (λ (y : Reading). y ≡ refusedOf (faultOf d (asRecord t)) at) n d at t
         (λ e. absurd (some e))
         (λ m h o. absurd (let z = opens in omega arith))
         (λ m h o f. ap (λ k. refusedOf k at) (sym f))
         (λ h o f. absurd (bad f))
 
-    pub sound-goes-on : faultOf d (recordIn t) ≡ 0
-        → readFrom (suc n) d at t ≡ readFrom n (addOf d (recordIn t)) (at + sizeOf t) (behind t)
+    pub sound-goes-on : faultOf d (asRecord t) ≡ 0
+        → readFrom (suc n) d at t ≡ readFrom n (addOf d (asRecord t)) (at + sizeOf t) (behind t)
     sound-goes-on sound =
-        read-cases (λ (y : Reading). y ≡ readFrom n (addOf d (recordIn t)) (at + sizeOf t) (behind t)) n d at t
+        read-cases (λ (y : Reading). y ≡ readFrom n (addOf d (asRecord t)) (at + sizeOf t) (behind t)) n d at t
         (λ e. absurd (some e))
         (λ m h o. absurd (let z = opens in omega arith))
         (λ m h o f. absurd (let z = sound in omega arith))

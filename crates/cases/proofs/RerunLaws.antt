@@ -23,7 +23,7 @@ use Rattle.cases.specs.Record.{recordBytes}
 use Rattle.cases.specs.Checks.{misplaced, stepFault, faultOf}
 use Rattle.cases.specs.Draft.{noStep, emptyCase, runWith, withRun, withStep, blankDraft, addOf}
 use Rattle.cases.specs.Reading.{numberOf, readOf}
-use Rattle.cases.specs.Places.{encodeOf, stepsBytes}
+use Rattle.cases.specs.Seats.{encodeOf, stepsBytes}
 use Rattle.cases.specs.Writing.{readsAs, readsBack}
 use Rattle.cases.proofs.RunLaws.{run-more, run-own, file-more}
 use Rattle.cases.proofs.SameLaws.{case-self}
@@ -31,7 +31,7 @@ use Rattle.cases.proofs.RoundTrip.{read-all}
 use Rattle.cases.proofs.PartLaws.{Goes, goes-none, goes-one, goes-both, goes-whole, step-begins}
 use Rattle.cases.proofs.CutLaws.{Cut, split-none, cut-from}
 
--- Steps that 5 and 8 have nothing against, behind a draft
+-- Steps that pass the checks 5 and 8, behind a draft
 step-passes : (d : Draft) (k : Step) → d .kind ≢ 0 → d .kind ≤ 6 → d .case .run .count < mostSteps
     → stepFault (d .case .program) k ≡ 0
     → faultOf d (Take k) ≡ 0
@@ -90,7 +90,7 @@ module _ (s : List ℕ) (b : IsBytes s) (h : numberOf (readOf s .answer) ≡ 0) 
       let back = read-all (cut .bytes) .back (cut .are) (ap (λ (r : Reading). numberOf (r .answer)) whole) in
       rw whole at back
 
-  -- the case with other steps that 5 and 8 have nothing against is readable
+  -- the case with other steps that pass the checks 5 and 8 is readable
   pub other-readable : (ks : List Step) → length ks ≤ mostSteps
       → ((i : ℕ) → i < length ks → stepFault (case .program) (getD ks i noStep) ≡ 0)
       → readsBack (withRun case (runWith ks)) ≡ true

@@ -24,14 +24,14 @@ use Rattle.cases.specs.Record.{recordBytes, openNo, sizeOf}
 use Rattle.cases.specs.Checks.{faultOf}
 use Rattle.cases.specs.Draft.{emptyCase, blankDraft, addOf}
 use Rattle.cases.specs.Reading.{numberOf, offsetOf, refusedOf, endedOf, readFrom, readOf}
-use Rattle.cases.specs.Places.{encodeOf}
+use Rattle.cases.specs.Seats.{encodeOf}
 use Rattle.cases.proofs.ChoiceLaws.{refuse-most, pick-false}
 use Rattle.cases.proofs.ArrayLaws.{length-none}
 use Rattle.cases.proofs.SoundLaws.{Sound}
 use Rattle.cases.proofs.AddLaws.{add-record}
 use Rattle.cases.proofs.LengthLaws.{encode-length}
 use Rattle.cases.proofs.BytesLaws.{bytes-drop, open-whole, open-size, open-bytes}
-use Rattle.cases.proofs.ReadLaws.{recordIn, behind, read-cases}
+use Rattle.cases.proofs.ReadLaws.{asRecord, behind, read-cases}
 use Rattle.cases.proofs.BlankLaws.{blank-first, begun-longer, begun-sound}
 
 -- the numbers are those of the table
@@ -114,20 +114,20 @@ told-ended d front t s z =
 
 -- a record's bytes behind those of a case are as long as its head says
 pub longer-by : (done t : List ℕ) → openNo t ≡ 0
-    → length (done ++ recordBytes (recordIn t)) ≡ length done + sizeOf t
+    → length (done ++ recordBytes (asRecord t)) ≡ length done + sizeOf t
 longer-by done t o =
-    length-append done (recordBytes (recordIn t)) ∙ ap (λ (n : ℕ). length done + n) (open-size t o)
+    length-append done (recordBytes (asRecord t)) ∙ ap (λ (n : ℕ). length done + n) (open-size t o)
 
 abbrev ToldFrom : ℕ → Draft → List ℕ → Type 0
 ToldFrom n d t = Told (encodeOf (d .case)) t (readFrom n d (length (encodeOf (d .case))) t)
 
 -- a record was added, and what follows it is told
 told-added : (done t : List ℕ) (n : ℕ) (e : Draft) → openNo t ≡ 0
-    → encodeOf (e .case) ≡ done ++ recordBytes (recordIn t)
+    → encodeOf (e .case) ≡ done ++ recordBytes (asRecord t)
     → ToldFrom n e (behind t)
     → Told done t (readFrom n e (length done + sizeOf t) (behind t))
 told-added done t n e o longer told =
-    told-next done t _ (recordBytes (recordIn t)) o (open-size t o) (λ b. open-bytes t b o)
+    told-next done t _ (recordBytes (asRecord t)) o (open-size t o) (λ b. open-bytes t b o)
     (rw (longer, longer-by done t o) at told)
 
 -- less is left behind a record
@@ -142,9 +142,9 @@ module _ (n : ℕ) (t : List ℕ)
       read-cases (Told (encodeOf (d .case)) t) n d (length (encodeOf (d .case))) t
       (λ z. told-ended d front t s z)
       (λ m z o. told-refused _ t m (encode-length (d .case)) (omega (arith, open-most t)))
-      (λ m z o g. told-refused _ t m (encode-length (d .case)) (omega (arith, fault-most d (recordIn t))))
-      (λ z o g. let a = add-record d front s (recordIn t) g in
-      told-added (encodeOf (d .case)) t n (addOf d (recordIn t)) o (a .longer) (next o _ _ (a .sound)))
+      (λ m z o g. told-refused _ t m (encode-length (d .case)) (omega (arith, fault-most d (asRecord t))))
+      (λ z o g. let a = add-record d front s (asRecord t) g in
+      told-added (encodeOf (d .case)) t n (addOf d (asRecord t)) o (a .longer) (next o _ _ (a .sound)))
 
   told-first : Told [] t (readFrom (suc n) blankDraft 0 t)
   unfolding endedOf blankDraft pick
@@ -152,9 +152,9 @@ module _ (n : ℕ) (t : List ℕ)
       read-cases (Told [] t) n blankDraft 0 t
       (λ z. told-refused [] t 0 (omega arith) (omega arith))
       (λ m z o. told-refused [] t m (omega arith) (omega (arith, open-most t)))
-      (λ m z o g. told-refused [] t m (omega arith) (omega (arith, fault-most blankDraft (recordIn t))))
-      (λ z o g. let b = blank-first (recordIn t) g in
-      told-added [] t n (addOf blankDraft (recordIn t)) o
+      (λ m z o g. told-refused [] t m (omega arith) (omega (arith, fault-most blankDraft (asRecord t))))
+      (λ z o g. let b = blank-first (asRecord t) g in
+      told-added [] t n (addOf blankDraft (asRecord t)) o
       (rw (b .1) (begun-longer (b .0) (b .2))) (next o _ 1 (rw (b .1) (begun-sound (b .0) (b .2)))))
 
 -- what reading behind a sound draft answers

@@ -11,19 +11,19 @@ use Rattle.cases.specs.declared.case.Step.{Step}
 use Rattle.cases.specs.declared.case.Run.{Run}
 use Rattle.cases.specs.declared.case.Case.{Case}
 use Rattle.cases.specs.declared.record.Record.the-variants.{Take}
-use Rattle.cases.specs.declared.places.Place.{Place}
-use Rattle.cases.specs.Sizes.{mostSteps}
+use Rattle.cases.specs.declared.seats.Seat.{Seat}
+use Rattle.cases.specs.Sizes.{mostSteps, stepSize}
 use Rattle.cases.specs.Bytes.{halfBytes}
 use Rattle.cases.specs.Record.{payloadBytes, recordBytes}
 use Rattle.cases.specs.Draft.{runWith, withRun, withStep}
-use Rattle.cases.specs.Places.{fromSteps, places, stepPlace, placeBytes, bytesAt, encodeOf, stepsBytes}
+use Rattle.cases.specs.Seats.{fromSteps, seats, stepSeat, seatBytes, bytesAt, encodeOf, stepsBytes}
 use Rattle.cases.proofs.ChoiceLaws.{pick-true}
 use Rattle.cases.proofs.EachLaws.{each-more}
-use Rattle.cases.proofs.PlaceLaws.{place-step, place-same}
+use Rattle.cases.proofs.SeatLaws.{seat-step, seat-same}
 use Rattle.cases.proofs.WithLaws.{step-same, step-other}
 
 -- how long the steps' bytes are
-pub steps-length : (ks : List Step) → length (stepsBytes ks) ≡ 8 * length ks
+pub steps-length : (ks : List Step) → length (stepsBytes ks) ≡ stepSize * length ks
 unfolding stepsBytes recordBytes payloadBytes halfBytes
 steps-length [] = refl
 steps-length (k ∷ ks) = omega (arith, length-append (recordBytes (Take k)) (stepsBytes ks), steps-length ks)
@@ -44,18 +44,18 @@ run-more js k h =
 -- a step more behind a run: its bytes are added at the end of the file
 step-longer : (c : Case) (r : Run) (k : Step) → r .count < mostSteps → length (r .steps) ≡ mostSteps
     → encodeOf (withRun c (withStep r k)) ≡ encodeOf (withRun c r) ++ recordBytes (Take k)
-unfolding encodeOf bytesAt placeBytes withRun stepPlace
+unfolding encodeOf bytesAt seatBytes withRun stepSeat
 step-longer c r k h long =
     let more : Case = withRun c (withStep r k) in
     let less : Case = withRun c r in
-    each-more places (fromSteps + r .count) (bytesAt more) (bytesAt less) (omega arith)
-    (λ j n. ap placeBytes
-    (place-same more less j (λ z. refl) (λ l z. refl) (λ m z. refl) (λ l z. refl) (λ t z. refl)
+    each-more seats (fromSteps + r .count) (bytesAt more) (bytesAt less) (omega arith)
+    (λ j n. ap seatBytes
+    (seat-same more less j (λ z. refl) (λ l z. refl) (λ m z. refl) (λ l z. refl) (λ t z. refl)
     (λ i z. step-other r k i (λ q. n (omega arith)))))
-    (λ j n. ap placeBytes (place-step less j (j - fromSteps) (omega arith)
+    (λ j n. ap seatBytes (seat-step less j (j - fromSteps) (omega arith)
     ∙ pick-true (leb (r .count) (j - fromSteps)) _ _ (le-leb (r .count) (j - fromSteps) (omega arith))))
-    ∙ ap (λ (x : Place). encodeOf less ++ placeBytes x)
-    (place-step more (fromSteps + r .count) (r .count) refl ∙ step-same r k (omega arith))
+    ∙ ap (λ (x : Seat). encodeOf less ++ seatBytes x)
+    (seat-step more (fromSteps + r .count) (r .count) refl ∙ step-same r k (omega arith))
 
 -- the steps ks behind the steps js
 pub file-more : (c : Case) (ks js : List Step) → length js + length ks ≤ mostSteps

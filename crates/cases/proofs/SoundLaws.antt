@@ -1,5 +1,5 @@
 -- What holds of a draft after each record, and what a record more does to the case's file: its bytes are added
--- at the end. Records come at rising places: `front` is the place behind the last one. Assumes nothing.
+-- at the end. Records come at rising seats: `front` is the seat behind the last one. Assumes nothing.
 use Prim.Native.Nat.{ℕ, suc, _+_, _*_, _<_, _≤_}
 use mathlib.Core.Path.{_≡_, refl, ap, _∙_}
 use mathlib.Core.Logic.{_≢_}
@@ -15,15 +15,15 @@ use Rattle.cases.specs.declared.case.Ask.{Ask}
 use Rattle.cases.specs.declared.case.Run.{Run}
 use Rattle.cases.specs.declared.draft.Draft.{Draft}
 use Rattle.cases.specs.declared.record.Record.{Record}
-use Rattle.cases.specs.declared.places.Place.{Place}
-use Rattle.cases.specs.declared.places.Place.the-variants.{Holds, Empty}
+use Rattle.cases.specs.declared.seats.Seat.{Seat}
+use Rattle.cases.specs.declared.seats.Seat.the-variants.{Holds, Empty}
 use Rattle.cases.specs.Sizes.{mostThreads, mostInstructions, mostLocations, mostSteps, mostCode}
 use Rattle.cases.specs.Record.{recordBytes}
 use Rattle.cases.specs.Draft.{addOf}
-use Rattle.cases.specs.Places.{fromFirsts, fromCode, fromWants, fromPassed, fromSteps}
-use Rattle.cases.specs.Places.{places, placeOf, placeBytes, bytesAt, encodeOf}
+use Rattle.cases.specs.Seats.{fromFirsts, fromCode, fromWants, fromPassed, fromSteps}
+use Rattle.cases.specs.Seats.{seats, seatOf, seatBytes, bytesAt, encodeOf}
 use Rattle.cases.proofs.EachLaws.{each-more}
-use Rattle.cases.proofs.FitLaws.{RecordFits, PlaceFits, Grown, record-grown, place-grown}
+use Rattle.cases.proofs.FitLaws.{RecordFits, SeatFits, Grown, record-grown, seat-grown}
 
 -- how long the arrays are, and how much they hold at most
 pub record ProgramSized (p : Program) : Type 0 where
@@ -64,8 +64,8 @@ pub record Fronts (d : Draft) (front : ℕ) : Type 0 where
 pub record Sound (d : Draft) (front : ℕ) : Type 0 where
   pub sized : Sized (d .case)
   pub fronts : Fronts d front
-  pub blank : (j : ℕ) → front ≤ j → placeOf (d .case) j ≡ Empty
-  pub ranged : (j : ℕ) → PlaceFits (d .case .program) (placeOf (d .case) j)
+  pub blank : (j : ℕ) → front ≤ j → seatOf (d .case) j ≡ Empty
+  pub ranged : (j : ℕ) → SeatFits (d .case .program) (seatOf (d .case) j)
 
 -- what a record more does
 pub record Added (d : Draft) (r : Record) : Type 0 where
@@ -73,13 +73,13 @@ pub record Added (d : Draft) (r : Record) : Type 0 where
   pub sound : Sound (addOf d r) (suc spot)
   pub longer : encodeOf (addOf d r .case) ≡ encodeOf (d .case) ++ recordBytes r
 
--- A record behind a sound draft: it stands at a place of its own, at the front or behind it, and every other
--- place is as it was
+-- A record behind a sound draft: it stands at a seat of its own, at the front or behind it, and every other
+-- seat is as it was
 pub record Stands (d : Draft) (front : ℕ) (r : Record) (spot : ℕ) : Type 0 where
   pub reached : front ≤ spot
-  pub inside : spot < places
-  pub here : placeOf (addOf d r .case) spot ≡ Holds r
-  pub other : (j : ℕ) → j ≢ spot → placeOf (addOf d r .case) j ≡ placeOf (d .case) j
+  pub inside : spot < seats
+  pub here : seatOf (addOf d r .case) spot ≡ Holds r
+  pub other : (j : ℕ) → j ≢ spot → seatOf (addOf d r .case) j ≡ seatOf (d .case) j
   pub grown : Grown (d .case .program) (addOf d r .case .program)
   pub fit : RecordFits (d .case .program) r
   pub sized : Sized (addOf d r .case)
@@ -89,28 +89,28 @@ pub record Stands (d : Draft) (front : ℕ) (r : Record) (spot : ℕ) : Type 0 w
 module _ (d : Draft) (front : ℕ) (s : Sound d front)
     (r : Record) (spot : ℕ) (stands : Stands d front r spot) where
   add-longer : encodeOf (addOf d r .case) ≡ encodeOf (d .case) ++ recordBytes r
-  unfolding encodeOf bytesAt placeBytes
+  unfolding encodeOf bytesAt seatBytes
   add-longer =
       let reached = stands .reached in
-      each-more places spot (bytesAt (addOf d r .case)) (bytesAt (d .case)) (stands .inside)
-      (λ j n. ap placeBytes (stands .other j n))
-      (λ j n. ap placeBytes (s .blank j (omega arith)))
-      ∙ ap (λ (x : Place). encodeOf (d .case) ++ placeBytes x) (stands .here)
+      each-more seats spot (bytesAt (addOf d r .case)) (bytesAt (d .case)) (stands .inside)
+      (λ j n. ap seatBytes (stands .other j n))
+      (λ j n. ap seatBytes (s .blank j (omega arith)))
+      ∙ ap (λ (x : Seat). encodeOf (d .case) ++ seatBytes x) (stands .here)
 
-  add-blank : (j : ℕ) → suc spot ≤ j → placeOf (addOf d r .case) j ≡ Empty
+  add-blank : (j : ℕ) → suc spot ≤ j → seatOf (addOf d r .case) j ≡ Empty
   add-blank j h =
       let reached = stands .reached in
       stands .other j (λ e. omega arith) ∙ s .blank j (omega arith)
 
-  add-ranged : (j : ℕ) → PlaceFits (addOf d r .case .program) (placeOf (addOf d r .case) j)
-  unfolding PlaceFits
+  add-ranged : (j : ℕ) → SeatFits (addOf d r .case .program) (seatOf (addOf d r .case) j)
+  unfolding SeatFits
   add-ranged j = go (eqb j spot) refl
     where
-      go : (t : Bool) → eqb j spot ≡ t → PlaceFits (addOf d r .case .program) (placeOf (addOf d r .case) j)
+      go : (t : Bool) → eqb j spot ≡ t → SeatFits (addOf d r .case .program) (seatOf (addOf d r .case) j)
       go true e = rw (eqb-true j spot e, stands .here) (record-grown _ _ (stands .grown) r (stands .fit))
       go false e =
           rw (stands .other j (eqb-false j spot e))
-          (place-grown _ _ (stands .grown) (placeOf (d .case) j) (s .ranged j))
+          (seat-grown _ _ (stands .grown) (seatOf (d .case) j) (s .ranged j))
 
   pub added : Added d r
   added =

@@ -21,7 +21,7 @@ use Rattle.cases.specs.Reading.{refusedOf, endedOf, readFrom, readOf}
 use Rattle.cases.proofs.ChoiceLaws.{pick-true, pick-false}
 use Rattle.cases.proofs.BytesLaws.{open-whole}
 use Rattle.cases.proofs.DraftLaws.{add-sizes}
-use Rattle.cases.proofs.ReadLaws.{recordIn, read-cases}
+use Rattle.cases.proofs.ReadLaws.{asRecord, read-cases}
 
 -- openedAs, back from what the code has: the record, or the number
 opened-as : (k : ℕ) (q r : Record) → Opens r ≡ openedAs k q → (k ≡ 0) × (r ≡ q)
@@ -98,7 +98,7 @@ module _ {s : List ℕ} {d : Draft} {at : ℕ} (so : ReadSoFar s d at) where
     pub read-faulty : (m : ℕ) → Faulty m ≡ openOf rest → refusedOf m at ≡ readOf s
     unfolding openOf
     read-faulty m e =
-        let o = faulty-as (openNo (drop at s)) m (recordIn (drop at s)) (rw rest-is at e) in
+        let o = faulty-as (openNo (drop at s)) m (asRecord (drop at s)) (rw rest-is at e) in
         turn (refusedOf m at) (λ k. read-cases (λ (x : Reading). x ≡ refusedOf m at) k d at (drop at s)
         (λ z. absurd (some z))
         (λ i z q. ap (λ (j : ℕ). refusedOf j at) (sym q ∙ o .0))
@@ -107,14 +107,14 @@ module _ {s : List ℕ} {d : Draft} {at : ℕ} (so : ReadSoFar s d at) where
 
     -- the record opens as r
     module _ (r : Record) (e : Opens r ≡ openOf rest) where
-      opens : (openNo (drop at s) ≡ 0) × (r ≡ recordIn (drop at s))
+      opens : (openNo (drop at s) ≡ 0) × (r ≡ asRecord (drop at s))
       unfolding openOf
-      opens = opened-as (openNo (drop at s)) (recordIn (drop at s)) r (rw rest-is at e)
+      opens = opened-as (openNo (drop at s)) (asRecord (drop at s)) r (rw rest-is at e)
 
       -- the record has a fault
       pub read-fault : (m : ℕ) → m ≡ faultOf d r → m ≢ 0 → refusedOf m at ≡ readOf s
       read-fault m f h =
-          let g : m ≡ faultOf d (recordIn (drop at s)) = f ∙ ap (faultOf d) (opens .1) in
+          let g : m ≡ faultOf d (asRecord (drop at s)) = f ∙ ap (faultOf d) (opens .1) in
           turn (refusedOf m at) (λ k. read-cases (λ (x : Reading). x ≡ refusedOf m at) k d at (drop at s)
           (λ z. absurd (some z))
           (λ i z q. absurd (omega (arith, opens .0)))

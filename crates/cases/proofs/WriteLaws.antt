@@ -16,7 +16,7 @@ use Rattle.cases.specs.declared.writer.Wrote.the-variants.{Stored, Untou
 use Rattle.cases.specs.Sizes.{longest}
 use Rattle.cases.specs.Choice.{pick, both}
 use Rattle.cases.specs.Reading.{numberOf, offsetOf, readOf, unreadOf}
-use Rattle.cases.specs.Places.{encodeOf}
+use Rattle.cases.specs.Seats.{encodeOf}
 use Rattle.cases.specs.Writing.{sameCase, readsAs, readsBack, wroteOf, writtenOf}
 use Rattle.cases.proofs.ChoiceLaws.{pick-true, false-not}
 use Rattle.cases.proofs.LengthLaws.{encode-length}

@@ -2,9 +2,14 @@
 -- "Within a record the checks go in the order 1 (head), 2, 3, 1 (payload), 4, 5, 8, 6, 7, 9." Number 5 looks
 -- only at fields that are used; an unused field is a matter for 8.
 --   misplaced        4
+--   headerOut, instructionOut, passedOut, stepOut
+--                    5: something that a record of that kind names is out of range
+--   instructionLeft, stepLeft
+--                    8: a field left over that is not used
 --   disordered       6
---   ..Out            5
---   ..Left           8: a field left over that is not used, or a 0 that says nothing
+--   usesLocation, usesRegister, usesWord
+--                    which fields an operation uses
+--   countAt p t      how many instructions thread t of the program p has
 --   faultOf d r      0, or the number of the first fault of record r behind the draft d
 -- Assumes nothing.
 use Prim.Native.Nat.{ℕ}
@@ -20,6 +25,8 @@ use Rattle.cases.specs.declared.record.Header.{Header}
 use Rattle.cases.specs.declared.record.Record.{Record}
 use Rattle.cases.specs.declared.record.Record.the-variants.{Declare, First, Instruct, Want, Passed, Take}
 use Rattle.cases.specs.Sizes.{mostThreads, mostInstructions, mostLocations, mostRegisters, mostSteps}
+use Rattle.cases.specs.Operations.{storeWord, storeRegister, exchange, flushOpt, lastOperation}
+use Rattle.cases.specs.Operations.{move, persist, lastCode}
 use Rattle.cases.specs.Choice.{pick, both, either, refuse}
 
 -- "Exactly one kind 1, first; afterwards kinds never go down." Where nothing stands before, that kind is 0.
@@ -53,18 +60,18 @@ headerOut h =
 -- (location, register); 4 exchange (location, register, word); 5 flush (location); 6 flush-opt (location);
 -- 7 sfence; 8 mfence."
 abbrev pub usesLocation : ℕ → Bool
-usesLocation op = leb op 6
+usesLocation op = leb op flushOpt
 
 unfoldable pub usesRegister : ℕ → Bool
-usesRegister op = both (leb 2 op) (leb op 4)
+usesRegister op = both (leb storeRegister op) (leb op exchange)
 
 unfoldable pub usesWord : ℕ → Bool
-usesWord op = either (eqb op 1) (eqb op 4)
+usesWord op = either (eqb op storeWord) (eqb op exchange)
 
 unfoldable pub instructionOut : Program → Thread → Instruction → Bool
 instructionOut p t x =
     either (leb (p .threads) (t .0))
-    (either (outside (x .operation) 8)
+    (either (outside (x .operation) lastOperation)
     (either (beyond (usesLocation (x .operation)) (x .location .0) (p .locations))
     (beyond (usesRegister (x .operation)) (x .register .0) mostRegisters)))
 
@@ -74,26 +81,26 @@ instructionLeft x =
     (either (leftOver (usesRegister (x .operation)) (x .register .0))
     (leftOver (usesWord (x .operation)) (x .word)))
 
--- how many instructions the thread has
-abbrev pub countOf : Program → Thread → ℕ
-countOf p t = getD (p .counts) (t .0) 0
+-- how many instructions thread t has
+abbrev pub countAt : Program → ℕ → ℕ
+countAt p t = getD (p .counts) t 0
 
 unfoldable pub passedOut : Program → Thread → ℕ → Bool
-passedOut p t n = either (leb (p .threads) (t .0)) (ltb (countOf p t) n)
+passedOut p t n = either (leb (p .threads) (t .0)) (ltb (countAt p (t .0)) n)
 
 -- "Step codes: 0 issue (thread); 1 move (thread, position 0 to 7); 2 persist (location)."
 unfoldable pub stepOut : Program → Step → Bool
 stepOut p k =
-    either (ltb 2 (k .code))
-    (either (beyond (leb (k .code) 1) (k .thread .0) (p .threads))
-    (either (beyond (eqb (k .code) 1) (k .position) mostInstructions)
-    (beyond (eqb (k .code) 2) (k .location .0) (p .locations))))
+    either (ltb lastCode (k .code))
+    (either (beyond (leb (k .code) move) (k .thread .0) (p .threads))
+    (either (beyond (eqb (k .code) move) (k .position) mostInstructions)
+    (beyond (eqb (k .code) persist) (k .location .0) (p .locations))))
 
 unfoldable pub stepLeft : Step → Bool
 stepLeft k =
-    either (leftOver (leb (k .code) 1) (k .thread .0))
-    (either (leftOver (eqb (k .code) 1) (k .position))
-    (leftOver (eqb (k .code) 2) (k .location .0)))
+    either (leftOver (leb (k .code) move) (k .thread .0))
+    (either (leftOver (eqb (k .code) move) (k .position))
+    (leftOver (eqb (k .code) persist) (k .location .0)))
 
 -- 5 and 8 of a step, as for a kind 6 record
 unfoldable pub stepFault : Program → Step → ℕ
@@ -113,7 +120,7 @@ faultOf d (Instruct t x) =
     (refuse (instructionOut (d .case .program) t x) 5
     (refuse (instructionLeft x) 8
     (refuse (disordered d 3 (t .0)) 6
-    (refuse (leb mostInstructions (countOf (d .case .program) t)) 7 0))))
+    (refuse (leb mostInstructions (countAt (d .case .program) (t .0))) 7 0))))
 faultOf d (Want w) =
     refuse (misplaced (d .kind) 4) 4
     (refuse (leb (d .case .program .locations) (w .location .0)) 5

@@ -1,7 +1,12 @@
 -- A case while it is read: the case so far, the kind of the record before (0: none), and the least number that
 -- may come next in that kind.
 --   emptyCase    "the fixed empty one: one thread, one location, no further records"
+--   noInstruction, noStep   what stands in an array where the case has nothing
+--   withSizes, withFirst, withInstruction, withWant, withPassed, withStep
+--                a part of the case with what one record says
+--   withProgram, withAsk, withRun   a case with another such part
 --   runWith ks   a run of the steps ks, as a case holds it
+--   blankDraft   the draft before any record
 --   addOf d r    the draft with the record r behind it
 -- Assumes nothing.
 use Prim.Native.Nat.{ℕ, _+_, _-_, _*_}
@@ -21,9 +26,8 @@ use Rattle.cases.specs.declared.record.Header.{Header}
 use Rattle.cases.specs.declared.record.Record.{Record}
 use Rattle.cases.specs.declared.record.Record.the-variants.{Declare, First, Instruct, Want, Passed, Take}
 use Rattle.cases.specs.Sizes.{mostThreads, mostInstructions, mostLocations, mostSteps, mostCode}
-use Rattle.cases.specs.Checks.{countOf}
+use Rattle.cases.specs.Checks.{countAt}
 
--- what stands in an unused place
 abbrev pub noInstruction : Instruction
 noInstruction = record { operation = 0; location = record { 0 = 0 }; register = record { 0 = 0 }; word = 0 }
 
@@ -75,8 +79,8 @@ withInstruction p t x =
       threads = p .threads;
       locations = p .locations;
       first = p .first;
-      counts = set (p .counts) (t .0) (countOf p t + 1);
-      code = set (p .code) (t .0 * mostInstructions + countOf p t) x;
+      counts = set (p .counts) (t .0) (countAt p (t .0) + 1);
+      code = set (p .code) (t .0 * mostInstructions + countAt p (t .0)) x;
     }
 
 unfoldable pub withWant : Ask → Write → Ask
@@ -93,7 +97,6 @@ withPassed a t n = record { wanted = a .wanted; want = a .want; passed = set (a 
 unfoldable pub withStep : Run → Step → Run
 withStep r k = record { count = r .count + 1; steps = set (r .steps) (r .count) k }
 
--- a run of the steps ks, as a case holds it
 unfoldable pub runWith : List Step → Run
 runWith ks = record { count = length ks; steps = ks ++ replicate (mostSteps - length ks) noStep }
 

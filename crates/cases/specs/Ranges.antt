@@ -12,12 +12,13 @@ use Rattle.cases.specs.declared.case.Program.{Program}
 use Rattle.cases.specs.declared.case.Instruction.{Instruction}
 use Rattle.cases.specs.Sizes.{mostThreads, mostInstructions, mostLocations}
 use Rattle.cases.specs.Sizes.{mostRegisters, mostSteps, mostCode}
-use Rattle.cases.specs.Checks.{stepFault}
+use Rattle.cases.specs.Operations.{lastOperation}
+use Rattle.cases.specs.Checks.{countAt, stepFault}
 use Rattle.cases.specs.Draft.{noInstruction, noStep}
 
 pub record InstructionFits (p : Program) (x : Instruction) : Type 0 where
   pub some-operation : 1 ≤ x .operation
-  pub low-operation : x .operation ≤ 8
+  pub low-operation : x .operation ≤ lastOperation
   pub low-location : x .location .0 < p .locations
   pub low-register : x .register .0 < mostRegisters
 
@@ -34,11 +35,11 @@ pub record Ranged (c : Case) : Type 0 where
   pub few-threads : c .program .threads ≤ mostThreads
   pub some-locations : 1 ≤ c .program .locations
   pub few-locations : c .program .locations ≤ mostLocations
-  pub few-instructions : (t : ℕ) → getD (c .program .counts) t 0 ≤ mostInstructions
-  pub instructions : (t i : ℕ) → i < getD (c .program .counts) t 0
+  pub few-instructions : (t : ℕ) → countAt (c .program) t ≤ mostInstructions
+  pub instructions : (t i : ℕ) → i < countAt (c .program) t
       → (t < c .program .threads)
       × InstructionFits (c .program) (getD (c .program .code) (t * mostInstructions + i) noInstruction)
   pub wants : (l : ℕ) → getD (c .ask .wanted) l false ≡ true → l < c .program .locations
-  pub passed : (t : ℕ) → getD (c .ask .passed) t 0 ≤ getD (c .program .counts) t 0
+  pub passed : (t : ℕ) → getD (c .ask .passed) t 0 ≤ countAt (c .program) t
   pub few-steps : c .run .count ≤ mostSteps
   pub steps : (k : ℕ) → k < c .run .count → stepFault (c .program) (getD (c .run .steps) k noStep) ≡ 0

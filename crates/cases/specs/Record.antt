@@ -2,8 +2,11 @@
 --   kindOf r           the record's kind, 1 to 6
 --   payloadOf k        how long the payload of kind k is; 0: there is no such kind
 --   recordBytes r      the record's bytes: "a two-byte payload length, a two-byte kind, the payload"
+--   payloadBytes r     its payload's
+--   asHeader, asWrite, asInstruction, asStep   the bytes s as what a payload holds, behind a head of 4 bytes
 --   recordOf k s       the record of kind k whose bytes s starts with
 --   openNo s           0 where s starts with a whole record, else the number of the refusal
+--   openedAs n r       how a record opens: as r where n is 0, else with the refusal n
 --   openOf s           how the record opens that s starts with
 --   sizeOf s           how long that record is, by its head
 -- Assumes nothing.
@@ -16,7 +19,7 @@ use Rattle.cases.specs.declared.case.Write.{Write}
 use Rattle.cases.specs.declared.case.Instruction.{Instruction}
 use Rattle.cases.specs.declared.case.Step.{Step}
 use Rattle.cases.specs.declared.record.Header.{Header}
-use Rattle.cases.specs.declared.record.Packed.{Packed}
+use Rattle.cases.specs.declared.record.Padded.{Padded}
 use Rattle.cases.specs.declared.record.Record.{Record}
 use Rattle.cases.specs.declared.record.Record.the-variants.{Declare, First, Instruct, Want, Passed, Take}
 use Rattle.cases.specs.declared.record.Opened.{Opened}
@@ -57,17 +60,17 @@ unfoldable pub recordBytes : Record → List ℕ
 recordBytes r = halfBytes (payloadOf (kindOf r)) ++ halfBytes (kindOf r) ++ payloadBytes r
 
 -- a record's bytes as the code holds them: 0 behind them
-unfoldable pub packedOf : List ℕ → Packed
-packedOf s = record { length = length s; bytes = s ++ replicate (longestRecord - length s) 0 }
+unfoldable pub paddedOf : List ℕ → Padded
+paddedOf s = record { length = length s; bytes = s ++ replicate (longestRecord - length s) 0 }
 
-unfoldable pub headerIn : List ℕ → Header
-headerIn s = record { version = half s 4; threads = getD s 6 0; locations = getD s 7 0 }
+unfoldable pub asHeader : List ℕ → Header
+asHeader s = record { version = half s 4; threads = getD s 6 0; locations = getD s 7 0 }
 
-unfoldable pub writeIn : List ℕ → Write
-writeIn s = record { location = record { 0 = getD s 4 0 }; word = wordAt s 5 }
+unfoldable pub asWrite : List ℕ → Write
+asWrite s = record { location = record { 0 = getD s 4 0 }; word = wordAt s 5 }
 
-unfoldable pub instructionIn : List ℕ → Instruction
-instructionIn s =
+unfoldable pub asInstruction : List ℕ → Instruction
+asInstruction s =
     record {
       operation = getD s 5 0;
       location = record { 0 = getD s 6 0 };
@@ -75,8 +78,8 @@ instructionIn s =
       word = wordAt s 8;
     }
 
-unfoldable pub stepIn : List ℕ → Step
-stepIn s =
+unfoldable pub asStep : List ℕ → Step
+asStep s =
     record {
       thread = record { 0 = getD s 4 0 };
       code = getD s 5 0;
@@ -86,12 +89,12 @@ stepIn s =
 
 unfoldable pub recordOf : ℕ → List ℕ → Record
 recordOf k s =
-    pick (eqb k 1) (Declare (headerIn s))
-    (pick (eqb k 2) (First (writeIn s))
-    (pick (eqb k 3) (Instruct (record { 0 = getD s 4 0 }) (instructionIn s))
-    (pick (eqb k 4) (Want (writeIn s))
+    pick (eqb k 1) (Declare (asHeader s))
+    (pick (eqb k 2) (First (asWrite s))
+    (pick (eqb k 3) (Instruct (record { 0 = getD s 4 0 }) (asInstruction s))
+    (pick (eqb k 4) (Want (asWrite s))
     (pick (eqb k 5) (Passed (record { 0 = getD s 4 0 }) (getD s 5 0))
-    (Take (stepIn s))))))
+    (Take (asStep s))))))
 
 unfoldable pub openNo : List ℕ → ℕ
 openNo s =

@@ -1,6 +1,9 @@
 -- Document 01, "Sizes": the most of each thing. src/sizes.rt has the same numbers for the code.
---   longest         the longest file, in bytes: every place of a file filled (Places)
+--   mostThreads, mostLocations, mostSteps        of a case
+--   mostInstructions, mostRegisters              of a thread
+--   longest         the longest file, in bytes: every seat of a file filled (Seats)
 --   longestRecord   the longest record, head and payload
+--   stepSize        a step's record, head and payload
 -- Assumes nothing.
 use Prim.Native.Nat.{ℕ, _*_}
 
@@ -28,3 +31,6 @@ longest = 1328
 
 abbrev pub longestRecord : ℕ
 longestRecord = 12
+
+abbrev pub stepSize : ℕ
+stepSize = 8

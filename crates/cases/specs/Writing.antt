@@ -1,5 +1,7 @@
 -- Document 01, "Refusal numbers": writing, and 32, "a case in memory that no byte string reads as".
---   sameCase c d     the two cases are the same in every field
+--   wroteNo, wroteLength   the number that an answer stands for, and the length
+--   sameList, sameFlag, sameInstruction, sameStep, sameProgram, sameAsk, sameRun, sameCase
+--                    the two are the same in every field; sameList by a test of two elements
 --   readsBack c      the case's file reads as the case: 32 where it does not
 --   wroteOf c out    what writing the case into the lent bytes `out` answers
 --   writtenOf c out  what they hold afterwards
@@ -19,7 +21,7 @@ use Rattle.cases.specs.declared.writer.Wrote.{Wrote}
 use Rattle.cases.specs.declared.writer.Wrote.the-variants.{Stored, Untouched}
 use Rattle.cases.specs.Choice.{pick, both}
 use Rattle.cases.specs.Reading.{numberOf, readOf}
-use Rattle.cases.specs.Places.{encodeOf}
+use Rattle.cases.specs.Seats.{encodeOf}
 
 -- "writing 0 and the length"
 abbrev pub wroteNo : Wrote → ℕ

@@ -6,6 +6,14 @@ use crate::case::Step;
 use crate::case::Thread;
 use crate::case::Write;
 use crate::draft::Draft;
+use crate::operations::EXCHANGE;
+use crate::operations::FLUSH_OPT;
+use crate::operations::LAST_CODE;
+use crate::operations::LAST_OPERATION;
+use crate::operations::MOVE;
+use crate::operations::PERSIST;
+use crate::operations::STORE_REGISTER;
+use crate::operations::STORE_WORD;
 use crate::record::Header;
 use crate::record::Record;
 use crate::sizes::INSTRUCTIONS;
@@ -32,7 +40,7 @@ ghost use Rattle.cases.specs.Checks.{
   stepOut,
   stepLeft,
   stepFault,
-  countOf,
+  countAt,
   faultOf,
 };
 
@@ -103,14 +111,14 @@ fn is_header_out(h: Header) -> bool
 fn uses_location(op: u8) -> bool
     ensures { λ r. ⌜ r ≡ usesLocation op ⌝ }
 {
-    op <= 6
+    op <= FLUSH_OPT
 }
 
 fn uses_register(op: u8) -> bool
     ensures { λ r. ⌜ r ≡ usesRegister op ⌝ }
 {
-    if 2 <= op {
-        return op <= 4;
+    if STORE_REGISTER <= op {
+        return op <= EXCHANGE;
     }
     false
 }
@@ -118,10 +126,10 @@ fn uses_register(op: u8) -> bool
 fn uses_word(op: u8) -> bool
     ensures { λ r. ⌜ r ≡ usesWord op ⌝ }
 {
-    if op == 1 {
+    if op == STORE_WORD {
         return true;
     }
-    op == 4
+    op == EXCHANGE
 }
 
 fn is_instruction_out(p: Program, t: Thread, x: Instruction) -> bool
@@ -131,7 +139,7 @@ fn is_instruction_out(p: Program, t: Thread, x: Instruction) -> bool
     if p.threads <= t.0 {
         return true;
     }
-    if is_outside(op, 8) {
+    if is_outside(op, LAST_OPERATION) {
         return true;
     }
     if is_beyond(uses_location(op), x.location.0, p.locations) {
@@ -155,7 +163,7 @@ fn is_instruction_left(x: Instruction) -> bool
 
 // How many instructions the thread has; none where there is no such thread.
 pub(crate) fn count(p: Program, t: Thread) -> u8
-    ensures { λ r. ⌜ r ≡ countOf p t ⌝ }
+    ensures { λ r. ⌜ r ≡ countAt p (t .0) ⌝ }
 {
     let counts = p.counts;
     let at = t.0 as usize;
@@ -175,29 +183,29 @@ fn is_step_out(p: Program, k: Step) -> bool
     ensures { λ r. ⌜ r ≡ stepOut p k ⌝ }
 {
     let code = k.code;
-    if 2 < code {
+    if LAST_CODE < code {
         return true;
     }
-    if is_beyond(code <= 1, k.thread.0, p.threads) {
+    if is_beyond(code <= MOVE, k.thread.0, p.threads) {
         return true;
     }
-    if is_beyond(code == 1, k.position, INSTRUCTIONS as u8) {
+    if is_beyond(code == MOVE, k.position, INSTRUCTIONS as u8) {
         return true;
     }
-    is_beyond(code == 2, k.location.0, p.locations)
+    is_beyond(code == PERSIST, k.location.0, p.locations)
 }
 
 fn is_step_left(k: Step) -> bool
     ensures { λ r. ⌜ r ≡ stepLeft k ⌝ }
 {
     let code = k.code;
-    if is_left_over(code <= 1, k.thread.0 as u32) {
+    if is_left_over(code <= MOVE, k.thread.0 as u32) {
         return true;
     }
-    if is_left_over(code == 1, k.position as u32) {
+    if is_left_over(code == MOVE, k.position as u32) {
         return true;
     }
-    is_left_over(code == 2, k.location.0 as u32)
+    is_left_over(code == PERSIST, k.location.0 as u32)
 }
 
 // 5 and 8 of a step, as for a kind 6 record.

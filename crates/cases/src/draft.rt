@@ -21,7 +21,7 @@ ghost use Prim.Native.Nat.{_<_, _≤_};
 ghost use Rattle.cases.specs.declared.record.Record.the-variants.{Declare, First, Instruct};
 ghost use Rattle.cases.specs.declared.record.Record.the-variants.{Want, Passed, Take};
 ghost use Rattle.cases.specs.Sizes.{mostThreads, mostInstructions, mostLocations, mostSteps};
-ghost use Rattle.cases.specs.Checks.{countOf, faultOf};
+ghost use Rattle.cases.specs.Checks.{countAt, faultOf};
 ghost use Rattle.cases.specs.Draft.{emptyCase, blankDraft, addOf};
 
 // The case so far, the kind of the record before (0: none), and the least number that may come next in that
@@ -108,7 +108,7 @@ fn add_first(d: Draft, w: Write) -> Draft
 }
 
 fn add_instruction(d: Draft, t: Thread, x: Instruction) -> Draft
-    requires { ⌜ (t .0 < mostThreads) × (countOf (d .case .program) t < mostInstructions) ⌝ }
+    requires { ⌜ (t .0 < mostThreads) × (countAt (d .case .program) (t .0) < mostInstructions) ⌝ }
     ensures { λ r. ⌜ r ≡ addOf d (Instruct t x) ⌝ }
 {
     let c = d.case;

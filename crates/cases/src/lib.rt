@@ -4,10 +4,11 @@ mod bytes;
 pub mod case;
 pub mod checks;
 pub mod draft;
-pub mod places;
+pub mod operations;
 pub mod reader;
 pub mod record;
 mod same;
+pub mod seats;
 pub mod sizes;
 pub mod writer;
 

@@ -1,4 +1,4 @@
-// A record of a case: opened from bytes, and packed into bytes.
+// A record of a case: opened from bytes, and padded into bytes.
 use crate::bytes::byte_at;
 use crate::bytes::half_at;
 use crate::bytes::word_at;
@@ -18,16 +18,16 @@ ghost use Rattle.cases.specs.declared.record.Record.the-variants.{Declar
 ghost use Rattle.cases.specs.Bytes.{wordBytes};
 ghost use Rattle.cases.specs.Record.{
   payloadOf,
-  headerIn,
-  writeIn,
-  instructionIn,
-  stepIn,
+  asHeader,
+  asWrite,
+  asInstruction,
+  asStep,
   recordOf,
   openOf,
   openedNo,
   sizeOf,
   recordBytes,
-  packedOf,
+  paddedOf,
 };
 
 pub struct Header {
@@ -53,7 +53,7 @@ pub enum Opened {
 }
 
 // A record's bytes, 0 behind them.
-pub struct Packed {
+pub struct Padded {
     pub length: usize,
     pub bytes: [u8; 12],
 }
@@ -83,8 +83,8 @@ fn payload(kind: u16) -> u16
     0
 }
 
-fn header_in(s: &[u8]) -> Header
-    ensures { λ r. ⌜ r ≡ headerIn (now (s .entry)) ⌝ }
+fn as_header(s: &[u8]) -> Header
+    ensures { λ r. ⌜ r ≡ asHeader (now (s .entry)) ⌝ }
 {
     Header {
         version: half_at(s, 4),
@@ -93,8 +93,8 @@ fn header_in(s: &[u8]) -> Header
     }
 }
 
-fn write_in(s: &[u8]) -> Write
-    ensures { λ r. ⌜ r ≡ writeIn (now (s .entry)) ⌝ }
+fn as_write(s: &[u8]) -> Write
+    ensures { λ r. ⌜ r ≡ asWrite (now (s .entry)) ⌝ }
 {
     Write {
         location: Location(byte_at(s, 4)),
@@ -102,8 +102,8 @@ fn write_in(s: &[u8]) -> Write
     }
 }
 
-fn instruction_in(s: &[u8]) -> Instruction
-    ensures { λ r. ⌜ r ≡ instructionIn (now (s .entry)) ⌝ }
+fn as_instruction(s: &[u8]) -> Instruction
+    ensures { λ r. ⌜ r ≡ asInstruction (now (s .entry)) ⌝ }
 {
     Instruction {
         operation: byte_at(s, 5),
@@ -113,8 +113,8 @@ fn instruction_in(s: &[u8]) -> Instruction
     }
 }
 
-fn step_in(s: &[u8]) -> Step
-    ensures { λ r. ⌜ r ≡ stepIn (now (s .entry)) ⌝ }
+fn as_step(s: &[u8]) -> Step
+    ensures { λ r. ⌜ r ≡ asStep (now (s .entry)) ⌝ }
 {
     Step {
         thread: Thread(byte_at(s, 4)),
@@ -129,21 +129,21 @@ fn decode(s: &[u8], kind: u16) -> Record
     ensures { λ r. ⌜ r ≡ recordOf kind (now (s .entry)) ⌝ }
 {
     if kind == 1 {
-        return Record::Declare(header_in(s));
+        return Record::Declare(as_header(s));
     }
     if kind == 2 {
-        return Record::First(write_in(s));
+        return Record::First(as_write(s));
     }
     if kind == 3 {
-        return Record::Instruct(Thread(byte_at(s, 4)), instruction_in(s));
+        return Record::Instruct(Thread(byte_at(s, 4)), as_instruction(s));
     }
     if kind == 4 {
-        return Record::Want(write_in(s));
+        return Record::Want(as_write(s));
     }
     if kind == 5 {
         return Record::Passed(Thread(byte_at(s, 4)), byte_at(s, 5));
     }
-    Record::Take(step_in(s))
+    Record::Take(as_step(s))
 }
 
 // How long the record is that s starts with.
@@ -186,34 +186,34 @@ pub(crate) fn opened_number(x: Opened) -> u8
     }
 }
 
-fn packed_header(h: Header) -> Packed
-    ensures { λ r. ⌜ r ≡ packedOf (recordBytes (Declare h)) ⌝ }
+fn padded_header(h: Header) -> Padded
+    ensures { λ r. ⌜ r ≡ paddedOf (recordBytes (Declare h)) ⌝ }
 {
     let v = h.version;
     let low = (v % 256) as u8;
     let high = (v / 256 % 256) as u8;
-    Packed {
+    Padded {
         length: 8,
         bytes: [4, 0, 1, 0, low, high, h.threads, h.locations, 0, 0, 0, 0],
     }
 }
 
 // A location and a word, of kind 2 or 4.
-fn packed_write(kind: u8, w: Write) -> Packed
-    ensures { λ r. ⌜ r ≡ packedOf (5 ∷ 0 ∷ kind ∷ 0 ∷ w .location .0 ∷ wordBytes (w .word)) ⌝ }
+fn padded_write(kind: u8, w: Write) -> Padded
+    ensures { λ r. ⌜ r ≡ paddedOf (5 ∷ 0 ∷ kind ∷ 0 ∷ w .location .0 ∷ wordBytes (w .word)) ⌝ }
 {
     let b = word_bytes(w.word);
-    Packed {
+    Padded {
         length: 9,
         bytes: [5, 0, kind, 0, w.location.0, b[0], b[1], b[2], b[3], 0, 0, 0],
     }
 }
 
-fn packed_instruction(t: Thread, x: Instruction) -> Packed
-    ensures { λ r. ⌜ r ≡ packedOf (recordBytes (Instruct t x)) ⌝ }
+fn padded_instruction(t: Thread, x: Instruction) -> Padded
+    ensures { λ r. ⌜ r ≡ paddedOf (recordBytes (Instruct t x)) ⌝ }
 {
     let b = word_bytes(x.word);
-    Packed {
+    Padded {
         length: 12,
         bytes: [
             8,
@@ -232,19 +232,19 @@ fn packed_instruction(t: Thread, x: Instruction) -> Packed
     }
 }
 
-fn packed_passed(t: Thread, n: u8) -> Packed
-    ensures { λ r. ⌜ r ≡ packedOf (recordBytes (Passed t n)) ⌝ }
+fn padded_passed(t: Thread, n: u8) -> Padded
+    ensures { λ r. ⌜ r ≡ paddedOf (recordBytes (Passed t n)) ⌝ }
 {
-    Packed {
+    Padded {
         length: 6,
         bytes: [2, 0, 5, 0, t.0, n, 0, 0, 0, 0, 0, 0],
     }
 }
 
-fn packed_step(k: Step) -> Packed
-    ensures { λ r. ⌜ r ≡ packedOf (recordBytes (Take k)) ⌝ }
+fn padded_step(k: Step) -> Padded
+    ensures { λ r. ⌜ r ≡ paddedOf (recordBytes (Take k)) ⌝ }
 {
-    Packed {
+    Padded {
         length: 8,
         bytes: [
             4,
@@ -263,16 +263,16 @@ fn packed_step(k: Step) -> Packed
     }
 }
 
-fn packed_record(r: Record) -> Packed
-    ensures { λ z. ⌜ z ≡ packedOf (recordBytes r) ⌝ }
+fn padded_record(r: Record) -> Padded
+    ensures { λ z. ⌜ z ≡ paddedOf (recordBytes r) ⌝ }
 {
     match r {
-        Record::Declare(h) => packed_header(h),
-        Record::First(w) => packed_write(2, w),
-        Record::Instruct(t, x) => packed_instruction(t, x),
-        Record::Want(w) => packed_write(4, w),
-        Record::Passed(t, n) => packed_passed(t, n),
-        Record::Take(k) => packed_step(k),
+        Record::Declare(h) => padded_header(h),
+        Record::First(w) => padded_write(2, w),
+        Record::Instruct(t, x) => padded_instruction(t, x),
+        Record::Want(w) => padded_write(4, w),
+        Record::Passed(t, n) => padded_passed(t, n),
+        Record::Take(k) => padded_step(k),
     }
 }
 
@@ -282,7 +282,7 @@ pub(crate) fn put_record(out: &mut [u8], at: usize, r: Record) -> usize
     ensures { λ z. ⌜ (z ≡ at + length (recordBytes r))
         × (now (out .exit) ≡ sets (now (out .entry)) at (recordBytes r)) ⌝ }
 {
-    let p = packed_record(r);
+    let p = padded_record(r);
     let n = p.length;
     let bytes = p.bytes;
     let mut i = 0;

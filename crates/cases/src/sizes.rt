@@ -12,5 +12,9 @@ pub const STEPS: usize = 96;
 
 // All threads' instructions, one thread's behind the other's.
 pub const CODE: usize = THREADS * INSTRUCTIONS;
+
 // The longest file, in bytes.
 pub const LONGEST: usize = 1328;
+
+// A step's record, in bytes.
+pub const STEP_SIZE: usize = 8;

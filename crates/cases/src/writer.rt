@@ -1,9 +1,9 @@
 // Writing: 32, then 31, then the case's bytes from the front and nothing behind them.
 use crate::case::Case;
-use crate::places::encode;
 use crate::reader::number;
 use crate::reader::read;
 use crate::same::same_case;
+use crate::seats::encode;
 use crate::sizes::LONGEST;
 ghost use mathlib.Core.Path.{_≡_};
 ghost use lib.ListN.{replicate};

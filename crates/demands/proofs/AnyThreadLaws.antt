@@ -7,18 +7,19 @@ use native.Mathlib.Omega.{arith}
 use native.Mathlib.Decide.{ℕ-discrete}
 use Rattle.cases.specs.declared.case.Program.{Program}
 use Rattle.cases.proofs.ChoiceLaws.{never-both}
+use Rattle.cases.specs.Checks.{countAt}
 use Rattle.machine.specs.declared.cells.State.{State}
 use Rattle.machine.specs.View.{wordOf, issuedOf}
-use Rattle.machine.specs.Rules.{countAt, startOf}
+use Rattle.machine.specs.Rules.{startOf}
 use Rattle.machine.specs.Fit.{ProgramFits}
 use Rattle.machine.specs.Judge.{Leads, Faultless}
-use Rattle.machine.proofs.Promises.{begin-fits}
+use Rattle.machine.proofs.Promises.{start-fits}
 use Rattle.machine.proofs.Effects.{start-buffer, start-queue, start-issued}
 use Rattle.demands.specs.Runs.{FinishedRun}
-use Rattle.demands.specs.Writes.{fixedFrom, fixedIn, Writer, LastWrite}
+use Rattle.demands.specs.Writes.{fixedFrom, fixedOf, Writer, LastWrite}
 use Rattle.demands.specs.Carried.{carriedAll, othersFrom, lastRun}
 use Rattle.demands.proofs.LastLaws.{lastOr, Settles}
-use Rattle.demands.proofs.WriteLaws.{storesIn, fixesFrom}
+use Rattle.demands.proofs.WriteLaws.{storesOf, fixesFrom}
 use Rattle.demands.proofs.ComingLaws.{coming}
 use Rattle.demands.proofs.SettleLaws.{Done, newest, run-settles}
 use Rattle.demands.proofs.LastWriteLaws.{fixes-last, fixes-unwritten, writer-last, last-one}
@@ -35,7 +36,7 @@ module _ (p : Program) (fits : ProgramFits p) where
     start-turn =
         record {
           quiet = record {
-            fit = begin-fits p fits;
+            fit = start-fits p fits;
             buffers = λ k h. start-buffer p k;
             queues = λ k h. start-queue p k;
           };
@@ -70,7 +71,7 @@ module _ (p : Program) (fits : ProgramFits p) where
 
     -- the other threads have nothing to come, so that what stands there is t's
     others-none : (k : ℕ) → k < p .threads → k ≢ t → coming p middle (carriedAll p t) l k ≡ []
-    unfolding coming storesIn fixesFrom
+    unfolding coming storesOf fixesFrom
     others-none k h e =
         let n : countAt p k - issuedOf middle k ≡ 0 = let m = first .3 .past k h e in omega arith in
         rw (first .3 .quiet .buffers k h, n) refl
@@ -110,8 +111,8 @@ module _ (p : Program) (fits : ProgramFits p) where
 
     thread-last : (u : State)
         × FinishedRun p (lastRun p t) u
-        × (wordOf u l ≡ fixedIn p (lastRun p t) t i)
-    unfolding lastRun fixedIn
+        × (wordOf u l ≡ fixedOf p (lastRun p t) t i)
+    unfolding lastRun fixedOf
     thread-last = (
       then .end,
       record {
@@ -126,14 +127,14 @@ module _ (p : Program) (fits : ProgramFits p) where
       },
       end-mine
           ∙ sym (fixed-behind p (startOf p) (othersFrom p t 0 (p .threads)) middle (carriedAll p t) t i
-          (begin-fits p fits) (first .1) (first .2) (let m = first .3 .mine in omega arith)),
+          (start-fits p fits) (first .1) (first .2) (let m = first .3 .mine in omega arith)),
     )
 
   pub any-thread : (t l : ℕ) → Writer p t l
       → (i : ℕ) × (u : State)
       × LastWrite p t l i
       × FinishedRun p (lastRun p t) u
-      × (wordOf u l ≡ fixedIn p (lastRun p t) t i)
+      × (wordOf u l ≡ fixedOf p (lastRun p t) t i)
   any-thread t l w =
       let last = writer-last p t l w in
       let run = thread-last t l (last .0) (last .1) in

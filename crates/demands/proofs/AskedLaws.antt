@@ -8,7 +8,8 @@ use Rattle.cases.specs.declared.case.Step.{Step}
 use Rattle.cases.specs.Bytes.{IsBytes}
 use Rattle.cases.specs.Draft.{runWith, withRun}
 use Rattle.cases.specs.Reading.{numberOf, readOf}
-use Rattle.cases.specs.Places.{encodeOf, stepsBytes}
+use Rattle.cases.specs.Seats.{encodeOf, stepsBytes}
+use Rattle.cases.specs.Sizes.{stepSize}
 use Rattle.machine.specs.declared.cells.State.{State}
 use Rattle.machine.specs.declared.runs.Verdict.the-variants.{Legal}
 use Rattle.machine.specs.Work.{fullLength}
@@ -19,7 +20,7 @@ use Rattle.search.specs.Question.{reaches, None, FirstThat, walkFrom, questionO
 use Rattle.search.proofs.Promises as Search
 
 module _ (s : List ℕ) (read : numberOf (readOf s .answer) ≡ 0) (b : ℕ) (out : List ℕ)
-    (room : 8 * fullLength (readOf s .case .program) ≤ length out) where
+    (room : stepSize * fullLength (readOf s .case .program) ≤ length out) where
   pub reached-exactly : (n : ℕ)
       → (questionOf s (length out) b ≡ Reached n)
       ↔ ((before : List (Visit State Step)) × (v : Visit State Step)
@@ -40,7 +41,7 @@ module _ (s : List ℕ) (read : numberOf (readOf s .answer) ≡ 0) (b : ℕ) (ou
   pub reached-shows-the-run : (before : List (Visit State Step)) (v : Visit State Step)
       → FirstThat (reaches (readOf s .case .ask)) (walkFrom (readOf s .case .program)) before v
       → length before < b
-      → shownOf s b out ≡ stepsBytes (v .run) ++ drop (8 * length (v .run)) out
+      → shownOf s b out ≡ stepsBytes (v .run) ++ drop (stepSize * length (v .run)) out
   reached-shows-the-run before v first covered =
       Search.shown-run s b out read room (v .run)
       (Search.reached-exactly (readOf s .case .program) (readOf s .case .ask) b (v .run) .1
@@ -65,13 +66,14 @@ module _ (s : List ℕ) (read : numberOf (readOf s .answer) ≡ 0) (b : ℕ) (ou
       ((λ e. a .0 (q .0 e)), (λ h. q .1 (a .1 h)))
 
 module _ (s : List ℕ) (bytes : IsBytes s) (read : numberOf (readOf s .answer) ≡ 0) (b : ℕ) (out : List ℕ)
-    (room : 8 * fullLength (readOf s .case .program) ≤ length out) where
+    (room : stepSize * fullLength (readOf s .case .program) ≤ length out) where
   pub reached-passes : (n : ℕ) → questionOf s (length out) b ≡ Reached n
       → judgeBytes
-      (encodeOf (withRun (readOf s .case) (runWith [])) ++ take (8 * n) (shownOf s b out)) .verdict
+      (encodeOf (withRun (readOf s .case) (runWith [])) ++ take (stepSize * n) (shownOf s b out)) .verdict
       ≡ Legal n
   reached-passes n e =
       let r = Search.question-reached s b out read room n .0 e in
       subst (λ (m : ℕ). judgeBytes
-      (encodeOf (withRun (readOf s .case) (runWith [])) ++ take (8 * m) (shownOf s b out)) .verdict ≡ Legal m)
+      (encodeOf (withRun (readOf s .case) (runWith [])) ++ take (stepSize * m) (shownOf s b out)) .verdict
+      ≡ Legal m)
       (sym (r .2)) (Search.stored-passes s bytes read b out room (r .0) (r .1))

@@ -8,10 +8,10 @@ use native.Mathlib.Omega.{arith}
 use Rattle.cases.specs.declared.case.Instruction.{Instruction}
 use Rattle.cases.specs.declared.case.Step.{Step}
 use Rattle.cases.specs.declared.case.Program.{Program}
-use Rattle.cases.specs.Checks.{stepFault}
+use Rattle.cases.specs.Checks.{stepFault, countAt}
 use Rattle.machine.specs.declared.cells.State.{State}
 use Rattle.machine.specs.View.{queue, buffer, issuedOf}
-use Rattle.machine.specs.Rules.{countAt, instructionAt, ruleOf, nextOf}
+use Rattle.machine.specs.Rules.{instructionAt, ruleOf, nextOf}
 use Rattle.machine.specs.Joins.{joins, exchanges}
 use Rattle.machine.specs.Judge.{Leads, Faultless}
 use Rattle.machine.specs.Next.{issueStep}

@@ -13,11 +13,12 @@ use Rattle.cases.specs.declared.case.Step.{Step}
 use Rattle.cases.specs.declared.case.Program.{Program}
 use Rattle.cases.specs.Sizes.{mostThreads, mostLocations}
 use Rattle.cases.specs.Choice.{pick}
+use Rattle.cases.specs.Checks.{countAt}
 use Rattle.machine.specs.declared.cells.State.{State}
 use Rattle.machine.specs.declared.cells.Entry.the-variants.{FlushOpt}
 use Rattle.machine.specs.View.{Slot, queue, buffer, wordOf, issuedOf}
 use Rattle.machine.specs.Look.{wordOr}
-use Rattle.machine.specs.Rules.{countAt, entryAt, ruleOf, nextOf}
+use Rattle.machine.specs.Rules.{entryAt, ruleOf, nextOf}
 use Rattle.machine.specs.Fit.{Fits}
 use Rattle.machine.specs.Next.{moveStep, persistStep}
 use Rattle.machine.proofs.Effects.{move-within, move-first-or, move-issued, move-buffer, move-buffer-other}
@@ -25,14 +26,14 @@ use Rattle.machine.proofs.Effects.{move-queue, move-word, persist-issued, persi
 use Rattle.machine.proofs.Effects.{persist-queue-other, persist-word-other}
 use Rattle.demands.specs.Writes.{issuesAt, fixedFrom}
 use Rattle.demands.proofs.LastLaws.{lastOr}
-use Rattle.demands.proofs.WriteLaws.{onlyIf, writesIn, storeOf, storesIn, fixesFrom, writes-append}
+use Rattle.demands.proofs.WriteLaws.{onlyIf, writesOf, storeOf, storesOf, fixesFrom, writes-append}
 use Rattle.demands.proofs.WriteLaws.{stores-without, fixes-same, enters-writes}
 use Rattle.demands.proofs.IssuesLaws.{fixed-next, move-issues, persist-issues}
 
 -- what thread t has to come to location l in the run ks from s: what waits in its buffer, then what it fixes
 unfoldable pub coming : Program → State → List Step → ℕ → ℕ → List ℕ
 coming p s ks l t =
-    storesIn l (buffer s t) ++ fixesFrom p t l (fixedFrom p s ks t) (issuedOf s t) (countAt p t - issuedOf s t)
+    storesOf l (buffer s t) ++ fixesFrom p t l (fixedFrom p s ks t) (issuedOf s t) (countAt p t - issuedOf s t)
 
 -- the step k: thread `thread` puts `new` into the queue, `out` goes to memory
 pub record Passing (p : Program) (s : State) (k : Step) (ks : List Step) (l : ℕ) : Type 0 where
@@ -40,7 +41,7 @@ pub record Passing (p : Program) (s : State) (k : Step) (ks : List Step) (l : �
   pub new : List ℕ
   pub out : List ℕ
   pub low : new ≢ [] → thread < p .threads
-  pub queued : writesIn (queue s l) ++ new ≡ out ++ writesIn (queue (nextOf p s k) l)
+  pub queued : writesOf (queue s l) ++ new ≡ out ++ writesOf (queue (nextOf p s k) l)
   pub kept : wordOf (nextOf p s k) l ≡ lastOr out (wordOf s l)
   pub here : coming p s (k ∷ ks) l thread ≡ new ++ coming p (nextOf p s k) ks l thread
   pub other : (t : ℕ) → t < p .threads → t ≢ thread
@@ -50,7 +51,7 @@ pub record Passing (p : Program) (s : State) (k : Step) (ks : List Step) (l : �
 pub coming-taken : (p : Program) (s : State) (k : Step) (ks : List Step) (l t : ℕ) (new : List ℕ)
     → ((i : ℕ) → issuesAt s k t i ≡ false)
     → issuedOf (nextOf p s k) t ≡ issuedOf s t
-    → storesIn l (buffer s t) ≡ new ++ storesIn l (buffer (nextOf p s k) t)
+    → storesOf l (buffer s t) ≡ new ++ storesOf l (buffer (nextOf p s k) t)
     → coming p s (k ∷ ks) l t ≡ new ++ coming p (nextOf p s k) ks l t
 unfolding coming
 coming-taken p s k ks l t new h e b =
@@ -60,7 +61,7 @@ coming-taken p s k ks l t new h e b =
       fixes-same p t l (fixedFrom p s (k ∷ ks) t) (fixedFrom p (nextOf p s k) ks t) (issuedOf s t)
           (countAt p t - issuedOf s t) (λ j m. fixed-next p s k ks t j (h j)),
     )
-    (append-assoc new (storesIn l (buffer (nextOf p s k) t)) _)
+    (append-assoc new (storesOf l (buffer (nextOf p s k) t)) _)
 
 -- a thread of the program is below the most that a program may have
 module _ (p : Program) (s : State) (f : Fits p s) where
@@ -74,7 +75,7 @@ module _ (p : Program) (s : State) (f : Fits p s) (ks : List Step) (l : ℕ) (th
         → coming p s (persistStep m ∷ ks) l t ≡ coming p (nextOf p s (persistStep m)) ks l t
     persist-coming t =
         coming-taken p s (persistStep m) ks l t [] (persist-issues s m t) (persist-issued p s f m low legal t)
-        (ap (storesIn l) (sym (persist-buffer p s f m low legal t)))
+        (ap (storesOf l) (sym (persist-buffer p s f m low legal t)))
 
     word-last : (h : Slot) (w : ℕ) → wordOr h w ≡ lastOr (onlyIf (eqb (h .mark) 0) (h .word)) w
     unfolding wordOr onlyIf pick lastOr
@@ -85,7 +86,7 @@ module _ (p : Program) (s : State) (f : Fits p s) (ks : List Step) (l : ℕ) (th
         go false = refl
 
     pub persist-passing : Dec (l ≡ m) → Passing p s (persistStep m) ks l
-    unfolding writesIn lastOr
+    unfolding writesOf lastOr
     persist-passing (yes e) =
         let q = persist-queue p s f m low legal in
         record {
@@ -93,7 +94,7 @@ module _ (p : Program) (s : State) (f : Fits p s) (ks : List Step) (l : ℕ) (th
           new = [];
           out = onlyIf (eqb (q .0 .mark) 0) (q .0 .word);
           low = λ n. absurd (n refl);
-          queued = rw (append-nil, e) (ap writesIn (q .1));
+          queued = rw (append-nil, e) (ap writesOf (q .1));
           kept = rw e (q .2 ∙ word-last (q .0) (wordOf s m));
           here = persist-coming 0;
           other = λ t h n. persist-coming t;
@@ -104,7 +105,7 @@ module _ (p : Program) (s : State) (f : Fits p s) (ks : List Step) (l : ℕ) (th
           new = [];
           out = [];
           low = λ n. absurd (n refl);
-          queued = rw append-nil (ap writesIn (sym (persist-queue-other p s f m low legal l there e)));
+          queued = rw append-nil (ap writesOf (sym (persist-queue-other p s f m low legal l there e)));
           kept = persist-word-other p s f m low legal l e;
           here = persist-coming 0;
           other = λ t h n. persist-coming t;
@@ -140,5 +141,5 @@ module _ (p : Program) (s : State) (f : Fits p s) (ks : List Step) (l : ℕ) (th
           other = λ k h n.
               coming-taken p s (moveStep t i) ks l k [] (move-issues s t i k)
               (move-issued p s f t i low legal k)
-              (ap (storesIn l) (sym (move-buffer-other p s f t i low legal k (in-range p s f k h) n)));
+              (ap (storesOf l) (sym (move-buffer-other p s f t i low legal k (in-range p s f k h) n)));
         }

@@ -19,10 +19,11 @@ use Rattle.cases.specs.Record.{kindOf, payloadOf, recordOf, openNo, sizeOf}
 use Rattle.cases.specs.Checks.{misplaced, stepFault, faultOf}
 use Rattle.cases.specs.Draft.{emptyCase, addOf}
 use Rattle.cases.specs.Reading.{numberOf, offsetOf, refusedOf, readFrom, readOf}
-use Rattle.cases.specs.Places.{encodeOf}
+use Rattle.cases.specs.Seats.{encodeOf}
 use Rattle.cases.specs.Writing.{readsBack, wroteOf, writtenOf}
 use Rattle.cases.proofs.Promises as Cases
 use Rattle.cases.proofs.ChoiceLaws.{pick-true, false-not}
+use Rattle.cases.specs.Sizes.{stepSize}
 use Rattle.machine.specs.declared.cells.State.{State}
 use Rattle.machine.specs.declared.steps.Ruling.the-variants.{Allowed, Broken, Declined}
 use Rattle.machine.specs.declared.work.Weighed.the-variants.{Unweighed}
@@ -119,7 +120,7 @@ pub order-of-asking : (s : List ℕ) (room b : ℕ)
     → questionOf s room b
     ≡ pick (not (eqb (numberOf (readOf s .answer)) 0))
     (Refused (numberOf (readOf s .answer)) (offsetOf (readOf s .answer)))
-    (pick (ltb room (8 * fullLength (readOf s .case .program))) (Refused 31 0)
+    (pick (ltb room (stepSize * fullLength (readOf s .case .program))) (Refused 31 0)
     (toldOf (askOf (readOf s .case .program) (readOf s .case .ask) b)))
 order-of-asking = TableLaws.asking-order
 

@@ -11,19 +11,20 @@ use Rattle.cases.specs.declared.case.Step.{Step}
 use Rattle.cases.specs.declared.case.Program.{Program}
 use Rattle.cases.specs.declared.case.Case.{Case}
 use Rattle.cases.specs.Sizes.{mostThreads}
-use Rattle.cases.specs.Checks.{stepFault}
+use Rattle.cases.specs.Checks.{stepFault, countAt}
 use Rattle.cases.specs.Draft.{runWith, withRun}
 use Rattle.cases.specs.Writing.{readsBack}
+use Rattle.cases.specs.Operations.{storeRegister}
 use Rattle.machine.specs.declared.cells.State.{State}
 use Rattle.machine.specs.declared.runs.Verdict.the-variants.{Legal}
 use Rattle.machine.specs.View.{wordOf}
-use Rattle.machine.specs.Rules.{countAt, instructionAt, ruleOf, nextOf}
+use Rattle.machine.specs.Rules.{instructionAt, ruleOf, nextOf}
 use Rattle.machine.specs.Fit.{sumTo}
 use Rattle.machine.specs.Work.{work, Unfinished, fullLength, programWeight}
 use Rattle.machine.specs.Judge.{judged, judgeOf}
 use Rattle.machine.proofs.Promises.{program-fits, full-length-weighs}
 use Rattle.demands.specs.Runs.{LegalRun, CannotGoOn, FinishedRun}
-use Rattle.demands.specs.Writes.{fixedIn, Writer, LastWrite, Unwritten, Alone}
+use Rattle.demands.specs.Writes.{fixedOf, Writer, LastWrite, Unwritten, Alone}
 use Rattle.demands.specs.Carried.{lastRun}
 use Rattle.demands.proofs.EndLaws as EndLaws
 use Rattle.demands.proofs.JudgedLaws as JudgedLaws
@@ -83,7 +84,7 @@ module _ (c : Case) (readable : readsBack c ≡ true) where
   pub end-of-run : (ks : List Step) (u : State)
       → FinishedRun (c .program) ks u
       → (l : ℕ) → l < c .program .locations
-      → ((t : ℕ) × (i : ℕ) × LastWrite (c .program) t l i × (wordOf u l ≡ fixedIn (c .program) ks t i))
+      → ((t : ℕ) × (i : ℕ) × LastWrite (c .program) t l i × (wordOf u l ≡ fixedOf (c .program) ks t i))
       ⊎ (Unwritten (c .program) l × (wordOf u l ≡ getD (c .program .first) l 0))
   end-of-run = MemoryLaws.end-holds (c .program) (program-fits c readable)
 
@@ -91,8 +92,8 @@ module _ (c : Case) (readable : readsBack c ≡ true) where
   pub word-of-the-program : (ks : List Step) (u : State)
       → FinishedRun (c .program) ks u
       → (t i : ℕ) → i < countAt (c .program) t
-      → instructionAt (c .program) t i .operation ≢ 2
-      → fixedIn (c .program) ks t i ≡ instructionAt (c .program) t i .word
+      → instructionAt (c .program) t i .operation ≢ storeRegister
+      → fixedOf (c .program) ks t i ≡ instructionAt (c .program) t i .word
   word-of-the-program = MemoryLaws.own-word (c .program) (program-fits c readable)
 
   -- "taking one location alone, any of those threads can be the one." In the run that `lastRun` writes out.
@@ -101,7 +102,7 @@ module _ (c : Case) (readable : readsBack c ≡ true) where
       → (i : ℕ) × (u : State)
       × LastWrite (c .program) t l i
       × FinishedRun (c .program) (lastRun (c .program) t) u
-      × (wordOf u l ≡ fixedIn (c .program) (lastRun (c .program) t) t i)
+      × (wordOf u l ≡ fixedOf (c .program) (lastRun (c .program) t) t i)
   any-thread = AnyThreadLaws.any-thread (c .program) (program-fits c readable)
 
   -- A location that one thread alone writes, its last write there being a store of a word or an exchange: every
@@ -109,7 +110,7 @@ module _ (c : Case) (readable : readsBack c ≡ true) where
   pub one-writer : (t l i : ℕ)
       → LastWrite (c .program) t l i
       → Alone (c .program) t l
-      → instructionAt (c .program) t i .operation ≢ 2
+      → instructionAt (c .program) t i .operation ≢ storeRegister
       → (ks : List Step) (u : State)
       → FinishedRun (c .program) ks u
       → wordOf u l ≡ instructionAt (c .program) t i .word

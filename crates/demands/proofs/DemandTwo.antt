@@ -12,11 +12,11 @@ use Rattle.cases.specs.declared.case.Ask.{Ask}
 use Rattle.cases.specs.declared.case.Case.{Case}
 use Rattle.cases.specs.declared.reader.Answer.the-variants.{Whole}
 use Rattle.cases.specs.declared.writer.Wrote.the-variants.{Stored}
-use Rattle.cases.specs.Sizes.{mostThreads, mostLocations}
+use Rattle.cases.specs.Sizes.{mostThreads, mostLocations, stepSize}
 use Rattle.cases.specs.Bytes.{IsBytes}
 use Rattle.cases.specs.Draft.{noStep, runWith, withRun}
 use Rattle.cases.specs.Reading.{numberOf, readOf}
-use Rattle.cases.specs.Places.{encodeOf, stepsBytes}
+use Rattle.cases.specs.Seats.{encodeOf, stepsBytes}
 use Rattle.cases.specs.Writing.{readsBack, wroteOf, writtenOf}
 use Rattle.cases.proofs.Promises as Cases
 use Rattle.machine.specs.declared.cells.State.{State}
@@ -93,7 +93,7 @@ what-a-cut-leaves = Search.reaches-exactly
 
 -- "Asked ..", bytes that read, and a lent buffer with room for a run of the full length
 module _ (s : List ℕ) (bytes : IsBytes s) (read : numberOf (readOf s .answer) ≡ 0) (b : ℕ) (out : List ℕ)
-    (room : 8 * fullLength (readOf s .case .program) ≤ length out) where
+    (room : stepSize * fullLength (readOf s .case .program) ≤ length out) where
   -- "it says reached, .., exactly when one stands among the first runs of the stated walk that the budget
   -- covers;": with n steps, those of the walk's first run that reaches the question
   pub reached-exactly : (n : ℕ)
@@ -108,13 +108,13 @@ module _ (s : List ℕ) (bytes : IsBytes s) (read : numberOf (readOf s .answer) 
   pub reached-shows-the-run : (before : List (Visit State Step)) (v : Visit State Step)
       → FirstThat (reaches (readOf s .case .ask)) (walkFrom (readOf s .case .program)) before v
       → length before < b
-      → shownOf s b out ≡ stepsBytes (v .run) ++ drop (8 * length (v .run)) out
+      → shownOf s b out ≡ stepsBytes (v .run) ++ drop (stepSize * length (v .run)) out
   reached-shows-the-run = AskedLaws.reached-shows-the-run s read b out room
 
   -- "with a run it would itself pass,": what is stored, behind the case's file without its own steps, gets 103
   pub reached-passes : (n : ℕ) → questionOf s (length out) b ≡ Reached n
       → judgeBytes
-      (encodeOf (withRun (readOf s .case) (runWith [])) ++ take (8 * n) (shownOf s b out)) .verdict
+      (encodeOf (withRun (readOf s .case) (runWith [])) ++ take (stepSize * n) (shownOf s b out)) .verdict
       ≡ Legal n
   reached-passes = AskedLaws.reached-passes s bytes read b out room
 

@@ -8,14 +8,14 @@ use native.Mathlib.Nat.{eq-zero-or-pos}
 use lib.ListN.{length, length-append}
 use Rattle.cases.specs.declared.case.Step.{Step}
 use Rattle.cases.specs.declared.case.Program.{Program}
-use Rattle.cases.specs.Checks.{stepFault}
+use Rattle.cases.specs.Checks.{stepFault, countAt}
 use Rattle.machine.specs.declared.cells.State.{State}
 use Rattle.machine.specs.View.{queue, buffer, issuedOf}
-use Rattle.machine.specs.Rules.{countAt, ruleOf, nextOf, startOf}
+use Rattle.machine.specs.Rules.{ruleOf, nextOf, startOf}
 use Rattle.machine.specs.Fit.{ProgramFits, Fits}
 use Rattle.machine.specs.Work.{work, fullLength, Unfinished}
 use Rattle.machine.specs.Judge.{Leads, Faultless}
-use Rattle.machine.proofs.Promises.{begin-fits, step-fits, step-work, leads-fits, leads-work, progress}
+use Rattle.machine.proofs.Promises.{start-fits, step-fits, step-work, leads-fits, leads-work, progress}
 use Rattle.machine.proofs.Promises.{work-some}
 use Rattle.demands.specs.Runs.{LegalRun, CannotGoOn, FinishedRun}
 use Rattle.demands.proofs.LastLaws.{cons-some}
@@ -78,11 +78,11 @@ module _ (p : Program) (u : State) (f : Fits p u) where
 -- A legal run of a program that the machine can run
 module _ (p : Program) (fits : ProgramFits p) (ks : List Step) (u : State) (run : LegalRun p ks u) where
   pub run-fits : Fits p u
-  run-fits = leads-fits p (startOf p) (begin-fits p fits) ks u (run .faultless) (run .leads)
+  run-fits = leads-fits p (startOf p) (start-fits p fits) ks u (run .faultless) (run .leads)
 
   run-work : work p u + length ks ≡ fullLength p
   unfolding fullLength
-  run-work = leads-work p (startOf p) (begin-fits p fits) ks u (run .faultless) (run .leads)
+  run-work = leads-work p (startOf p) (start-fits p fits) ks u (run .faultless) (run .leads)
 
   pub never-wedged : Unfinished p u → (k : Step) × (stepFault p k ≡ 0) × (ruleOf p u k ≡ 0)
   never-wedged = progress p u run-fits

@@ -1,4 +1,4 @@
--- The last of some words, and what a place comes to hold when words are put there one after the other. Assumes
+-- The last of some words, and what a location holds when words are put there one after the other. Assumes
 -- nothing.
 use Prim.Native.Nat.{ℕ, suc, _<_}
 use mathlib.Core.Path.{_≡_, refl, sym, ap, _∙_}
@@ -34,7 +34,7 @@ pub append-empty : (xs ys : List ℕ) → xs ++ ys ≡ [] → (xs ≡ []) × (ys
 append-empty [] ys e = (refl, e)
 append-empty (x ∷ xs) ys e = absurd (cons-some x (xs ++ ys) e)
 
--- Of n threads each has some words to come to a place that holds q: at the end it holds v, which is q where
+-- Of n threads each has some words to come to a location that holds q: at the end it holds v, which is q where
 -- nothing came, or else the last of what some thread had to come.
 unfoldable pub Settles : ℕ → (ℕ → List ℕ) → ℕ → ℕ → Type 0
 Settles n coming q v =

@@ -10,9 +10,9 @@ use borrow.Author.Tests.{eqb-true, eqb-false}
 use lib.Dec.{eqb}
 use Rattle.cases.specs.declared.case.Program.{Program}
 use Rattle.cases.specs.Choice.{pick}
+use Rattle.cases.specs.Checks.{countAt}
 use Rattle.machine.specs.declared.cells.State.{State}
 use Rattle.machine.specs.View.{issuedOf}
-use Rattle.machine.specs.Rules.{countAt}
 use Rattle.machine.specs.Judge.{Leads, Faultless}
 use Rattle.demands.specs.Carried.{carriedAll, othersFrom}
 use Rattle.demands.proofs.FixedLaws.{leads-append, faultless-append}

@@ -9,7 +9,8 @@ use native.Mathlib.Nat.{eq-or-lt-of-le, eq-zero-or-pos}
 use Rattle.cases.specs.declared.case.Program.{Program}
 use Rattle.cases.specs.Choice.{pick}
 use Rattle.cases.proofs.ChoiceLaws.{never-both}
-use Rattle.machine.specs.Rules.{countAt, instructionAt}
+use Rattle.cases.specs.Checks.{countAt}
+use Rattle.machine.specs.Rules.{instructionAt}
 use Rattle.demands.specs.Writes.{writes, Writer, LastWrite}
 use Rattle.demands.proofs.LastLaws.{lastOr, last-append, cons-some, append-some}
 use Rattle.demands.proofs.WriteLaws.{onlyIf, fixesFrom}

@@ -11,16 +11,18 @@ use lib.ListN.{getD}
 use Rattle.cases.specs.declared.case.Step.{Step}
 use Rattle.cases.specs.declared.case.Program.{Program}
 use Rattle.cases.proofs.ChoiceLaws.{never-both, both-true}
+use Rattle.cases.specs.Checks.{countAt}
+use Rattle.cases.specs.Operations.{storeRegister}
 use Rattle.machine.specs.declared.cells.State.{State}
 use Rattle.machine.specs.View.{queue, buffer, wordOf, issuedOf}
-use Rattle.machine.specs.Rules.{countAt, instructionAt, startOf}
+use Rattle.machine.specs.Rules.{instructionAt, startOf}
 use Rattle.machine.specs.Fit.{ProgramFits}
-use Rattle.machine.proofs.Promises.{begin-fits}
+use Rattle.machine.proofs.Promises.{start-fits}
 use Rattle.machine.proofs.Effects.{start-buffer, start-queue, start-issued, start-word}
 use Rattle.demands.specs.Runs.{LegalRun, FinishedRun}
-use Rattle.demands.specs.Writes.{writes, fixedFrom, fixedIn, LastWrite, Unwritten, Alone}
+use Rattle.demands.specs.Writes.{writes, fixedFrom, fixedOf, LastWrite, Unwritten, Alone}
 use Rattle.demands.proofs.LastLaws.{lastOr, Settles}
-use Rattle.demands.proofs.WriteLaws.{writesIn, storesIn, fixesFrom}
+use Rattle.demands.proofs.WriteLaws.{writesOf, storesOf, fixesFrom}
 use Rattle.demands.proofs.ComingLaws.{coming}
 use Rattle.demands.proofs.SettleLaws.{newest, run-settles, run-keeps}
 use Rattle.demands.proofs.LastWriteLaws.{NoneFrom, LastFrom, last-or-none, fixes-last, fixes-unwritten}
@@ -35,15 +37,15 @@ module _ (p : Program) (fits : ProgramFits p) where
   -- where nothing waits in a thread's buffer and it has issued nothing, all it has to come is in its program
   pub unissued-coming : (s : State) (ks : List Step) (l t : ℕ) → buffer s t ≡ [] → issuedOf s t ≡ 0
       → coming p s ks l t ≡ fixesFrom p t l (fixedFrom p s ks t) 0 (countAt p t)
-  unfolding coming storesIn
+  unfolding coming storesOf
   unissued-coming s ks l t b e = let n : countAt p t - 0 ≡ countAt p t = omega arith in rw (b, e, n) refl
 
   start-coming : (ks : List Step) (l t : ℕ)
       → coming p (startOf p) ks l t ≡ fixesFrom p t l (fixedFrom p (startOf p) ks t) 0 (countAt p t)
   start-coming ks l t = unissued-coming (startOf p) ks l t (start-buffer p t) (start-issued p t)
 
-  start-writes : (l : ℕ) → writesIn (queue (startOf p) l) ≡ []
-  unfolding writesIn
+  start-writes : (l : ℕ) → writesOf (queue (startOf p) l) ≡ []
+  unfolding writesOf
   start-writes l = rw (start-queue p l) refl
 
   start-newest : (l : ℕ) → newest (startOf p) l ≡ getD (p .first) l 0
@@ -54,13 +56,13 @@ module _ (p : Program) (fits : ProgramFits p) where
   module _ (ks : List Step) (u : State) (run : FinishedRun p ks u) (l : ℕ) (low : l < p .locations) where
     end-settles : Settles (p .threads) (coming p (startOf p) ks l) (newest (startOf p) l) (wordOf u l)
     end-settles =
-        run-settles p l low (startOf p) ks u (begin-fits p fits) (run .legal .faultless) (run .legal .leads)
+        run-settles p l low (startOf p) ks u (start-fits p fits) (run .legal .faultless) (run .legal .leads)
         (stuck-done p u (run-fits p fits ks u (run .legal)) (run .over))
 
     pub end-holds :
-        ((t : ℕ) × (i : ℕ) × LastWrite p t l i × (wordOf u l ≡ fixedIn p ks t i))
+        ((t : ℕ) × (i : ℕ) × LastWrite p t l i × (wordOf u l ≡ fixedOf p ks t i))
         ⊎ (Unwritten p l × (wordOf u l ≡ getD (p .first) l 0))
-    unfolding fixedIn Unwritten Settles
+    unfolding fixedOf Unwritten Settles
     end-holds = go end-settles
       where
         go : Settles (p .threads) (coming p (startOf p) ks l) (newest (startOf p) l) (wordOf u l)
@@ -80,12 +82,12 @@ module _ (p : Program) (fits : ProgramFits p) where
 
   -- a store of a word and an exchange fix the word that the program has
   pub own-word : (ks : List Step) (u : State) → FinishedRun p ks u → (t i : ℕ) → i < countAt p t
-      → instructionAt p t i .operation ≢ 2
-      → fixedIn p ks t i ≡ instructionAt p t i .word
-  unfolding fixedIn
+      → instructionAt p t i .operation ≢ storeRegister
+      → fixedOf p ks t i ≡ instructionAt p t i .word
+  unfolding fixedOf
   own-word ks u run t i there word =
       let d = stuck-done p u (run-fits p fits ks u (run .legal)) (run .over) .issued t (in-threads t i there) in
-      fixed-word p (startOf p) ks u t i (begin-fits p fits) (run .legal .faultless) (run .legal .leads)
+      fixed-word p (startOf p) ks u t i (start-fits p fits) (run .legal .faultless) (run .legal .leads)
       (let z = start-issued p t in omega arith) (omega arith) word
 
   pub written-low : (t l i : ℕ) → LastWrite p t l i → l < p .locations
@@ -96,21 +98,22 @@ module _ (p : Program) (fits : ProgramFits p) where
       omega arith
 
   -- A location that one thread alone writes, and whose last write there has its word in the program
-  pub alone-holds : (t l i : ℕ) → LastWrite p t l i → Alone p t l → instructionAt p t i .operation ≢ 2
+  pub alone-holds : (t l i : ℕ) → LastWrite p t l i → Alone p t l
+      → instructionAt p t i .operation ≢ storeRegister
       → (ks : List Step) (u : State) → FinishedRun p ks u → wordOf u l ≡ instructionAt p t i .word
   unfolding Alone Unwritten
   alone-holds t l i last alone word ks u run = go (end-holds ks u run l (written-low t l i last))
     where
-      own : (k j : ℕ) → LastWrite p k l j → wordOf u l ≡ fixedIn p ks k j → Dec (k ≡ t)
+      own : (k j : ℕ) → LastWrite p k l j → wordOf u l ≡ fixedOf p ks k j → Dec (k ≡ t)
           → wordOf u l ≡ instructionAt p t i .word
       own k j o e (no d) = absurd (never-both (o .writing) (alone k j d (o .there)))
       own k j o e (yes d) =
           e
-          ∙ ap (λ (m : ℕ). fixedIn p ks m j) d
-          ∙ ap (fixedIn p ks t) (last-one p t l j i (subst (λ m. LastWrite p m l j) d o) last)
+          ∙ ap (λ (m : ℕ). fixedOf p ks m j) d
+          ∙ ap (fixedOf p ks t) (last-one p t l j i (subst (λ m. LastWrite p m l j) d o) last)
           ∙ own-word ks u run t i (last .there) word
 
-      go : ((k : ℕ) × (j : ℕ) × LastWrite p k l j × (wordOf u l ≡ fixedIn p ks k j))
+      go : ((k : ℕ) × (j : ℕ) × LastWrite p k l j × (wordOf u l ≡ fixedOf p ks k j))
           ⊎ (((k j : ℕ) → j < countAt p k → writes (instructionAt p k j) l ≡ false)
           × (wordOf u l ≡ getD (p .first) l 0))
           → wordOf u l ≡ instructionAt p t i .word
@@ -122,7 +125,7 @@ module _ (p : Program) (fits : ProgramFits p) where
       → (ks : List Step) (u : State) → LegalRun p ks u → wordOf u l ≡ getD (p .first) l 0
   unfolding Unwritten
   unwritten-keeps l low none ks u run =
-      run-keeps p l low (startOf p) ks u (begin-fits p fits) (run .faultless) (run .leads) (start-writes l)
+      run-keeps p l low (startOf p) ks u (start-fits p fits) (run .faultless) (run .leads) (start-writes l)
       (λ t h. start-coming ks l t ∙ nothing t)
       ∙ start-word p l
     where

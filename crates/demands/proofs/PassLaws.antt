@@ -10,11 +10,12 @@ use Rattle.cases.specs.declared.case.Instruction.{Instruction}
 use Rattle.cases.specs.declared.case.Step.{Step}
 use Rattle.cases.specs.declared.case.Program.{Program}
 use Rattle.cases.specs.Sizes.{mostLocations}
-use Rattle.cases.specs.Checks.{stepFault}
+use Rattle.cases.specs.Checks.{stepFault, countAt}
 use Rattle.cases.specs.Ranges.{InstructionFits}
+use Rattle.cases.specs.Operations.{exchange}
 use Rattle.machine.specs.declared.cells.State.{State}
 use Rattle.machine.specs.View.{queue, buffer, issuedOf}
-use Rattle.machine.specs.Rules.{countAt, instructionAt, ruleOf, nextOf}
+use Rattle.machine.specs.Rules.{instructionAt, ruleOf, nextOf}
 use Rattle.machine.specs.Joins.{joins, exchanges}
 use Rattle.machine.specs.Fit.{Fits}
 use Rattle.machine.specs.Next.{issueStep, moveStep, persistStep}
@@ -22,7 +23,7 @@ use Rattle.machine.proofs.Effects.{step-kinds, issue-left, issue-issued, issue-
 use Rattle.machine.proofs.Effects.{issue-buffer-other, issue-queue, issue-word, exchange-alone}
 use Rattle.demands.specs.Writes.{fixedFrom}
 use Rattle.demands.proofs.LastLaws.{lastOr}
-use Rattle.demands.proofs.WriteLaws.{writesIn, storesIn, fixesFrom, writes-append, stores-append}
+use Rattle.demands.proofs.WriteLaws.{writesOf, storesOf, fixesFrom, writes-append, stores-append}
 use Rattle.demands.proofs.WriteLaws.{fixes-same, splits, apart}
 use Rattle.demands.proofs.IssuesLaws.{fixed-here, fixed-next, issues-here, issues-later, issues-other}
 use Rattle.demands.proofs.ComingLaws.{coming, Passing, coming-taken, in-range, persist-passing}
@@ -43,7 +44,7 @@ module _ (p : Program) (s : State) (f : Fits p s) (ks : List Step) (l : ℕ) (th
     -- what the instruction fixes, and what comes behind it
     fixes-next :
         fixesFrom p t l (fixedFrom p s (issueStep t ∷ ks) t) (issuedOf s t) (countAt p t - issuedOf s t)
-        ≡ (storesIn l (joins (s .registers) t next) ++ writesIn (exchanges l next))
+        ≡ (storesOf l (joins (s .registers) t next) ++ writesOf (exchanges l next))
         ++ fixesFrom p t l (fixedFrom p after ks t) (issuedOf after t) (countAt p t - issuedOf after t)
     unfolding fixesFrom
     fixes-next =
@@ -66,16 +67,16 @@ module _ (p : Program) (s : State) (f : Fits p s) (ks : List Step) (l : ℕ) (th
     swap a j n r (inl e) = rw (e .0, e .1) refl
     swap a j n r (inr e) = rw (e, append-nil j) (sym (append-assoc a j r))
 
-    alone : ((storesIn l (buffer s t) ≡ []) × (storesIn l (joins (s .registers) t next) ≡ []))
-        ⊎ (writesIn (exchanges l next) ≡ [])
-    unfolding storesIn writesIn
+    alone : ((storesOf l (buffer s t) ≡ []) × (storesOf l (joins (s .registers) t next) ≡ []))
+        ⊎ (writesOf (exchanges l next) ≡ [])
+    unfolding storesOf writesOf
     alone =
         go (apart s t l (next .location) (next .register) (next .word) (next .operation) (fits .some-operation)
         (fits .low-operation))
       where
-        go : ((next .operation ≡ 4) × (joins (s .registers) t next ≡ [])) ⊎ (exchanges l next ≡ [])
-            → ((storesIn l (buffer s t) ≡ []) × (storesIn l (joins (s .registers) t next) ≡ []))
-            ⊎ (writesIn (exchanges l next) ≡ [])
+        go : ((next .operation ≡ exchange) × (joins (s .registers) t next ≡ [])) ⊎ (exchanges l next ≡ [])
+            → ((storesOf l (buffer s t) ≡ []) × (storesOf l (joins (s .registers) t next) ≡ []))
+            ⊎ (writesOf (exchanges l next) ≡ [])
         go (inl e) = inl (rw (exchange-alone p s f t low legal (e .0)) refl, rw (e .1) refl)
         go (inr e) = inr (rw e refl)
 
@@ -84,18 +85,18 @@ module _ (p : Program) (s : State) (f : Fits p s) (ks : List Step) (l : ℕ) (th
     issue-passing =
         record {
           thread = t;
-          new = writesIn (exchanges l next);
+          new = writesOf (exchanges l next);
           out = [];
           low = λ n. low;
           queued = rw (issue-queue p s f t low legal l there, writes-append (queue s l)) refl;
           kept = issue-word p s f t low legal l;
           here =
               rw (fixes-next, issue-buffer p s f t low legal, stores-append l (buffer s t))
-              (swap (storesIn l (buffer s t)) _ _ _ alone);
+              (swap (storesOf l (buffer s t)) _ _ _ alone);
           other = λ k h n.
               coming-taken p s (issueStep t) ks l k [] (λ i. issues-other s t k i (λ e. n (sym e)))
               (issue-issued-other p s f t low legal k n)
-              (ap (storesIn l) (sym (issue-buffer-other p s f t low legal k (in-range p s f k h) n)));
+              (ap (storesOf l) (sym (issue-buffer-other p s f t low legal k (in-range p s f k h) n)));
         }
 
   -- every legal step

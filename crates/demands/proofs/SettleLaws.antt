@@ -7,15 +7,16 @@ use native.Mathlib.Omega.{arith}
 use native.Mathlib.Decide.{ℕ-discrete}
 use Rattle.cases.specs.declared.case.Step.{Step}
 use Rattle.cases.specs.declared.case.Program.{Program}
+use Rattle.cases.specs.Checks.{countAt}
 use Rattle.machine.specs.declared.cells.State.{State}
 use Rattle.machine.specs.View.{queue, buffer, wordOf, issuedOf}
-use Rattle.machine.specs.Rules.{countAt, nextOf}
+use Rattle.machine.specs.Rules.{nextOf}
 use Rattle.machine.specs.Fit.{Fits}
 use Rattle.machine.specs.Judge.{Leads, Faultless}
 use Rattle.machine.proofs.Promises.{step-fits}
 use Rattle.demands.proofs.LastLaws.{lastOr, last-append, append-empty, cons-some, Settles}
 use Rattle.demands.proofs.LastLaws.{settles-before}
-use Rattle.demands.proofs.WriteLaws.{writesIn, storesIn, fixesFrom}
+use Rattle.demands.proofs.WriteLaws.{writesOf, storesOf, fixesFrom}
 use Rattle.demands.proofs.ComingLaws.{coming, Passing}
 use Rattle.demands.proofs.PassLaws.{step-passing}
 
@@ -27,22 +28,22 @@ pub record Done (p : Program) (u : State) : Type 0 where
 
 -- the newest word on its way to location l, else the one there
 unfoldable pub newest : State → ℕ → ℕ
-newest s l = lastOr (writesIn (queue s l)) (wordOf s l)
+newest s l = lastOr (writesOf (queue s l)) (wordOf s l)
 
 -- a step makes the newest what it puts into the queue
 passing-newest : (p : Program) (s : State) (k : Step) (ks : List Step) (l : ℕ) (o : Passing p s k ks l)
     → newest (nextOf p s k) l ≡ lastOr (o .new) (newest s l)
 unfolding newest
 passing-newest p s k ks l o =
-    ap (lastOr (writesIn (queue (nextOf p s k) l))) (o .kept)
-    ∙ sym (last-append (o .out) (writesIn (queue (nextOf p s k) l)) (wordOf s l))
+    ap (lastOr (writesOf (queue (nextOf p s k) l))) (o .kept)
+    ∙ sym (last-append (o .out) (writesOf (queue (nextOf p s k) l)) (wordOf s l))
     ∙ ap (λ (x : List ℕ). lastOr x (wordOf s l)) (sym (o .queued))
-    ∙ last-append (writesIn (queue s l)) (o .new) (wordOf s l)
+    ∙ last-append (writesOf (queue s l)) (o .new) (wordOf s l)
 
 module _ (p : Program) (l : ℕ) (low : l < p .locations) where
   -- where all is done, what is there stays
   done-settles : (u : State) → Done p u → Settles (p .threads) (coming p u [] l) (newest u l) (wordOf u l)
-  unfolding Settles newest coming writesIn storesIn lastOr fixesFrom
+  unfolding Settles newest coming writesOf storesOf lastOr fixesFrom
   done-settles u d =
       inl (
         (λ t h.
@@ -70,7 +71,7 @@ module _ (p : Program) (l : ℕ) (low : l < p .locations) where
 
   -- along any run: where nothing is queued and no thread has anything to come, the word stays
   pub run-keeps : (s : State) (ks : List Step) (u : State) → Fits p s → Faultless p ks → Leads p s ks u
-      → writesIn (queue s l) ≡ []
+      → writesOf (queue s l) ≡ []
       → ((t : ℕ) → t < p .threads → coming p s ks l t ≡ [])
       → wordOf u l ≡ wordOf s l
   unfolding Faultless Leads lastOr

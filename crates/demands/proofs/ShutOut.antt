@@ -12,13 +12,13 @@ use Rattle.cases.specs.declared.case.Program.{Program}
 use Rattle.cases.specs.declared.case.Ask.{Ask}
 use Rattle.cases.specs.declared.case.Case.{Case}
 use Rattle.cases.specs.declared.reader.Reading.{Reading}
-use Rattle.cases.specs.Sizes.{mostSteps}
+use Rattle.cases.specs.Sizes.{mostSteps, stepSize}
 use Rattle.cases.specs.Choice.{pick, refuse}
 use Rattle.cases.specs.Bytes.{IsBytes, half}
 use Rattle.cases.specs.Record.{payloadOf, openNo}
 use Rattle.cases.specs.Draft.{noStep, runWith, withRun}
 use Rattle.cases.specs.Reading.{numberOf, refusedOf, readFrom, readOf}
-use Rattle.cases.specs.Places.{encodeOf}
+use Rattle.cases.specs.Seats.{encodeOf}
 use Rattle.cases.specs.Writing.{readsBack, writtenOf}
 use Rattle.cases.proofs.Promises.{read-after-write}
 use Rattle.machine.specs.declared.cells.State.{State}
@@ -53,15 +53,15 @@ not-all-passed e =
 
 -- lent bytes with room for any run
 abbrev lent : List ℕ
-lent = replicate (8 * mostSteps) 0
+lent = replicate (stepSize * mostSteps) 0
 
 -- "a question that always says undecided": here it says reached
-pub not-always-undecided : questionOf (encodeOf example) (8 * mostSteps) 1 ≡ Reached 0
+pub not-always-undecided : questionOf (encodeOf example) (stepSize * mostSteps) 1 ≡ Reached 0
 not-always-undecided =
     let is : readOf (encodeOf example) .case ≡ example
     = ap (λ (r : Reading). r .case) (read-after-write example example-readable) in
-    let many : length lent ≡ 8 * mostSteps = length-replicate {A = ℕ} (8 * mostSteps) 0 in
-    let room : 8 * fullLength (readOf (encodeOf example) .case .program) ≤ length lent
+    let many : length lent ≡ stepSize * mostSteps = length-replicate {A = ℕ} (stepSize * mostSteps) 0 in
+    let room : stepSize * fullLength (readOf (encodeOf example) .case .program) ≤ length lent
     = rw (is, many) (room-enough example example-readable) in
     let first : FirstThat (reaches (readOf (encodeOf example) .case .ask))
     (walkFrom (readOf (encodeOf example) .case .program)) [] (here (startOf (example .program)))
@@ -88,7 +88,7 @@ one-witness p a before after v w f g =
 
 -- "a made-up length or index (fixed by the walk or the first illegal step)"
 pub no-made-up-length : (s : List ℕ) → IsBytes s → numberOf (readOf s .answer) ≡ 0
-    → (b : ℕ) (out : List ℕ) → 8 * fullLength (readOf s .case .program) ≤ length out
+    → (b : ℕ) (out : List ℕ) → stepSize * fullLength (readOf s .case .program) ≤ length out
     → (before : List (Visit State Step)) (v : Visit State Step)
     → FirstThat (reaches (readOf s .case .ask)) (walkFrom (readOf s .case .program)) before v
     → length before < b

@@ -18,6 +18,7 @@ use Rattle.cases.specs.Reading.{numberOf, offsetOf, readOf}
 use Rattle.cases.specs.Writing.{readsBack}
 use Rattle.cases.proofs.Promises.{number-in-table, read-reads-back}
 use Rattle.cases.proofs.ChoiceLaws.{pick-cases}
+use Rattle.cases.specs.Sizes.{stepSize}
 use Rattle.machine.specs.declared.cells.State.{State}
 use Rattle.machine.specs.declared.runs.Judged.{Judged}
 use Rattle.machine.specs.Rules.{ruleOf, startOf}
@@ -102,7 +103,7 @@ pub asking-order : (s : List ℕ) (room b : ℕ)
     → questionOf s room b
     ≡ pick (not (eqb (numberOf (readOf s .answer)) 0))
     (Refused (numberOf (readOf s .answer)) (offsetOf (readOf s .answer)))
-    (pick (ltb room (8 * fullLength (readOf s .case .program))) (Refused 31 0)
+    (pick (ltb room (stepSize * fullLength (readOf s .case .program))) (Refused 31 0)
     (toldOf (askOf (readOf s .case .program) (readOf s .case .ask) b)))
 unfolding questionOf answerOf short pick
 asking-order s room b = swapped (eqb (numberOf (readOf s .answer)) 0) _ _

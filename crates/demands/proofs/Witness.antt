@@ -11,20 +11,21 @@ use Rattle.cases.specs.declared.case.Ask.{Ask}
 use Rattle.cases.specs.declared.case.Case.{Case}
 use Rattle.cases.specs.declared.reader.Reading.{Reading}
 use Rattle.cases.specs.declared.writer.Wrote.the-variants.{Stored, Untouched}
-use Rattle.cases.specs.Sizes.{mostSteps}
+use Rattle.cases.specs.Sizes.{mostSteps, stepSize}
 use Rattle.cases.specs.Choice.{pick, both, either, refuse}
 use Rattle.cases.specs.Bytes.{IsBytes, half}
 use Rattle.cases.specs.Record.{recordOf, openNo}
-use Rattle.cases.specs.Checks.{faultOf}
+use Rattle.cases.specs.Checks.{faultOf, countAt}
 use Rattle.cases.specs.Draft.{emptyCase, blankDraft}
 use Rattle.cases.specs.Reading.{numberOf, readOf}
-use Rattle.cases.specs.Places.{encodeOf}
+use Rattle.cases.specs.Seats.{encodeOf}
 use Rattle.cases.specs.Writing.{readsBack, wroteOf}
 use Rattle.cases.proofs.Promises.{file-bytes, read-after-write}
 use Rattle.cases.proofs.ChoiceLaws.{true-not}
 use Rattle.cases.proofs.Computing.{reading-computes, writing-computes, testing-computes}
+use Rattle.cases.specs.Operations.{storeRegister}
 use Rattle.machine.specs.declared.cells.State.{State}
-use Rattle.machine.specs.Rules.{countAt, instructionAt, persistRule, ruleIn, ruleOf, startOf}
+use Rattle.machine.specs.Rules.{instructionAt, persistRule, ruleIn, ruleOf, startOf}
 use Rattle.machine.specs.Fit.{ProgramFits, anyFrom}
 use Rattle.machine.specs.Work.{fullLength, Unfinished}
 use Rattle.machine.specs.Judge.{Leads, Faultless, StopsAt}
@@ -77,8 +78,8 @@ unfolding reading-computes
 program-first-sound = (refl, refl)
 
 -- lent bytes with room for a run of the full length, of any case: 8 for each step that a case can have
-pub room-enough : (c : Case) → readsBack c ≡ true → 8 * fullLength (c .program) ≤ 8 * mostSteps
-room-enough c readable = let most = full-length-most c readable in omega arith
+pub room-enough : (c : Case) → readsBack c ≡ true → stepSize * fullLength (c .program) ≤ stepSize * mostSteps
+room-enough c readable = let most = full-length-most (c .program) (program-fits c readable) in omega arith
 
 -- a legal run, after which an instruction is unissued: the empty one
 pub example-legal : LegalRun (example .program) [] (startOf (example .program))
@@ -111,7 +112,7 @@ example-other-last =
     record { there = omega arith; writing = refl; last = λ j h k. absurd (omega arith) }
 
 pub example-alone : LastWrite (example .program) 0 1 1 × Alone (example .program) 0 1
-    × (instructionAt (example .program) 0 1 .operation ≢ 2)
+    × (instructionAt (example .program) 0 1 .operation ≢ storeRegister)
 unfolding example writes isWrite both either Alone
 example-alone = (
   record { there = omega arith; writing = refl; last = λ j h k. absurd (omega arith) },

@@ -14,6 +14,7 @@ use Rattle.cases.specs.declared.case.Location.{Location}
 use Rattle.cases.specs.declared.case.Register.{Register}
 use Rattle.cases.specs.declared.case.Program.{Program}
 use Rattle.cases.specs.Choice.{pick, both, either}
+use Rattle.cases.specs.Operations.{lastOperation}
 use Rattle.machine.specs.declared.cells.State.{State}
 use Rattle.machine.specs.declared.cells.Waiting.{Waiting}
 use Rattle.machine.specs.declared.cells.Entry.{Entry}
@@ -28,9 +29,9 @@ use Rattle.demands.specs.Writes.{isWrite, writes, fixedBy}
 unfoldable pub onlyIf : Bool → ℕ → List ℕ
 onlyIf b w = pick b (w ∷ []) []
 
-unfoldable pub writesIn : List Slot → List ℕ
-writesIn [] = []
-writesIn (h ∷ q) = onlyIf (eqb (h .mark) 0) (h .word) ++ writesIn q
+unfoldable pub writesOf : List Slot → List ℕ
+writesOf [] = []
+writesOf (h ∷ q) = onlyIf (eqb (h .mark) 0) (h .word) ++ writesOf q
 
 unfoldable pub storeOf : ℕ → Entry → List ℕ
 storeOf l (Store x) = onlyIf (eqb (x .location .0) l) (x .word)
@@ -38,9 +39,9 @@ storeOf l (Flush m) = []
 storeOf l (FlushOpt m) = []
 storeOf l Sfence = []
 
-unfoldable pub storesIn : ℕ → List Waiting → List ℕ
-storesIn l [] = []
-storesIn l (w ∷ b) = storeOf l (w .entry) ++ storesIn l b
+unfoldable pub storesOf : ℕ → List Waiting → List ℕ
+storesOf l [] = []
+storesOf l (w ∷ b) = storeOf l (w .entry) ++ storesOf l b
 
 -- the n instructions of thread t from the i-th on, where instruction j fixes the word f j
 unfoldable pub fixesFrom : Program → ℕ → ℕ → (ℕ → ℕ) → ℕ → ℕ → List ℕ
@@ -48,23 +49,23 @@ fixesFrom p t l f i zero = []
 fixesFrom p t l f i (suc n) = onlyIf (writes (instructionAt p t i) l) (f i) ++ fixesFrom p t l f (suc i) n
 
 -- one behind another
-pub writes-append : (q r : List Slot) → writesIn (q ++ r) ≡ writesIn q ++ writesIn r
-unfolding writesIn
+pub writes-append : (q r : List Slot) → writesOf (q ++ r) ≡ writesOf q ++ writesOf r
+unfolding writesOf
 writes-append [] r = refl
 writes-append (h ∷ q) r =
-    rw (writes-append q r) (sym (append-assoc (onlyIf (eqb (h .mark) 0) (h .word)) (writesIn q) (writesIn r)))
+    rw (writes-append q r) (sym (append-assoc (onlyIf (eqb (h .mark) 0) (h .word)) (writesOf q) (writesOf r)))
 
-pub stores-append : (l : ℕ) (b c : List Waiting) → storesIn l (b ++ c) ≡ storesIn l b ++ storesIn l c
-unfolding storesIn
+pub stores-append : (l : ℕ) (b c : List Waiting) → storesOf l (b ++ c) ≡ storesOf l b ++ storesOf l c
+unfolding storesOf
 stores-append l [] c = refl
 stores-append l (w ∷ b) c =
-    rw (stores-append l b c) (sym (append-assoc (storeOf l (w .entry)) (storesIn l b) (storesIn l c)))
+    rw (stores-append l b c) (sym (append-assoc (storeOf l (w .entry)) (storesOf l b) (storesOf l c)))
 
 -- an entry taken out that is the first, or no store to l
 pub stores-without : (l : ℕ) (b : List Waiting) (i : ℕ) → i < length b
     → (i ≡ 0) ⊎ (storeOf l (entryAt b i) ≡ [])
-    → storesIn l b ≡ storeOf l (entryAt b i) ++ storesIn l (without i b)
-unfolding storesIn without
+    → storesOf l b ≡ storeOf l (entryAt b i) ++ storesOf l (without i b)
+unfolding storesOf without
 stores-without l [] i h o = absurd (omega arith)
 stores-without l (w ∷ b) zero h o = refl
 stores-without l (w ∷ b) (suc i) h (inl e) = absurd (omega arith)
@@ -81,17 +82,17 @@ fixes-same p t l f g i (suc n) h =
     rw (h i (omega arith), fixes-same p t l f g (suc i) n (λ j k. h j (omega arith)))
 
 -- what an entry puts into the queue is the word it stored
-pub enters-writes : (t l : ℕ) (e : Entry) → writesIn (enters t l e) ≡ storeOf l e
-unfolding enters writesIn storeOf onlyIf pick
+pub enters-writes : (t l : ℕ) (e : Entry) → writesOf (enters t l e) ≡ storeOf l e
+unfolding enters writesOf storeOf onlyIf pick
 enters-writes t l (Store x) = go (eqb (x .location .0) l)
   where
-    go : (b : Bool) → writesIn (pick b (writeSlot (x .word) ∷ []) []) ≡ pick b (x .word ∷ []) []
+    go : (b : Bool) → writesOf (pick b (writeSlot (x .word) ∷ []) []) ≡ pick b (x .word ∷ []) []
     go true = refl
     go false = refl
 enters-writes t l (Flush m) = refl
 enters-writes t l (FlushOpt m) = go (eqb (m .0) l)
   where
-    go : (b : Bool) → writesIn (pick b (markerSlot t ∷ []) []) ≡ []
+    go : (b : Bool) → writesOf (pick b (markerSlot t ∷ []) []) ≡ []
     go true = rw (ne-eqb (t + 1) 0 (λ z. omega arith)) refl
     go false = refl
 enters-writes t l Sfence = refl
@@ -100,18 +101,18 @@ enters-writes t l Sfence = refl
 module _ (s : State) (t l : ℕ) (m : Location) (r : Register) (w : ℕ) where
   abbrev Splits : ℕ → Type 0
   Splits op = onlyIf (writes (of op m r w) l) (fixedBy s t (of op m r w))
-      ≡ storesIn l (joins (s .registers) t (of op m r w)) ++ writesIn (exchanges l (of op m r w))
+      ≡ storesOf l (joins (s .registers) t (of op m r w)) ++ writesOf (exchanges l (of op m r w))
 
   stored : (v : ℕ) → onlyIf (eqb (m .0) l) v ≡ (onlyIf (eqb (m .0) l) v ++ []) ++ []
   stored v = sym (append-nil (onlyIf (eqb (m .0) l) v ++ []) ∙ append-nil (onlyIf (eqb (m .0) l) v))
 
-  swapped : (b : Bool) → onlyIf b w ≡ writesIn (pick b (writeSlot w ∷ []) [])
-  unfolding writesIn onlyIf pick
+  swapped : (b : Bool) → onlyIf b w ≡ writesOf (pick b (writeSlot w ∷ []) [])
+  unfolding writesOf onlyIf pick
   swapped true = refl
   swapped false = refl
 
-  pub splits : (op : ℕ) → 1 ≤ op → op ≤ 8 → Splits op
-  unfolding writes isWrite both either fixedBy joins isBarrier exchanges entryOf storesIn storeOf writesIn
+  pub splits : (op : ℕ) → 1 ≤ op → op ≤ lastOperation → Splits op
+  unfolding writes isWrite both either fixedBy joins isBarrier exchanges entryOf storesOf storeOf writesOf
       onlyIf pick
   splits =
       each-operation Splits
@@ -130,7 +131,7 @@ module _ (s : State) (t l : ℕ) (m : Location) (r : Register) (w : ℕ) where
       ((op ≡ 4) × (joins (s .registers) t (of op m r w) ≡ []))
       ⊎ (exchanges l (of op m r w) ≡ [])
 
-  pub apart : (op : ℕ) → 1 ≤ op → op ≤ 8 → Apart op
+  pub apart : (op : ℕ) → 1 ≤ op → op ≤ lastOperation → Apart op
   unfolding joins isBarrier exchanges both either pick
   apart =
       each-operation Apart (inr refl) (inr refl) (inr refl) (inl (refl, refl)) (inr refl) (inr refl) (inr refl)

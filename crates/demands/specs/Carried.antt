@@ -13,17 +13,19 @@ use lib.Dec.{eqb}
 use Rattle.cases.specs.declared.case.Instruction.{Instruction}
 use Rattle.cases.specs.declared.case.Step.{Step}
 use Rattle.cases.specs.declared.case.Program.{Program}
+use Rattle.cases.specs.Operations.{load, exchange, flush, sfence, mfence}
 use Rattle.cases.specs.Choice.{pick, either}
-use Rattle.machine.specs.Rules.{countAt, instructionAt}
+use Rattle.cases.specs.Checks.{countAt}
+use Rattle.machine.specs.Rules.{instructionAt}
 use Rattle.machine.specs.Next.{issueStep, moveStep, persistStep}
 
--- 3 load, 8 mfence: the issue is all; 4 exchange: its write goes straight into the queue; 5 flush, 7 sfence:
--- they leave the buffer and nothing comes of them; 1, 2 store and 6 flush-opt: through buffer and queue
+-- load and mfence: the issue is all; exchange: its write goes straight into the queue; flush and sfence: they
+-- leave the buffer and nothing comes of them; stores and flush-opt: through buffer and queue
 unfoldable pub carried : ℕ → Instruction → List Step
 carried t x =
-    pick (either (eqb (x .operation) 3) (eqb (x .operation) 8)) (issueStep t ∷ [])
-    (pick (eqb (x .operation) 4) (issueStep t ∷ persistStep (x .location .0) ∷ [])
-    (pick (either (eqb (x .operation) 5) (eqb (x .operation) 7)) (issueStep t ∷ moveStep t 0 ∷ [])
+    pick (either (eqb (x .operation) load) (eqb (x .operation) mfence)) (issueStep t ∷ [])
+    (pick (eqb (x .operation) exchange) (issueStep t ∷ persistStep (x .location .0) ∷ [])
+    (pick (either (eqb (x .operation) flush) (eqb (x .operation) sfence)) (issueStep t ∷ moveStep t 0 ∷ [])
     (issueStep t ∷ moveStep t 0 ∷ persistStep (x .location .0) ∷ [])))
 
 unfoldable pub carriedFrom : Program → ℕ → ℕ → ℕ → List Step

@@ -12,10 +12,13 @@ use lib.ListN.{replicate}
 use Rattle.cases.specs.declared.case.Instruction.{Instruction}
 use Rattle.cases.specs.declared.case.Case.{Case}
 use Rattle.cases.specs.Sizes.{mostThreads, mostInstructions, mostLocations, mostCode}
+use Rattle.cases.specs.Operations.{storeWord}
 use Rattle.cases.specs.Draft.{noInstruction, emptyCase}
 
-abbrev pub storeWord : ℕ → ℕ → Instruction
-storeWord l w = record { operation = 1; location = record { 0 = l }; register = record { 0 = 0 }; word = w }
+-- store word w to location l
+abbrev pub storing : ℕ → ℕ → Instruction
+storing l w =
+    record { operation = storeWord; location = record { 0 = l }; register = record { 0 = 0 }; word = w }
 
 unfoldable pub example : Case
 unfolding emptyCase
@@ -26,8 +29,8 @@ example =
         locations = 3;
         first = replicate mostLocations 0;
         counts = 2 ∷ 1 ∷ replicate (mostThreads - 2) 0;
-        code = storeWord 0 500 ∷ storeWord 1 1 ∷ replicate (mostInstructions - 2) noInstruction
-            ++ storeWord 0 7 ∷ replicate (mostCode - mostInstructions - 1) noInstruction;
+        code = storing 0 500 ∷ storing 1 1 ∷ replicate (mostInstructions - 2) noInstruction
+            ++ storing 0 7 ∷ replicate (mostCode - mostInstructions - 1) noInstruction;
       };
       ask = emptyCase .ask;
       run = emptyCase .run;

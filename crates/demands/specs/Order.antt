@@ -13,7 +13,7 @@ use Rattle.cases.specs.declared.record.Record.{Record}
 use Rattle.cases.specs.declared.record.Record.the-variants.{Declare, First, Instruct, Want, Passed, Take}
 use Rattle.cases.specs.Sizes.{mostInstructions, mostSteps}
 use Rattle.cases.specs.Checks.{disordered, headerOut, instructionOut, instructionLeft, passedOut, stepOut}
-use Rattle.cases.specs.Checks.{stepLeft, countOf}
+use Rattle.cases.specs.Checks.{stepLeft, countAt}
 
 unfoldable pub outOf : Draft → Record → Bool
 outOf d (Declare h) = headerOut h
@@ -42,7 +42,7 @@ unorderedOf d (Take k) = false
 unfoldable pub ninthOf : Draft → Record → Bool
 ninthOf d (Declare h) = false
 ninthOf d (First w) = false
-ninthOf d (Instruct t x) = leb mostInstructions (countOf (d .case .program) t)
+ninthOf d (Instruct t x) = leb mostInstructions (countAt (d .case .program) (t .0))
 ninthOf d (Want w) = false
 ninthOf d (Passed t n) = false
 ninthOf d (Take k) = false

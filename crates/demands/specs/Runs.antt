@@ -13,7 +13,7 @@ use Rattle.machine.specs.declared.cells.State.{State}
 use Rattle.machine.specs.Rules.{ruleOf, startOf}
 use Rattle.machine.specs.Judge.{Leads, Faultless}
 
--- 5 and 8 have nothing against the steps, and each is legal where it is taken: what the judge passes, and no
+-- the steps pass the checks 5 and 8, and each is legal where it is taken: what the judge passes, and no
 -- other (`legal-as-judged`)
 pub record LegalRun (p : Program) (ks : List Step) (u : State) : Type 0 where
   pub faultless : Faultless p ks

@@ -4,7 +4,7 @@
 --   fixedBy s t x          the word that it fixes as thread t issues it in the state s
 --   issuesAt s k t i       the step k, taken in the state s, issues instruction i of thread t
 --   fixedFrom p s ks t i   the word that instruction i of thread t fixes in the run ks from the state s
---   fixedIn p ks t i       the same from the start
+--   fixedOf p ks t i       the same from the start
 --   Writer p t l           thread t writes location l: one of its instructions does
 --   LastWrite p t l i      instruction i of thread t is its last, in program order, that writes location l
 --   Unwritten p l          no instruction of any thread writes location l
@@ -19,14 +19,16 @@ use lib.Dec.{eqb}
 use Rattle.cases.specs.declared.case.Instruction.{Instruction}
 use Rattle.cases.specs.declared.case.Step.{Step}
 use Rattle.cases.specs.declared.case.Program.{Program}
+use Rattle.cases.specs.Operations.{storeWord, storeRegister, exchange, issue}
 use Rattle.cases.specs.Choice.{pick, both, either}
+use Rattle.cases.specs.Checks.{countAt}
 use Rattle.machine.specs.declared.cells.State.{State}
 use Rattle.machine.specs.View.{registerIn, issuedOf}
-use Rattle.machine.specs.Rules.{countAt, instructionAt, nextOf, startOf}
+use Rattle.machine.specs.Rules.{instructionAt, nextOf, startOf}
 
--- 1 store word, 2 store register, 4 exchange: these have a location that they write
+-- store word, store register, exchange: these have a location that they write
 unfoldable pub isWrite : ℕ → Bool
-isWrite op = either (eqb op 1) (either (eqb op 2) (eqb op 4))
+isWrite op = either (eqb op storeWord) (either (eqb op storeRegister) (eqb op exchange))
 
 unfoldable pub writes : Instruction → ℕ → Bool
 writes x l = both (isWrite (x .operation)) (eqb (x .location .0) l)
@@ -34,10 +36,10 @@ writes x l = both (isWrite (x .operation)) (eqb (x .location .0) l)
 -- "Stores fix their word now": a store of a register what it holds, a store of a word and an exchange their
 -- own word
 unfoldable pub fixedBy : State → ℕ → Instruction → ℕ
-fixedBy s t x = pick (eqb (x .operation) 2) (registerIn (s .registers) t (x .register .0)) (x .word)
+fixedBy s t x = pick (eqb (x .operation) storeRegister) (registerIn (s .registers) t (x .register .0)) (x .word)
 
 unfoldable pub issuesAt : State → Step → ℕ → ℕ → Bool
-issuesAt s k t i = both (eqb (k .code) 0) (both (eqb (k .thread .0) t) (eqb (issuedOf s t) i))
+issuesAt s k t i = both (eqb (k .code) issue) (both (eqb (k .thread .0) t) (eqb (issuedOf s t) i))
 
 -- 0 where the run doesn't issue it
 unfoldable pub fixedFrom : Program → State → List Step → ℕ → ℕ → ℕ
@@ -45,8 +47,8 @@ fixedFrom p s [] t i = 0
 fixedFrom p s (k ∷ ks) t i =
     pick (issuesAt s k t i) (fixedBy s t (instructionAt p t i)) (fixedFrom p (nextOf p s k) ks t i)
 
-unfoldable pub fixedIn : Program → List Step → ℕ → ℕ → ℕ
-fixedIn p ks t i = fixedFrom p (startOf p) ks t i
+unfoldable pub fixedOf : Program → List Step → ℕ → ℕ → ℕ
+fixedOf p ks t i = fixedFrom p (startOf p) ks t i
 
 unfoldable pub Writer : Program → ℕ → ℕ → Type 0
 Writer p t l = (i : ℕ) × (i < countAt p t) × (writes (instructionAt p t i) l ≡ true)

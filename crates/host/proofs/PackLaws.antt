@@ -11,15 +11,16 @@ use Rattle.machine.proofs.Promises.{verdict-low}
 use Rattle.search.specs.declared.ask.Outcome.{Outcome}
 use Rattle.search.specs.Question.{outcomeNo, outcomePlace, questionOf}
 use Rattle.search.proofs.Promises.{question-low}
-use Rattle.host.specs.Host.{packedOf, answerIn, placeIn, judgePacked, questionPacked}
+use Rattle.host.specs.Host.{packedOf, unpackedNo, unpackedPlace, judgePacked, questionPacked}
 
 module _ (number place : ℕ) (low : (number < 256) × (place ≤ longest)) where
   pub pack-fits : packedOf number place < 2 ^ 32
   unfolding packedOf
   pack-fits = omega (arith, low .0, low .1)
 
-  pub pack-unpacks : (answerIn (packedOf number place) ≡ number) × (placeIn (packedOf number place) ≡ place)
-  unfolding packedOf answerIn placeIn
+  pub pack-unpacks :
+      (unpackedNo (packedOf number place) ≡ number) × (unpackedPlace (packedOf number place) ≡ place)
+  unfolding packedOf unpackedNo unpackedPlace
   pack-unpacks = (omega (arith, low .0), omega (arith, low .0))
 
 -- the judge's: j is its answer, `at` its place

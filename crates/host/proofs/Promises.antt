@@ -7,7 +7,7 @@ use Rattle.machine.specs.Judge.{verdictNo, verdictPlace, judgeBytes}
 use Rattle.machine.proofs.Promises.{verdict-low}
 use Rattle.search.specs.Question.{outcomeNo, outcomePlace, questionOf}
 use Rattle.search.proofs.Promises.{question-low}
-use Rattle.host.specs.Host.{answerIn, placeIn, judgePacked, questionPacked}
+use Rattle.host.specs.Host.{unpackedNo, unpackedPlace, judgePacked, questionPacked}
 use Rattle.host.proofs.PackLaws.{pack-fits, pack-unpacks}
 
 -- "It gets one 32-bit number": the judge's, for any bytes
@@ -18,8 +18,8 @@ module _ (s : List ℕ) where
 
   -- "the answer plus 256 times its place": both can be told from it
   pub judge-unpacks :
-      (answerIn (judgePacked s) ≡ verdictNo (judgeBytes s .verdict))
-      × (placeIn (judgePacked s) ≡ verdictPlace (judgeBytes s .verdict))
+      (unpackedNo (judgePacked s) ≡ verdictNo (judgeBytes s .verdict))
+      × (unpackedPlace (judgePacked s) ≡ verdictPlace (judgeBytes s .verdict))
   unfolding judgePacked
   judge-unpacks = pack-unpacks _ _ (verdict-low s)
 
@@ -30,7 +30,7 @@ module _ (s : List ℕ) (room b : ℕ) where
   question-packed-fits = pack-fits _ _ (question-low s room b)
 
   pub question-unpacks :
-      (answerIn (questionPacked s room b) ≡ outcomeNo (questionOf s room b))
-      × (placeIn (questionPacked s room b) ≡ outcomePlace (questionOf s room b))
+      (unpackedNo (questionPacked s room b) ≡ outcomeNo (questionOf s room b))
+      × (unpackedPlace (questionPacked s room b) ≡ outcomePlace (questionOf s room b))
   unfolding questionPacked
   question-unpacks = pack-unpacks _ _ (question-low s room b)

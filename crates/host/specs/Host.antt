@@ -1,6 +1,6 @@
 -- Document 01, "The build host": "It gets one 32-bit number: the answer plus 256 times its place".
 --   packedOf number place     an answer's number and its place, as one number
---   answerIn n, placeIn n     the number and the place that are packed in n
+--   unpackedNo n, unpackedPlace n     the number and the place that are packed in n
 --   judgePacked s             what the judge's call gets for the bytes s
 --   questionPacked s room b   what the question's call gets for the bytes s, `room` lent bytes, a budget b
 -- Assumes nothing.
@@ -12,11 +12,11 @@ use Rattle.search.specs.Question.{outcomeNo, outcomePlace, questionOf}
 unfoldable pub packedOf : ℕ → ℕ → ℕ
 packedOf number place = number + 256 * place
 
-unfoldable pub answerIn : ℕ → ℕ
-answerIn n = n % 256
+unfoldable pub unpackedNo : ℕ → ℕ
+unpackedNo n = n % 256
 
-unfoldable pub placeIn : ℕ → ℕ
-placeIn n = n / 256
+unfoldable pub unpackedPlace : ℕ → ℕ
+unpackedPlace n = n / 256
 
 unfoldable pub judgePacked : List ℕ → ℕ
 judgePacked s = packedOf (verdictNo (judgeBytes s .verdict)) (verdictPlace (judgeBytes s .verdict))

@@ -14,6 +14,7 @@ use Rattle.cases.specs.declared.case.Register.{Register}
 use Rattle.cases.specs.declared.case.Program.{Program}
 use Rattle.cases.specs.Choice.{pick, both, either}
 use Rattle.cases.specs.Sizes.{mostThreads, mostInstructions, mostLocations}
+use Rattle.cases.specs.Operations.{lastOperation}
 use Rattle.machine.specs.declared.cells.State.{State}
 use Rattle.machine.specs.declared.cells.Waiting.{Waiting}
 use Rattle.machine.specs.declared.cells.Entry.{Entry}
@@ -66,7 +67,7 @@ module _ (p : Program) (s : State) (t : ℕ) (o : Spare p s t) where
       let m : t < mostThreads = omega arith in
       let n = buffer-within p s (o .fit) t m in
       let h = buffer-long p s (o .fit) t m in
-      let w = o .place in
+      let w = o .space in
       let b : List Waiting = buffer s t ++ (record { entry = e } ∷ []) in
       let k : length b ≤ mostInstructions = simp (length-append, h) (omega arith) in
       record {
@@ -115,7 +116,7 @@ module _ (p : Program) (s : State) (t : ℕ) (o : Spare p s t) where
 -- an instruction that is counted already; an entry that is out of its buffer
 module _ (p : Program) (s : State) (t : ℕ) (o : Spare p s t) (low : t < p .threads) where
   pub performed-adds : (l : Location) (r : Register) (w : ℕ) → l .0 < p .locations
-      → (op : ℕ) → 1 ≤ op → op ≤ 8
+      → (op : ℕ) → 1 ≤ op → op ≤ lastOperation
       → Adds s (performed s t (of op l r w)) t (joins (s .registers) t (of op l r w))
       (λ m. exchanges m (of op l r w))
   unfolding performed pick both either isBarrier entryOf loaded exchanged joins exchanges

@@ -1,4 +1,4 @@
--- The candidates are exactly the steps that 5 and 8 have nothing against; and so the list of next steps holds
+-- The candidates are exactly the steps that pass the checks 5 and 8; and so the list of next steps holds
 -- exactly the legal ones. Assumes nothing.
 use Prim.Native.Nat.{ℕ, zero, suc, _+_, _≤_, _<_}
 use mathlib.Core.Path.{_≡_, refl, sym, ap, _∙_, subst}
@@ -21,7 +21,7 @@ use Rattle.machine.proofs.RangeLaws.{InRange, fault-none, StepKinds, st
 use Rattle.machine.specs.Next.{issueStep, moveStep, persistStep, issuesFrom, movesAt, movesFrom}
 use Rattle.machine.specs.Next.{persistsFrom, candidates, allowed, legalSteps, Listed}
 
--- among the allowed are exactly the listed ones that the rule has nothing against
+-- among the allowed are exactly the listed ones that break no rule
 pub allowed-listed : (rule : Step → ℕ) (k : Step) (ks : List Step) → Listed k ks → rule k ≡ 0
     → Listed k (allowed rule ks)
 unfolding allowed Listed pick
@@ -93,7 +93,7 @@ listed-persist l (suc m) i h k = go (eq-or-lt-of-le h) (listed-persist (suc l) m
     go (inl e) ih = inl (ap persistStep (sym e))
     go (inr a) ih = inr (ih a (omega arith))
 
--- every step that 5 and 8 have nothing against is a candidate
+-- every step that passes the checks 5 and 8 is a candidate
 pub fault-candidate : (p : Program) (k : Step) → stepFault p k ≡ 0 → Listed k (candidates p)
 unfolding candidates
 fault-candidate p k h = go (step-kinds p k h)

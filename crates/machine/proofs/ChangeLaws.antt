@@ -41,7 +41,7 @@ closing-start from end n row e h k =
       shifted = sym (shift-none from row);
     }
 
--- a turn of that loop moves one more; all are moved, and the last place is made blank
+-- a turn of that loop moves one more; all are moved, and the last one is made blank
 module _ {A : Type 0} {from end n : ℕ} {before row : List A} {i : ℕ} (o : Closing from end n before row i) where
   pub closing-next : (d : A) → i < end → Closing from end n before (set row (i - 1) (getD row i d)) (i + 1)
   closing-next d h =

@@ -1,4 +1,4 @@
--- Laws of the test of a state's fit, for each place of the code that makes it: loops through the entries of a
+-- Laws of the test of a state's fit, for each point of the code that makes it: loops through the entries of a
 -- buffer, the marks of a queue, the threads or the locations; loops that sum; chains of tests. Assumes nothing.
 use Prim.Native.Nat.{ℕ, zero, suc, _+_, _*_, _≤_, _<_}
 use mathlib.Core.Path.{_≡_, refl}
@@ -15,11 +15,11 @@ use mir.Val.{Fits}
 use Rattle.cases.specs.declared.case.Program.{Program}
 use Rattle.cases.specs.Choice.{both, either}
 use Rattle.cases.specs.Sizes.{mostThreads, mostInstructions}
+use Rattle.cases.specs.Checks.{countAt}
 use Rattle.machine.specs.declared.cells.State.{State}
 use Rattle.machine.specs.declared.cells.Waiting.{Waiting}
 use Rattle.machine.specs.Sizes.{room}
 use Rattle.machine.specs.View.{part, marksIn, queueLen, blankWaiting, buffer, bufferLen, issuedOf}
-use Rattle.machine.specs.Rules.{countAt}
 use Rattle.machine.specs.Fit.{sumTo, strays, anyStrays, anyForeign, unissued, due}
 use Rattle.machine.specs.Fit.{threadMisfits, queueMisfits}
 use Rattle.machine.proofs.PartLaws.{getD-part, part-next, part-end}
@@ -126,7 +126,7 @@ module _ (p : Program) (s : State) where
       let b = sum-most mostThreads 255 (unissued p s) (λ t l. unissued-most t (k t)) in
       omega arith
 
--- place i of m, and n that stand there: something stands where there is no such place, or it doesn't. Of the
+-- number i of m, and n that stand there: something stands where there is no such number, or it doesn't. Of the
 -- two ways in which the code finds that it doesn't, each tells what it found.
 module _ (m i n : ℕ) where
   lacked-some : m ≤ i → ltb 0 n ≡ true → both (leb m i) (ltb 0 n) ≡ true

@@ -3,8 +3,8 @@ use Prim.Native.Nat.{ℕ}
 use Rattle.cases.proofs.Computing.{reading-computes}
 use Rattle.machine.specs.View.{part, put, without, slots, wordsOf, marksOf, marksIn, queueIn, withQueue}
 use Rattle.machine.specs.View.{bufferIn, withBuffer, withWord, withRegister, withIssued}
-use Rattle.machine.specs.Look.{wordOr, newestIn, storedOr, newestStore, queuedWord, loadOf, markerIn}
-use Rattle.machine.specs.Look.{markerFrom, markerOf, marked, bars, firstBar}
+use Rattle.machine.specs.Look.{wordOr, newestWrite, storedOr, newestStore, queuedWord, loadOf}
+use Rattle.machine.specs.Look.{markerAmong, markerFrom, markerOf, marked, bars, firstBar}
 use Rattle.machine.specs.Rules.{enqueue, await, barrierRule, isBarrier, operationRule, issueRule, entryOf}
 use Rattle.machine.specs.Rules.{loaded, exchanged, performed, issueOf, effectRule, effectOf, passRule}
 use Rattle.machine.specs.Rules.{moveRule, moveOf, persistRule, persistFirst, persistOf, ruleIn, ruleOf}
@@ -19,7 +19,7 @@ use Rattle.machine.specs.Next.{legalSteps}
 -- ruleOf and nextOf
 unfoldable pub steps-compute : ℕ
 unfolding part put without slots wordsOf marksOf marksIn queueIn withQueue bufferIn withBuffer withWord
-    withRegister withIssued wordOr newestIn storedOr newestStore queuedWord loadOf markerIn markerFrom markerOf
+    withRegister withIssued wordOr newestWrite storedOr newestStore queuedWord loadOf markerAmong markerFrom markerOf
     marked bars firstBar enqueue await barrierRule isBarrier operationRule issueRule entryOf loaded exchanged
     performed issueOf effectRule effectOf passRule moveRule moveOf persistRule persistFirst persistOf ruleIn
     ruleOf nextOf startOf

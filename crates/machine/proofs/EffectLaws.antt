@@ -16,13 +16,15 @@ use Rattle.cases.specs.declared.case.Program.{Program}
 use Rattle.cases.specs.Choice.{pick, either}
 use Rattle.cases.specs.Sizes.{mostThreads, mostInstructions, mostLocations}
 use Rattle.cases.proofs.ChoiceLaws.{refuse-none}
+use Rattle.cases.specs.Checks.{countAt}
+use Rattle.cases.specs.Operations.{exchange}
 use Rattle.machine.specs.declared.cells.State.{State}
 use Rattle.machine.specs.declared.cells.Waiting.{Waiting}
 use Rattle.machine.specs.declared.cells.Entry.{Entry}
 use Rattle.machine.specs.declared.cells.Entry.the-variants.{Store, Flush, FlushOpt, Sfence}
 use Rattle.machine.specs.View.{without, queue, bufferIn, buffer, bufferLen, withBuffer, wordOf}
 use Rattle.machine.specs.View.{issuedOf, withIssued}
-use Rattle.machine.specs.Rules.{countAt, instructionAt, entryAt, isBarrier, barrierRule, operationRule}
+use Rattle.machine.specs.Rules.{instructionAt, entryAt, isBarrier, barrierRule, operationRule}
 use Rattle.machine.specs.Rules.{issueRule, issueOf, effectRule, passRule, moveRule, moveOf, ruleIn}
 use Rattle.machine.specs.Rules.{ruleOf, nextOf}
 use Rattle.machine.specs.Joins.{joins, exchanges, enters}
@@ -84,7 +86,7 @@ module _ (p : Program) (s : State) (f : Fits p s) (t : ℕ) (low : t < p .thread
   issue-word = issue-adds .words
 
   -- rule 22 and the exchange
-  pub exchange-alone : next .operation ≡ 4 → buffer s t ≡ []
+  pub exchange-alone : next .operation ≡ exchange → buffer s t ≡ []
   unfolding ruleOf ruleIn pick issueRule operationRule isBarrier either barrierRule bufferIn
   exchange-alone e =
       let rest = rw e at (refuse-none _ 20 _ legal .1) in

@@ -9,12 +9,13 @@ use Rattle.cases.specs.declared.case.Location.{Location}
 use Rattle.cases.specs.declared.case.Step.{Step}
 use Rattle.cases.specs.declared.case.Program.{Program}
 use Rattle.cases.specs.Sizes.{mostThreads, mostLocations}
-use Rattle.cases.specs.Checks.{stepFault}
+use Rattle.cases.specs.Checks.{stepFault, countAt}
+use Rattle.cases.specs.Operations.{exchange}
 use Rattle.machine.specs.declared.cells.State.{State}
 use Rattle.machine.specs.declared.cells.Entry.the-variants.{FlushOpt}
 use Rattle.machine.specs.View.{Slot, without, queue, buffer, wordOf, issuedOf}
 use Rattle.machine.specs.Look.{wordOr}
-use Rattle.machine.specs.Rules.{countAt, instructionAt, entryAt, ruleOf, nextOf, startOf}
+use Rattle.machine.specs.Rules.{instructionAt, entryAt, ruleOf, nextOf, startOf}
 use Rattle.machine.specs.Joins.{joins, exchanges, enters}
 use Rattle.machine.specs.Fit.{Fits}
 use Rattle.machine.specs.Next.{issueStep, moveStep, persistStep}
@@ -23,7 +24,7 @@ use Rattle.machine.proofs.StartLaws as StartLaws
 use Rattle.machine.proofs.EffectLaws as EffectLaws
 use Rattle.machine.proofs.PersistLaws as PersistLaws
 
--- a step that 5 and 8 have nothing against is an issue, a move or a persist
+-- a step that passes the checks 5 and 8 is an issue, a move or a persist
 pub step-kinds : (p : Program) (k : Step) → stepFault p k ≡ 0
     → ((t : ℕ) × (t < p .threads) × (k ≡ issueStep t))
     ⊎ ((t : ℕ) × (i : ℕ) × (t < p .threads) × (k ≡ moveStep t i))
@@ -73,7 +74,7 @@ module _ (p : Program) (s : State) (fit : Fits p s) where
     issue-word = EffectLaws.issue-word p s fit t low legal
 
     -- "Exchange and mfence need the own buffer empty (else 22)": of the exchange
-    pub exchange-alone : instructionAt p t (issuedOf s t) .operation ≡ 4 → buffer s t ≡ []
+    pub exchange-alone : instructionAt p t (issuedOf s t) .operation ≡ exchange → buffer s t ≡ []
     exchange-alone = EffectLaws.exchange-alone p s fit t low legal
 
   -- what a move does to each part

@@ -13,13 +13,14 @@ use Rattle.cases.specs.Sizes.{mostThreads, mostInstructions, mostLocations}
 use Rattle.cases.specs.Writing.{readsBack}
 use Rattle.cases.proofs.ChoiceLaws.{either-false}
 use Rattle.cases.proofs.Promises.{readable-ranged}
+use Rattle.cases.specs.Checks.{countAt}
 use Rattle.machine.specs.declared.cells.State.{State}
 use Rattle.machine.specs.declared.cells.Waiting.{Waiting}
 use Rattle.machine.specs.declared.cells.Entry.{Entry}
 use Rattle.machine.specs.declared.cells.Entry.the-variants.{Store, Flush, FlushOpt, Sfence}
 use Rattle.machine.specs.Sizes.{room}
 use Rattle.machine.specs.View.{queueLen, marksIn, buffer, bufferLen, issuedOf}
-use Rattle.machine.specs.Rules.{countAt, startOf}
+use Rattle.machine.specs.Rules.{startOf}
 use Rattle.machine.specs.Fit.{strays, anyStrays, anyForeign, unissued, due, threadMisfits}
 use Rattle.machine.specs.Fit.{queueMisfits, misfits, Sized, ProgramFits, Named, AllNamed, AllBorne, Fits}
 use Rattle.machine.proofs.AnyLaws.{any-none, none-any}
@@ -30,7 +31,7 @@ either-none : (a b : Bool) → a ≡ false → b ≡ false → either a b ≡ fa
 unfolding either
 either-none a b h k = rw (h, k)
 
--- nothing stands where the program has no such place
+-- nothing stands where the program has no such thread or location
 none-is : (m i n : ℕ) → both (leb m i) (ltb 0 n) ≡ false → m ≤ i → n ≡ 0
 unfolding both
 none-is m i n h l = let e = ltb-false 0 n (rw (le-leb m i l) at h) in omega arith

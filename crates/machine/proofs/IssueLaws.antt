@@ -10,13 +10,15 @@ use Rattle.cases.specs.declared.case.Program.{Program}
 use Rattle.cases.specs.Choice.{pick}
 use Rattle.cases.specs.Ranges.{InstructionFits}
 use Rattle.cases.proofs.ChoiceLaws.{refuse-none}
+use Rattle.cases.specs.Checks.{countAt}
+use Rattle.cases.specs.Operations.{lastOperation}
 use Rattle.machine.specs.declared.cells.State.{State}
 use Rattle.machine.specs.declared.cells.Entry.the-variants.{Flush, FlushOpt, Sfence}
 use Rattle.machine.specs.Sizes.{room}
 use Rattle.machine.specs.View.{writeSlot, queue, queueLen, buffer, wordOf, withRegister, issuedOf}
 use Rattle.machine.specs.View.{withIssued}
-use Rattle.machine.specs.Look.{newestIn, newestStore, queuedWord, loadOf}
-use Rattle.machine.specs.Rules.{countAt, instructionAt, issueRule, entryOf, loaded, exchanged}
+use Rattle.machine.specs.Look.{newestWrite, newestStore, queuedWord, loadOf}
+use Rattle.machine.specs.Rules.{instructionAt, issueRule, entryOf, loaded, exchanged}
 use Rattle.machine.specs.Rules.{performed, issueOf}
 use Rattle.machine.specs.Fit.{Fits, Named}
 use Rattle.machine.specs.Work.{unissuedWeight, waitingWeight, work}
@@ -28,7 +30,7 @@ use Rattle.machine.proofs.WorkLaws.{work-enqueue, work-await, work-coun
 -- What an instruction does, where it is counted already
 module _ (p : Program) (s : State) (t : ℕ) (o : Spare p s t) (low : t < p .threads)
     (l : Location) (r : Register) (w : ℕ) (there : l .0 < p .locations) where
-  performed-fits : (op : ℕ) → 1 ≤ op → op ≤ 8 → Fits p (performed s t (of op l r w))
+  performed-fits : (op : ℕ) → 1 ≤ op → op ≤ lastOperation → Fits p (performed s t (of op l r w))
   unfolding performed pick entryOf Named loaded exchanged
   performed-fits =
       each-operation (λ op. Fits p (performed s t (of op l r w)))
@@ -41,13 +43,13 @@ module _ (p : Program) (s : State) (t : ℕ) (o : Spare p s t) (low : t < p .thr
       (await-fits p s t o low Sfence tt)
       (o .fit)
 
-  performed-work : (op : ℕ) → 1 ≤ op → op ≤ 8
+  performed-work : (op : ℕ) → 1 ≤ op → op ≤ lastOperation
       → work p (performed s t (of op l r w)) + 1 ≡ work p s + unissuedWeight op
   unfolding performed pick entryOf loaded exchanged unissuedWeight waitingWeight
   performed-work =
       let z = o .fit .program .few-threads in
       let y = o .fit .program .few-locations in
-      let b = o .place in
+      let b = o .space in
       let q = o .queues (l .0) (omega arith) in
       let v = queuedWord s (l .0) in
       let x = work-register p s (o .fit) t (r .0) v in
@@ -94,7 +96,7 @@ module _ (p : Program) (s : State) (f : Fits p s) (t : ℕ)
 
 -- what a load's register takes, from the queue's word and then the buffer's
 pub load-is : (s : State) (t : ℕ) (x : Instruction) (queued found : ℕ)
-    → queued ≡ newestIn (queue s (x .location .0)) (wordOf s (x .location .0))
+    → queued ≡ newestWrite (queue s (x .location .0)) (wordOf s (x .location .0))
     → found ≡ newestStore (x .location .0) (buffer s t) queued
     → withRegister s t (x .register .0) found ≡ loaded s t x
 unfolding loaded loadOf queuedWord

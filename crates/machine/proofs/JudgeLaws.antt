@@ -136,7 +136,7 @@ module _ (p : Program) (s : State) (ks : List Step) where
             subst (λ n. ruleOf p (e .1) (getD ks n noStep) ≡ r) (w .1) (w .0),
           )
 
--- A single step that neither 5 and 8 nor a rule stands against
+-- A single step that passes the checks 5 and 8 and breaks no rule
 pub stepped-legal : (p : Program) (s : State) (k : Step) (u : State) → stepFault p k ≡ 0 → ruleOf p s k ≡ 0
     → u ≡ nextOf p s k
     → told Allowed u ≡ steppedOf p s k

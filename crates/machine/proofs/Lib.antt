@@ -7,7 +7,7 @@ pub mod AnyLaws
 pub mod ListLaws
 pub mod OperationLaws
 pub mod Computing
--- lists in places, and the state's parts
+-- rows within arrays, and the state's parts
 mod PartLaws
 mod PutLaws
 mod SlotLaws

@@ -1,5 +1,5 @@
 -- Laws of the looks that are one loop each: for each a record of what it has found so far, made where the loop
--- begins (start), and one law for each place of the loop that uses it (next, here, end). Assumes nothing.
+-- begins (start), and one law for each point of the loop that uses it (next, here, end). Assumes nothing.
 use Prim.Native.Nat.{ℕ, suc, _+_, _*_, _≤_, _<_}
 use mathlib.Core.Path.{_≡_, refl, sym, _∙_}
 use mathlib.Core.Bool.{true, false}
@@ -12,11 +12,11 @@ use Rattle.cases.specs.Sizes.{mostInstructions}
 use Rattle.machine.specs.declared.cells.Waiting.{Waiting}
 use Rattle.machine.specs.Sizes.{room}
 use Rattle.machine.specs.View.{part, slots, marksIn, queueIn, blankWaiting, bufferIn}
-use Rattle.machine.specs.Look.{wordOr, newestIn, storedOr, newestStore, bars, firstBar}
+use Rattle.machine.specs.Look.{wordOr, newestWrite, storedOr, newestStore, bars, firstBar}
 use Rattle.machine.proofs.PartLaws.{length-part, take-part, part-next, part-end}
 use Rattle.machine.proofs.SlotLaws.{drop-slots}
 
--- a queue's words and marks side by side: the slot at place i, and the end
+-- a queue's words and marks side by side: the slot at position i, and the end
 module _ (held marks : List ℕ) (base n : ℕ) (h : base + n ≤ length held) (k : base + n ≤ length marks) where
   slots-rest : (i : ℕ) → drop i (slots (part base n held) (part base n marks))
       ≡ slots (drop i (part base n held)) (drop i (part base n marks))
@@ -37,12 +37,12 @@ module _ (held marks : List ℕ) (base n : ℕ) (h : base + n ≤ length held) (
   unfolding slots
   slots-end i r = slots-rest i ∙ rw (part-end base n i held r)
 
--- newestIn: the slots behind the first i say of the word so far what all of them say of the word given
+-- newestWrite: the slots behind the first i say of the word so far what all of them say of the word given
 pub record NewestSoFar (held marks : List ℕ) (base n i word other : ℕ) : Type 0 where
   pub held-long : base + n ≤ length held
   pub marks-long : base + n ≤ length marks
-  pub rest : newestIn (drop i (slots (part base n held) (part base n marks))) word
-      ≡ newestIn (slots (part base n held) (part base n marks)) other
+  pub rest : newestWrite (drop i (slots (part base n held) (part base n marks))) word
+      ≡ newestWrite (slots (part base n held) (part base n marks)) other
 
 pub newest-start : (held marks : List ℕ) (base n other : ℕ) → base + n ≤ length held → base + n ≤ length marks
     → NewestSoFar held marks base n 0 other other
@@ -52,7 +52,7 @@ pub newest-next : {held marks : List ℕ} {base n i word other : ℕ} → Newest
     → i < n → (next : ℕ)
     → next ≡ wordOr (record { word = getD held (base + i) 0; mark = getD marks (base + i) 0 }) word
     → NewestSoFar held marks base n (i + 1) next other
-unfolding newestIn
+unfolding newestWrite
 newest-next {held} {marks} {base} {n} {i} {word} {other} o h next e =
     record {
       held-long = o .held-long;
@@ -62,8 +62,8 @@ newest-next {held} {marks} {base} {n} {i} {word} {other} o h next e =
 
 pub newest-end : {held marks : List ℕ} (lengths : List ℕ) (l : ℕ) {i word other : ℕ}
     → NewestSoFar held marks (l * room) (getD lengths l 0) i word other → getD lengths l 0 ≤ i
-    → word ≡ newestIn (queueIn held marks lengths l) other
-unfolding newestIn queueIn marksIn
+    → word ≡ newestWrite (queueIn held marks lengths l) other
+unfolding newestWrite queueIn marksIn
 newest-end {held} {marks} lengths l {i} o h =
     rw (slots-end held marks (l * room) (getD lengths l 0) (o .held-long) (o .marks-long) i h) at (o .rest)
 

@@ -1,5 +1,5 @@
 -- Laws of `markerOf`, the look for a thread's first marker, queue by queue: for each of its two loops a record
--- of what it has found so far, made where the loop begins (start), and one law for each place of the loop that
+-- of what it has found so far, made where the loop begins (start), and one law for each point of the loop that
 -- uses it (next, here, end). Assumes nothing.
 use Prim.Native.Nat.{ℕ, suc, _+_, _*_, _-_, _≤_, _<_}
 use mathlib.Core.Path.{_≡_, refl, sym, _∙_}
@@ -17,7 +17,7 @@ use Rattle.machine.specs.declared.look.Found.the-variants.{At, Nothing}
 use Rattle.machine.specs.Sizes.{room, mostSlots}
 use Rattle.machine.specs.View.{marksIn}
 use Rattle.machine.specs.Fit.{Shallow}
-use Rattle.machine.specs.Look.{markerIn, markerFrom, markerOf}
+use Rattle.machine.specs.Look.{markerAmong, markerFrom, markerOf}
 use Rattle.machine.proofs.PartLaws.{part-next, part-end}
 
 -- markerOf, from queue to queue: the queues from l on say what all of them say
@@ -29,7 +29,7 @@ pub record QueuesSoFar (marks lengths : List ℕ) (mark l : ℕ) (found : Found)
   pub rest : (t : ℕ) → mark ≡ t + 1
       → markerFrom marks lengths t (mostLocations - l) l ≡ markerOf marks lengths t
 
--- and within queue l: its marks from place i on, and the queues behind it, say what all queues say
+-- and within queue l: its marks from position i on, and the queues behind it, say what all queues say
 pub record MarksSoFar (marks lengths : List ℕ) (mark l n i : ℕ) (found : Found) : Type 0 where
   pub long : length marks ≡ mostSlots
   pub shallow : Shallow lengths
@@ -38,7 +38,7 @@ pub record MarksSoFar (marks lengths : List ℕ) (mark l n i : ℕ) (found : Fou
   pub counted : n ≡ getD lengths l 0
   pub none : found ≡ Nothing
   pub rest : (t : ℕ) → mark ≡ t + 1
-      → markerIn t l i (drop i (marksIn marks lengths l))
+      → markerAmong t l i (drop i (marksIn marks lengths l))
       (markerFrom marks lengths t (mostLocations - (l + 1)) (l + 1))
       ≡ markerOf marks lengths t
 
@@ -49,7 +49,7 @@ queues-start marks lengths mark h k =
     record { long = h; shallow = k; within = omega arith; none = refl; rest = λ t e. refl }
 
 marker-from-next : (marks lengths : List ℕ) (t n l : ℕ) → l < n
-    → markerIn t l 0 (marksIn marks lengths l) (markerFrom marks lengths t (n - (l + 1)) (l + 1))
+    → markerAmong t l 0 (marksIn marks lengths l) (markerFrom marks lengths t (n - (l + 1)) (l + 1))
     ≡ markerFrom marks lengths t (n - l) l
 unfolding markerFrom
 marker-from-next marks lengths t n l h =
@@ -85,11 +85,11 @@ module _ {marks lengths : List ℕ} {mark l n i : ℕ} {found : Found}
     unfolding marksIn
     marks-at = part-next (l * room) (getD lengths l 0) i marks 0 (omega arith) (omega arith)
 
-    marker-in-next : (t : ℕ) (after : Found) → eqb (getD marks (l * room + i) 0) (t + 1) ≡ false
-        → markerIn t l (i + 1) (drop (i + 1) (marksIn marks lengths l)) after
-        ≡ markerIn t l i (drop i (marksIn marks lengths l)) after
-    unfolding markerIn pick
-    marker-in-next t after e = rw (marks-at, e, add-one)
+    marker-among-next : (t : ℕ) (after : Found) → eqb (getD marks (l * room + i) 0) (t + 1) ≡ false
+        → markerAmong t l (i + 1) (drop (i + 1) (marksIn marks lengths l)) after
+        ≡ markerAmong t l i (drop i (marksIn marks lengths l)) after
+    unfolding markerAmong pick
+    marker-among-next t after e = rw (marks-at, e, add-one)
 
     pub marks-next : (getD marks (l * room + i) 0 ≡ mark → ⊥) → MarksSoFar marks lengths mark l n (i + 1) found
     marks-next f =
@@ -100,16 +100,16 @@ module _ {marks lengths : List ℕ} {mark l n i : ℕ} {found : Found}
           few = o .few;
           counted = o .counted;
           none = o .none;
-          rest = λ t e. marker-in-next t _ (ne-eqb _ _ (λ p. f (p ∙ sym e))) ∙ o .rest t e;
+          rest = λ t e. marker-among-next t _ (ne-eqb _ _ (λ p. f (p ∙ sym e))) ∙ o .rest t e;
         }
 
     pub marker-here : (t : ℕ) → mark ≡ t + 1 → getD marks (l * room + i) 0 ≡ mark
         → At (record { 0 = l }) i ≡ markerOf marks lengths t
-    unfolding markerIn pick
+    unfolding markerAmong pick
     marker-here t e p = rw (marks-at, eq-eqb _ _ (p ∙ e)) at (o .rest t e)
 
   pub queues-next : n ≤ i → QueuesSoFar marks lengths mark (l + 1) found
-  unfolding markerIn marksIn
+  unfolding markerAmong marksIn
   queues-next h =
       record {
         long = o .long;

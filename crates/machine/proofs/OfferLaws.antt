@@ -11,11 +11,12 @@ use Rattle.cases.specs.declared.case.Step.{Step}
 use Rattle.cases.specs.declared.case.Program.{Program}
 use Rattle.cases.specs.Choice.{refuse}
 use Rattle.cases.specs.Sizes.{mostThreads, mostInstructions, mostLocations}
+use Rattle.cases.specs.Checks.{countAt}
 use Rattle.machine.specs.declared.cells.Waiting.{Waiting}
 use Rattle.machine.specs.declared.next.Next.{Next}
 use Rattle.machine.specs.Sizes.{mostCandidates}
 use Rattle.machine.specs.View.{bufferIn}
-use Rattle.machine.specs.Rules.{countAt, instructionAt, operationRule, issueRule, entryAt}
+use Rattle.machine.specs.Rules.{instructionAt, operationRule, issueRule, entryAt}
 use Rattle.machine.specs.Fit.{Named, ProgramFits}
 use Rattle.machine.specs.Next.{issueStep, moveStep, persistStep, issuesFrom, movesAt, movesFrom}
 use Rattle.machine.specs.Next.{persistsFrom}

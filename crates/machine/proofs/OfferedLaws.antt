@@ -97,7 +97,7 @@ count-offered-all rule (k ∷ ks) n =
     let b = count-offered-all rule ks (offered (rule k) k n) in
     omega arith
 
--- a step that a rule stands against leaves the list as it is, another one stands behind it
+-- a step that breaks a rule leaves the list as it is, another one stands behind it
 pub offered-none : (broken : ℕ) (k : Step) (n : Next) → broken ≢ 0 → offered broken k n ≡ n
 unfolding offered
 offered-none broken k n h = pick-false _ _ _ (ne-eqb _ _ h)

@@ -1,6 +1,6 @@
 -- No program wedges the machine: in a state that fits, while there is something to do, some step is legal. What
--- a queue holds may persist; where no queue holds anything, no rule stands against a buffer's first entry, nor
--- against issuing where the buffer is empty. Assumes nothing.
+-- a queue holds may persist; where no queue holds anything, a buffer's first entry may move, and a thread whose
+-- buffer is empty may issue. Assumes nothing.
 use Prim.Native.Nat.{ℕ, zero, suc, _+_, _≤_, _<_}
 use mathlib.Core.Path.{_≡_, refl, sym, ap, _∙_}
 use mathlib.Core.Logic.{_⊎_, inl, inr, _≢_, ⊎-elim}
@@ -12,7 +12,7 @@ use lib.ListN.{length, getD}
 use Rattle.cases.specs.declared.case.Step.{Step}
 use Rattle.cases.specs.declared.case.Program.{Program}
 use Rattle.cases.specs.Choice.{pick, refuse}
-use Rattle.cases.specs.Checks.{stepFault}
+use Rattle.cases.specs.Checks.{stepFault, countAt}
 use Rattle.cases.specs.Sizes.{mostThreads, mostLocations}
 use Rattle.cases.proofs.ChoiceLaws.{pick-cases}
 use Rattle.cases.proofs.ArrayLaws.{length-none}
@@ -21,8 +21,8 @@ use Rattle.machine.specs.declared.cells.Entry.{Entry}
 use Rattle.machine.specs.declared.cells.Entry.the-variants.{Store, Flush, FlushOpt, Sfence}
 use Rattle.machine.specs.declared.look.Found.the-variants.{Nothing}
 use Rattle.machine.specs.View.{part, marksIn, queue, queueLen, bufferIn, buffer, bufferLen, issuedOf}
-use Rattle.machine.specs.Look.{markerIn, markerFrom, markerOf, marked}
-use Rattle.machine.specs.Rules.{countAt, barrierRule, operationRule, issueRule, effectRule, moveRule}
+use Rattle.machine.specs.Look.{markerAmong, markerFrom, markerOf, marked}
+use Rattle.machine.specs.Rules.{barrierRule, operationRule, issueRule, effectRule, moveRule}
 use Rattle.machine.specs.Rules.{persistRule, ruleIn, ruleOf}
 use Rattle.machine.specs.Fit.{unissued, Fits, Named}
 use Rattle.machine.specs.Work.{weighCode, weighBuffer, codeLeft, threadWork, work, Unfinished}
@@ -38,7 +38,7 @@ use Rattle.machine.proofs.CandidateLaws.{issue-fault, move-fault, persi
 -- with an empty buffer
 module _ (marks lengths : List ℕ) (none : (l : ℕ) → l < mostLocations → getD lengths l 0 ≡ 0) (t : ℕ) where
   marker-none : (k l : ℕ) → l + k ≤ mostLocations → markerFrom marks lengths t k l ≡ Nothing
-  unfolding markerFrom markerIn marksIn part
+  unfolding markerFrom markerAmong marksIn part
   marker-none zero l h = refl
   marker-none (suc k) l h = rw (none l (omega arith)) (marker-none k (suc l) (omega arith))
 

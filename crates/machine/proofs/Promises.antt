@@ -13,7 +13,7 @@ use Rattle.cases.specs.declared.case.Ask.{Ask}
 use Rattle.cases.specs.declared.case.Case.{Case}
 use Rattle.cases.specs.Sizes.{mostThreads, mostSteps, longest}
 use Rattle.cases.specs.Bytes.{IsBytes}
-use Rattle.cases.specs.Checks.{stepFault}
+use Rattle.cases.specs.Checks.{stepFault, countAt}
 use Rattle.cases.specs.Draft.{noStep, runWith, withAsk, withRun}
 use Rattle.cases.specs.Reading.{numberOf, offsetOf, readOf}
 use Rattle.cases.specs.Writing.{readsBack}
@@ -23,7 +23,7 @@ use Rattle.machine.specs.declared.cells.State.{State}
 use Rattle.machine.specs.declared.steps.Stepped.{Stepped}
 use Rattle.machine.specs.declared.runs.Verdict.the-variants.{Legal, Illegal}
 use Rattle.machine.specs.View.{queue, buffer, issuedOf}
-use Rattle.machine.specs.Rules.{countAt, ruleOf, nextOf, startOf}
+use Rattle.machine.specs.Rules.{ruleOf, nextOf, startOf}
 use Rattle.machine.specs.Fit.{sumTo, misfits, Sized, ProgramFits, Fits, Shallow}
 use Rattle.machine.specs.Work.{work, Unfinished, fullLength, programWeight, cost}
 use Rattle.machine.specs.Judge.{Leads, Faultless, StopsAt, rulingNo, told, steppedOf, stepOf, verdictNo}
@@ -55,12 +55,12 @@ read-fits s h = StartLaws.ranged-fits (readOf s .case) (read-ranged s h)
 -- A program that the machine can run
 module _ (p : Program) (fits : ProgramFits p) where
   -- its start fits it
-  pub begin-fits : Fits p (startOf p)
-  begin-fits = StartLaws.start-fits p fits
+  pub start-fits : Fits p (startOf p)
+  start-fits = StartLaws.start-fits p fits
 
   -- "The sum at the start is the program's full length, at most 96."
-  pub full-length-low : fullLength p ≤ mostSteps
-  full-length-low = StartLaws.full-most p fits
+  pub full-length-most : fullLength p ≤ mostSteps
+  full-length-most = StartLaws.full-most p fits
 
 -- "known from the program alone": it is what the threads' instructions weigh
 pub full-length-weighs : (p : Program) → fullLength p ≡ sumTo mostThreads (programWeight p)
@@ -71,14 +71,6 @@ module _ (c : Case) (readable : readsBack c ≡ true) where
   -- its program is one that the machine can run
   pub program-fits : ProgramFits (c .program)
   program-fits = StartLaws.ranged-fits c (readable-ranged c readable)
-
-  -- its start fits it
-  pub start-fits : Fits (c .program) (startOf (c .program))
-  start-fits = begin-fits (c .program) program-fits
-
-  -- "The sum at the start is the program's full length, at most 96."
-  pub full-length-most : fullLength (c .program) ≤ mostSteps
-  full-length-most = full-length-low (c .program) program-fits
 
   judge-is : judgeOf c ≡ judgeFrom (c .program) 0 (startOf (c .program)) (runOf c)
   unfolding judgeOf judgeRun
@@ -114,20 +106,20 @@ module _ (c : Case) (readable : readsBack c ≡ true) where
       → judgeOf c .state ≡ u
   judge-illegal-state i u h = rw judge-is (state-is _ _ _ _ u (says-illegal _ _ _ i u h))
 
-  -- 5 and 8 have nothing against its steps
+  -- its steps pass the checks 5 and 8
   pub run-faultless : Faultless (c .program) (runOf c)
   run-faultless = RunLaws.run-faultless c (readable-ranged c readable)
 
   -- a legal run of it ends in a state that fits, and has used up one of the full length for each of its steps
   pub legal-run-fits : (u : State) → Leads (c .program) (startOf (c .program)) (runOf c) u → Fits (c .program) u
   legal-run-fits u h =
-      RunLaws.leads-fits (c .program) _ (runOf c) u start-fits run-faultless h
+      RunLaws.leads-fits (c .program) _ (runOf c) u (start-fits (c .program) program-fits) run-faultless h
 
   pub legal-run-work : (u : State) → Leads (c .program) (startOf (c .program)) (runOf c) u
       → work (c .program) u + length (runOf c) ≡ fullLength (c .program)
   unfolding fullLength
   legal-run-work u h =
-      RunLaws.leads-work (c .program) _ (runOf c) u start-fits run-faultless h
+      RunLaws.leads-work (c .program) _ (runOf c) u (start-fits (c .program) program-fits) run-faultless h
 
   -- a run is legal to its end, or stops at one step
   pub legal-or-not :

@@ -52,7 +52,7 @@ module _ {ℓ} {A : Type ℓ} where
       ∙ sets-append xs base (part base n xs) (x ∷ [])
       ∙ rw (sets-same xs base n (omega arith), k)
 
-  -- put: one less, the one at place p; those behind it move down
+  -- put: one less, the one at position p; those behind it move down
   pub put-without : (blank : A) (xs : List A) (base n p : ℕ) → p < n → base + n ≤ length xs
       → put blank base n (without p (part base n xs)) xs ≡ closeGap blank (base + p) (base + n) xs
   unfolding put without closeGap shift

@@ -1,4 +1,4 @@
--- What a step that 5 and 8 have nothing against names, and of which kind it is. Assumes nothing.
+-- What a step that passes the checks 5 and 8 names, and of which kind it is. Assumes nothing.
 use Prim.Native.Nat.{ℕ, _≤_, _<_}
 use mathlib.Core.Path.{_≡_, refl}
 use mathlib.Core.Logic.{_⊎_, inl, inr, _≢_}
@@ -12,14 +12,15 @@ use Rattle.cases.specs.Choice.{both}
 use Rattle.cases.specs.Checks.{stepFault, stepOut, stepLeft, beyond, leftOver}
 use Rattle.cases.specs.Sizes.{mostInstructions}
 use Rattle.cases.proofs.ChoiceLaws.{refuse-none, either-false}
+use Rattle.cases.specs.Operations.{issue, move, persist, lastCode}
 use Rattle.machine.specs.Next.{issueStep, moveStep, persistStep}
 
--- what a step that 5 and 8 have nothing against uses is there, and what it doesn't use is 0
+-- what a step that passes the checks 5 and 8 uses is there, and what it doesn't use is 0
 pub record InRange (p : Program) (k : Step) : Type 0 where
-  pub low-code : k .code ≤ 2
+  pub low-code : k .code ≤ lastCode
   pub low-thread : k .code ≤ 1 → k .thread .0 < p .threads
-  pub low-position : k .code ≡ 1 → k .position < mostInstructions
-  pub low-location : k .code ≡ 2 → k .location .0 < p .locations
+  pub low-position : k .code ≡ move → k .position < mostInstructions
+  pub low-location : k .code ≡ persist → k .location .0 < p .locations
   pub no-thread : 2 ≤ k .code → k .thread .0 ≡ 0
   pub no-position : k .code ≢ 1 → k .position ≡ 0
   pub no-location : k .code ≢ 2 → k .location .0 ≡ 0
@@ -53,7 +54,7 @@ fault-none p k h =
 
 -- such a step of each code is made of what it names
 module _ (p : Program) (k : Step) (r : InRange p k) where
-  issue-is : k .code ≡ 0 → k ≡ issueStep (k .thread .0)
+  issue-is : k .code ≡ issue → k ≡ issueStep (k .thread .0)
   issue-is code =
       let position = r .no-position (λ z. omega arith) in
       let location = r .no-location (λ z. omega arith) in
@@ -64,7 +65,7 @@ module _ (p : Program) (k : Step) (r : InRange p k) where
         location = record { 0 = location i };
       }
 
-  move-is : k .code ≡ 1 → k ≡ moveStep (k .thread .0) (k .position)
+  move-is : k .code ≡ move → k ≡ moveStep (k .thread .0) (k .position)
   move-is code =
       let location = r .no-location (λ z. omega arith) in
       λ i. record {
@@ -74,7 +75,7 @@ module _ (p : Program) (k : Step) (r : InRange p k) where
         location = record { 0 = location i };
       }
 
-  persist-is : k .code ≡ 2 → k ≡ persistStep (k .location .0)
+  persist-is : k .code ≡ persist → k ≡ persistStep (k .location .0)
   persist-is code =
       let thread = r .no-thread (omega arith) in
       let position = r .no-position (λ z. omega arith) in
@@ -93,18 +94,19 @@ StepKinds p k =
     ⊎ ((l : ℕ) × (l < p .locations) × (k ≡ persistStep l))
 
 pub step-kinds : (p : Program) (k : Step) → stepFault p k ≡ 0 → StepKinds p k
-step-kinds p k h = go (eqb (k .code) 0) refl (eqb (k .code) 1) refl (fault-none p k h)
+step-kinds p k h = go (eqb (k .code) issue) refl (eqb (k .code) move) refl (fault-none p k h)
   where
-    go : (a : Bool) → eqb (k .code) 0 ≡ a → (b : Bool) → eqb (k .code) 1 ≡ b → InRange p k → StepKinds p k
+    go : (a : Bool) → eqb (k .code) issue ≡ a → (b : Bool) → eqb (k .code) move ≡ b → InRange p k
+        → StepKinds p k
     go true e b g r =
-        let code : k .code ≡ 0 = eqb-true _ _ e in
+        let code : k .code ≡ issue = eqb-true _ _ e in
         inl (k .thread .0, r .low-thread (omega arith), issue-is p k r code)
     go false e true g r =
-        let code : k .code ≡ 1 = eqb-true _ _ g in
+        let code : k .code ≡ move = eqb-true _ _ g in
         inr (inl (k .thread .0, k .position, r .low-thread (omega arith), move-is p k r code))
     go false e false g r =
         let c : k .code ≢ 0 = eqb-false _ _ e in
         let d : k .code ≢ 1 = eqb-false _ _ g in
         let m = r .low-code in
-        let code : k .code ≡ 2 = omega arith in
+        let code : k .code ≡ persist = omega arith in
         inr (inr (k .location .0, r .low-location code, persist-is p k r code))

@@ -56,7 +56,7 @@ legal-back p s g k h =
     (λ t i a b. move-back t i (omega arith) b)
     (λ l a. persist-back l) k (listed-allowed (ruleOf p s) k (candidates p) h .0)
 
--- a list whose every step comes back: whole, and from a place on
+-- a list whose every step comes back: whole, and from a position on
 all-back : (ks : List Step) → ((k : Step) → Listed k ks → stepAt (rankOf k) ≡ k)
     → map stepAt (map rankOf ks) ≡ ks
 unfolding Listed

@@ -9,16 +9,17 @@ use mathlib.Core.List.{List, [], _∷_}
 use lib.ListN.{length, getD}
 use Rattle.cases.specs.declared.case.Step.{Step}
 use Rattle.cases.specs.declared.case.Program.{Program}
-use Rattle.cases.specs.Checks.{stepFault}
+use Rattle.cases.specs.Checks.{stepFault, countAt}
 use Rattle.cases.specs.Sizes.{mostThreads, mostInstructions, mostLocations, mostRegisters}
 use Rattle.cases.proofs.ChoiceLaws.{pick-true, pick-false}
+use Rattle.cases.specs.Operations.{issue, move}
 use Rattle.machine.specs.declared.cells.State.{State}
 use Rattle.machine.specs.declared.cells.Waiting.{Waiting}
 use Rattle.machine.specs.declared.cells.Entry.{Entry}
 use Rattle.machine.specs.declared.cells.Entry.the-variants.{Store, Flush, FlushOpt, Sfence}
 use Rattle.machine.specs.Sizes.{room, mostSlots}
 use Rattle.machine.specs.View.{queueLen, buffer, bufferIn, bufferLen, issuedOf}
-use Rattle.machine.specs.Rules.{countAt, instructionAt, issueRule, moveRule, persistRule, ruleIn}
+use Rattle.machine.specs.Rules.{instructionAt, issueRule, moveRule, persistRule, ruleIn}
 use Rattle.machine.specs.Rules.{ruleOf}
 use Rattle.machine.specs.Rules.{entryAt}
 use Rattle.machine.specs.Fit.{ProgramFits, Fits, Named, AllNamed, Shallow, Roomy, unissued, due}
@@ -60,12 +61,12 @@ module _ (p : Program) (g : ProgramFits p) (k : Step) (faultless : stepFault p k
       omega arith
 
   module _ (marks lengths : List ℕ) (deep : Shallow lengths) (long : length marks ≡ mostSlots) where
-    pub issue-rule-ready : k .code ≡ 0
+    pub issue-rule-ready : k .code ≡ issue
         → (k .thread .0 < mostThreads) × (countAt p (k .thread .0) ≤ mostInstructions) × Shallow lengths
         × (length marks ≡ mostSlots)
     issue-rule-ready h = (thread-low (omega arith), g .few-instructions (k .thread .0), deep, long)
 
-    pub move-rule-ready : (buffers : List Waiting) (waiting : List ℕ) → Movable buffers waiting → k .code ≡ 1
+    pub move-rule-ready : (buffers : List Waiting) (waiting : List ℕ) → Movable buffers waiting → k .code ≡ move
         → (k .thread .0 < mostThreads) × (getD waiting (k .thread .0) 0 ≤ mostInstructions)
         × Named mostLocations (entryAt (bufferIn buffers waiting (k .thread .0)) 0) × Shallow lengths
         × (length marks ≡ mostSlots)
@@ -111,12 +112,12 @@ module _ (p : Program) (s : State) (f : Fits p s) where
 
     -- the three steps, where they are legal
     module _ (legal : ruleOf p s k ≡ 0) where
-      issue-legal : k .code ≡ 0
+      issue-legal : k .code ≡ issue
           → issueRule p (s .issued) (s .waiting) (s .marks) (s .lengths) (k .thread .0) ≡ 0
       unfolding ruleOf ruleIn
       issue-legal h = sym (pick-true _ _ _ (eq-eqb _ _ h)) ∙ legal
 
-      move-legal : k .code ≡ 1
+      move-legal : k .code ≡ move
           → moveRule (s .buffers) (s .waiting) (s .marks) (s .lengths) (k .thread .0) (k .position) ≡ 0
       unfolding ruleOf ruleIn
       move-legal h =
@@ -128,7 +129,7 @@ module _ (p : Program) (s : State) (f : Fits p s) where
       persist-legal h g =
           sym (pick-false _ _ _ (ne-eqb _ _ h) ∙ pick-false _ _ _ (ne-eqb _ _ g)) ∙ legal
 
-      pub issue-ready : k .code ≡ 0
+      pub issue-ready : k .code ≡ issue
           → (k .thread .0 < mostThreads) × (issuedOf s (k .thread .0) < mostInstructions)
           × (bufferLen s (k .thread .0) < mostInstructions)
           × (instructionAt p (k .thread .0) (issuedOf s (k .thread .0)) .location .0 < mostLocations)
@@ -149,7 +150,7 @@ module _ (p : Program) (s : State) (f : Fits p s) where
           = omega arith in
           (low, omega arith, omega arith, l, reg, queue-room (due-unissued (k .thread .0) low some) _ l)
 
-      pub move-ready : k .code ≡ 1
+      pub move-ready : k .code ≡ move
           → (k .thread .0 < mostThreads) × (k .position < bufferLen s (k .thread .0))
           × (bufferLen s (k .thread .0) ≤ mostInstructions)
           × Named mostLocations (entryAt (buffer s (k .thread .0)) (k .position)) × Roomy s

@@ -10,13 +10,14 @@ use native.Mathlib.Decide.{ℕ-discrete}
 use lib.ListN.{length, getD, length-append}
 use Rattle.cases.specs.declared.case.Program.{Program}
 use Rattle.cases.specs.Sizes.{mostThreads, mostInstructions, mostLocations}
+use Rattle.cases.specs.Checks.{countAt}
 use Rattle.machine.specs.declared.cells.State.{State}
 use Rattle.machine.specs.declared.cells.Waiting.{Waiting}
 use Rattle.machine.specs.declared.cells.Entry.{Entry}
 use Rattle.machine.specs.Sizes.{room}
 use Rattle.machine.specs.View.{Slot, marksOf, marksIn, queue, queueLen, without}
 use Rattle.machine.specs.View.{buffer, bufferLen, withBuffer, withRegister, issuedOf, withIssued}
-use Rattle.machine.specs.Rules.{countAt, enqueue, await}
+use Rattle.machine.specs.Rules.{enqueue, await}
 use Rattle.machine.specs.Fit.{sumTo, unissued, due, Fits, Named, AllNamed, AllBorne}
 use Rattle.machine.proofs.SumLaws.{sum-change}
 use Rattle.machine.proofs.PutLaws.{length-without}
@@ -54,7 +55,7 @@ named-without n (w ∷ b) (suc i) a = rw add-one (a .0, rw add-one at (named-wit
 -- room for one more
 pub record Spare (p : Program) (s : State) (t : ℕ) : Type 0 where
   pub fit : Fits p s
-  pub place : bufferLen s t + unissued p s t < mostInstructions
+  pub space : bufferLen s t + unissued p s t < mostInstructions
   pub queues : (l : ℕ) → l < mostLocations → queueLen s l + due p s < room
 
 -- the marks of a queue of a state that fits are its slots' marks
@@ -82,7 +83,7 @@ module _ (p : Program) (s : State) (f : Fits p s) (t i : ℕ) (low : t < p .thre
       record {
         fit = fits-buffer p s f t low b few (λ l h. let w = f .few-queued l h in let e = lower in omega arith)
             (named-without (p .locations) (buffer s t) i (f .named t in-threads));
-        place = room-left;
+        space = room-left;
         queues = λ l h. unfold withBuffer in (let w = f .few-queued l h in let e = lower in omega arith);
       }
     where
@@ -146,7 +147,7 @@ module _ (p : Program) (s : State) (f : Fits p s) (t : ℕ) (low : t < p .thread
           named = unfold withIssued in f .named;
           borne = unfold withIssued in f .borne;
         };
-        place =
+        space =
             unfold withIssued in (let w = f .few-waiting t in-range in let e = unissued-same in omega arith);
         queues = λ l h. unfold withIssued in (let w = f .few-queued l h in let e = due-counted in omega arith);
       }
@@ -170,7 +171,7 @@ module _ (p : Program) (s : State) (t : ℕ) (o : Spare p s t) where
       let n = buffer-long p s (o .fit) t (omega arith) in
       let k : length (buffer s t ++ (record { entry = e } ∷ [])) ≡ suc (bufferLen s t)
       = simp (length-append, n) (omega arith) in
-      let w = o .place in
+      let w = o .space in
       let d = due-buffer p s (o .fit) t low (buffer s t ++ (record { entry = e } ∷ [])) (omega arith) in
       fits-buffer p s (o .fit) t low (buffer s t ++ (record { entry = e } ∷ [])) (omega arith)
       (λ l h. let q = o .queues l h in omega arith)
@@ -192,6 +193,6 @@ module _ (p : Program) (s : State) (t : ℕ) (o : Spare p s t) where
   register-spare r w =
       record {
         fit = fits-register p s (o .fit) t r w;
-        place = unfold withRegister unissued in o .place;
+        space = unfold withRegister unissued in o .space;
         queues = unfold withRegister due unissued in o .queues;
       }

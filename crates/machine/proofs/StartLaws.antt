@@ -13,10 +13,11 @@ use Rattle.cases.specs.Sizes.{mostThreads, mostInstructions, mostLocations, mos
 use Rattle.cases.specs.Ranges.{Ranged}
 use Rattle.cases.proofs.ChoiceLaws.{pick-cases}
 use Rattle.cases.proofs.ArrayLaws.{getD-blank}
-use Rattle.machine.specs.Sizes.{room, mostSlots, mostPlaces}
+use Rattle.cases.specs.Checks.{countAt}
+use Rattle.machine.specs.Sizes.{room, mostSlots, allRegisters}
 use Rattle.machine.specs.View.{part, slots, marksIn, queue, queueIn, queueLen, buffer, bufferIn}
 use Rattle.machine.specs.View.{bufferLen, blankWaiting, issuedOf, wordOf}
-use Rattle.machine.specs.Rules.{countAt, startOf}
+use Rattle.machine.specs.Rules.{startOf}
 use Rattle.machine.specs.Fit.{sumTo, unissued, due, Sized, ProgramFits, Fits, AllNamed, AllBorne}
 use Rattle.machine.specs.Work.{unissuedWeight, weighCode, weighBuffer, codeLeft, threadWork, work}
 use Rattle.machine.specs.Work.{fullLength, programWeight}
@@ -84,7 +85,7 @@ module _ (p : Program) (g : ProgramFits p) where
         lengths-long = length-replicate {A = ℕ} mostLocations 0;
         buffers-long = length-replicate mostCode blankWaiting;
         waiting-long = length-replicate {A = ℕ} mostThreads 0;
-        registers-long = length-replicate {A = ℕ} mostPlaces 0;
+        registers-long = length-replicate {A = ℕ} allRegisters 0;
         issued-long = length-replicate {A = ℕ} mostThreads 0;
       }
 

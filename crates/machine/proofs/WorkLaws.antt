@@ -11,6 +11,7 @@ use Rattle.cases.specs.declared.case.Program.{Program}
 use Rattle.cases.specs.declared.case.Instruction.{Instruction}
 use Rattle.cases.specs.Sizes.{mostThreads, mostInstructions, mostLocations}
 use Rattle.cases.specs.Draft.{noInstruction}
+use Rattle.cases.specs.Checks.{countAt}
 use Rattle.machine.specs.declared.cells.State.{State}
 use Rattle.machine.specs.declared.cells.Waiting.{Waiting}
 use Rattle.machine.specs.declared.cells.Entry.{Entry}
@@ -18,7 +19,7 @@ use Rattle.machine.specs.Sizes.{room}
 use Rattle.machine.specs.View.{Slot, queue, queueLen, withQueue, without}
 use Rattle.machine.specs.View.{buffer, bufferLen, withBuffer, withWord, withRegister, issuedOf}
 use Rattle.machine.specs.View.{withIssued}
-use Rattle.machine.specs.Rules.{countAt, instructionAt, enqueue, await}
+use Rattle.machine.specs.Rules.{instructionAt, enqueue, await}
 use Rattle.machine.specs.Fit.{sumTo, unissued, Fits}
 use Rattle.machine.specs.Work.{unissuedWeight, waitingWeight, weighCode, weighBuffer, codeLeft}
 use Rattle.machine.specs.Work.{threadWork, work}

@@ -1,7 +1,11 @@
 -- Document 01, refusal 33: "a machine state in memory that doesn't fit its case". The test is the one truth;
 -- the record of facts is what proofs use of it (`fits-exactly` in proofs/Promises.antt ties the two).
+--   sumTo n f, anyFrom i n f   the sum of f below n; f is true of one of the n numbers from i on
+--   strays, anyStrays          an entry, or one of a buffer's, names a location that the program lacks
+--   anyForeign                 one of a queue's markers names a thread that it lacks
 --   misfits p s      the test: 33 where it is true
 --   Fits p s         the facts: the program's numbers are in range, and the state fits it
+--   Named, AllNamed, AllBorne  the same of entries and of markers
 -- Assumes nothing.
 use Prim.Native.Nat.{ℕ, zero, suc, _+_, _-_, _<_, _≤_}
 use mathlib.Core.Path.{_≡_}
@@ -13,20 +17,19 @@ use Rattle.cases.specs.declared.case.Program.{Program}
 use Rattle.cases.specs.Choice.{both, either}
 use Rattle.cases.specs.Sizes.{mostThreads, mostInstructions, mostLocations, mostCode}
 use Rattle.cases.specs.Ranges.{InstructionFits}
+use Rattle.cases.specs.Checks.{countAt}
 use Rattle.machine.specs.declared.cells.State.{State}
 use Rattle.machine.specs.declared.cells.Waiting.{Waiting}
 use Rattle.machine.specs.declared.cells.Entry.{Entry}
 use Rattle.machine.specs.declared.cells.Entry.the-variants.{Store, Flush, FlushOpt, Sfence}
-use Rattle.machine.specs.Sizes.{room, mostSlots, mostPlaces}
+use Rattle.machine.specs.Sizes.{room, mostSlots, allRegisters}
 use Rattle.machine.specs.View.{queueLen, marksIn, buffer, bufferLen, issuedOf}
-use Rattle.machine.specs.Rules.{countAt, instructionAt}
+use Rattle.machine.specs.Rules.{instructionAt}
 
--- the sum of f below n
 unfoldable pub sumTo : ℕ → (ℕ → ℕ) → ℕ
 sumTo zero f = 0
 sumTo (suc n) f = f n + sumTo n f
 
--- f is true of one of the n numbers from i on
 unfoldable pub anyFrom : ℕ → ℕ → (ℕ → Bool) → Bool
 anyFrom i zero f = false
 anyFrom i (suc n) f = either (f i) (anyFrom (suc i) n f)
@@ -85,7 +88,7 @@ pub record Sized (s : State) : Type 0 where
   pub lengths-long : length (s .lengths) ≡ mostLocations
   pub buffers-long : length (s .buffers) ≡ mostCode
   pub waiting-long : length (s .waiting) ≡ mostThreads
-  pub registers-long : length (s .registers) ≡ mostPlaces
+  pub registers-long : length (s .registers) ≡ allRegisters
   pub issued-long : length (s .issued) ≡ mostThreads
 
 -- what the machine takes for granted of a program; every case that can be read has such a one

@@ -8,6 +8,7 @@ use Prim.Native.Nat.{ℕ}
 use mathlib.Core.List.{List, [], _∷_}
 use lib.Dec.{eqb}
 use Rattle.cases.specs.declared.case.Instruction.{Instruction}
+use Rattle.cases.specs.Operations.{load, exchange}
 use Rattle.cases.specs.Choice.{pick, both, either}
 use Rattle.machine.specs.declared.cells.Waiting.{Waiting}
 use Rattle.machine.specs.declared.cells.Entry.{Entry}
@@ -15,17 +16,17 @@ use Rattle.machine.specs.declared.cells.Entry.the-variants.{Store, Flush
 use Rattle.machine.specs.View.{Slot, queueOf, writeSlot, markerSlot}
 use Rattle.machine.specs.Rules.{isBarrier, entryOf}
 
--- "stores, flushes, flush-opts and sfences join the end of the thread's buffer": all but 3 load, 4 exchange, 8
--- mfence
+-- "stores, flushes, flush-opts and sfences join the end of the thread's buffer": all but load, exchange
+-- and mfence
 unfoldable pub joins : List ℕ → ℕ → Instruction → List Waiting
 joins registers t x =
-    pick (either (eqb (x .operation) 3) (isBarrier (x .operation))) []
+    pick (either (eqb (x .operation) load) (isBarrier (x .operation))) []
     (record { entry = entryOf registers t x } ∷ [])
 
 -- "Exchange .. puts its write at the queue's end."
 unfoldable pub exchanges : ℕ → Instruction → List Slot
 exchanges l x =
-    pick (both (eqb (x .operation) 4) (eqb (queueOf (x .location .0)) l)) (writeSlot (x .word) ∷ []) []
+    pick (both (eqb (x .operation) exchange) (eqb (queueOf (x .location .0)) l)) (writeSlot (x .word) ∷ []) []
 
 -- "A store becomes a write at its queue's end." "A flush-opt becomes a marker at its queue's end."
 unfoldable pub enters : ℕ → ℕ → Entry → List Slot

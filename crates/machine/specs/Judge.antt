@@ -1,9 +1,11 @@
 -- Document 01, "The machine's steps": a single step given with a state, and a run, judged.
 --   Leads p s ks u    the steps ks, each legal where it is taken, lead from the state s to u
 --   StopsAt p s ks n u   the first n of them do, and the next one breaks a rule there
---   Faultless p ks    5 and 8 have nothing against any of the steps
+--   Faultless p ks    each of the steps passes the checks 5 and 8
+--   rulingNo, verdictNo, verdictPlace   01's number of an answer, and its place
+--   told r s, judged v s   an answer with its state
 --   stepOf c s k      a single step
---   judgeFrom p i s ks, judgeOf c, judgeBytes s   a run; i steps are taken already
+--   judgeFrom p i s ks, judgeRun c, judgeOf c, judgeBytes s   a run; i steps are taken already
 -- Assumes nothing.
 use Prim.Native.Nat.{ℕ, suc, _<_}
 use mathlib.Core.Path.{_≡_}
@@ -35,7 +37,7 @@ unfoldable pub Leads : Program → State → List Step → State → Type 0
 Leads p s [] u = s ≡ u
 Leads p s (k ∷ ks) u = (ruleOf p s k ≡ 0) × Leads p (nextOf p s k) ks u
 
--- 5 and 8 have nothing against any of the steps
+-- each of the steps passes the checks 5 and 8
 unfoldable pub Faultless : Program → List Step → Type 0
 Faultless p [] = Unit {0}
 Faultless p (k ∷ ks) = (stepFault p k ≡ 0) × Faultless p ks

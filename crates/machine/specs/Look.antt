@@ -1,11 +1,12 @@
 -- Document 01, "The machine's steps": what a look through the state finds. A look that may find something says
 -- where.
---   newestIn q w             the newest write of the queue q, else w
+--   newestWrite q w             the newest write of the queue q, else w
 --   newestStore l b w        the newest store to location l in the buffer b, else w
 --   loadOf s t l             what a load takes
---   markerOf marks lengths t the first marker of thread t, by queue and then by place
+--   markerOf marks lengths t the first marker of thread t, by queue and then by position
+--   isAt f                   one was found
 --   bars l e                 the entry e keeps a flush-opt of location l behind it
---   firstBar l b             the place of the first entry of b that does; the number of entries where none does
+--   firstBar l b             the position of the first entry of b that does; how many there are where none does
 -- Assumes nothing.
 use Prim.Native.Nat.{ℕ, zero, suc, _+_}
 use mathlib.Core.Bool.{Bool, true, false}
@@ -25,9 +26,9 @@ use Rattle.machine.specs.View.{Slot, queueOf, queue, buffer, wordOf, mar
 unfoldable pub wordOr : Slot → ℕ → ℕ
 wordOr h before = pick (eqb (h .mark) 0) (h .word) before
 
-unfoldable pub newestIn : List Slot → ℕ → ℕ
-newestIn [] w = w
-newestIn (h ∷ q) w = newestIn q (wordOr h w)
+unfoldable pub newestWrite : List Slot → ℕ → ℕ
+newestWrite [] w = w
+newestWrite (h ∷ q) w = newestWrite q (wordOr h w)
 
 -- a store's word where it is to location l; else the word before
 unfoldable pub storedOr : ℕ → Entry → ℕ → ℕ
@@ -43,22 +44,23 @@ newestStore l (e ∷ b) w = newestStore l b (storedOr l (e .entry) w)
 -- "A load takes the newest store to that location in its own buffer, else the newest write in the location's
 -- queue, else the persistent word."
 unfoldable pub queuedWord : State → ℕ → ℕ
-queuedWord s l = newestIn (queue s (queueOf l)) (wordOf s l)
+queuedWord s l = newestWrite (queue s (queueOf l)) (wordOf s l)
 
 unfoldable pub loadOf : State → ℕ → ℕ → ℕ
 loadOf s t l = newestStore l (buffer s t) (queuedWord s l)
 
 -- "Looking for a thread's marker goes through every queue and stops at the first one found." The marks of
--- queue l from place i on, and what comes after that queue.
-unfoldable pub markerIn : ℕ → ℕ → ℕ → List ℕ → Found → Found
-markerIn t l i [] after = after
-markerIn t l i (m ∷ ms) after = pick (eqb m (t + 1)) (At (record { 0 = l }) i) (markerIn t l (suc i) ms after)
+-- queue l from position i on, and what comes after that queue.
+unfoldable pub markerAmong : ℕ → ℕ → ℕ → List ℕ → Found → Found
+markerAmong t l i [] after = after
+markerAmong t l i (m ∷ ms) after =
+    pick (eqb m (t + 1)) (At (record { 0 = l }) i) (markerAmong t l (suc i) ms after)
 
 -- the k queues from location l on
 unfoldable pub markerFrom : List ℕ → List ℕ → ℕ → ℕ → ℕ → Found
 markerFrom marks lengths t zero l = Nothing
 markerFrom marks lengths t (suc k) l =
-    markerIn t l 0 (marksIn marks lengths l) (markerFrom marks lengths t k (suc l))
+    markerAmong t l 0 (marksIn marks lengths l) (markerFrom marks lengths t k (suc l))
 
 unfoldable pub markerOf : List ℕ → List ℕ → ℕ → Found
 markerOf marks lengths t = markerFrom marks lengths t mostLocations 0

@@ -1,9 +1,15 @@
 -- Document 01, "Work left and the walk": "next steps in the order issue by thread, move by thread then
 -- position, persist by location".
+--   issueStep t, moveStep t i, persistStep l   a step of each code
+--   issuesFrom t n   the issues of n threads from t on
+--   movesAt t i n    the moves of thread t at n positions from i on
+--   movesFrom t n    those of n threads from t on, at every position
+--   persistsFrom l n the persists of n locations from l on
 --   candidates p     every step that such a program can have, in that order
 --   legalSteps p s   those that are legal in s
 --   rankOf, stepAt   a step's rank in that order, and the step of a rank
---   nextSteps p s    the legal ones, as an array of their ranks with its count
+--   listed ks        the steps ks, as an array of their ranks with its count
+--   nextIn, nextSteps   the legal ones so, over the parts of a state that the rules look at, and of a state
 --   Listed, Ascending   how the theorems say "on the list" and "in that order, once"
 -- Assumes nothing.
 use Prim.Native.Nat.{ℕ, zero, suc, _+_, _*_, _-_, _/_, _%_, _<_}
@@ -16,6 +22,7 @@ use Rattle.cases.specs.declared.case.Step.{Step}
 use Rattle.cases.specs.declared.case.Program.{Program}
 use Rattle.cases.specs.Choice.{pick}
 use Rattle.cases.specs.Sizes.{mostInstructions}
+use Rattle.cases.specs.Operations.{issue, move, persist}
 use Rattle.machine.specs.declared.cells.State.{State}
 use Rattle.machine.specs.declared.cells.Waiting.{Waiting}
 use Rattle.machine.specs.declared.next.Next.{Next}
@@ -23,16 +30,14 @@ use Rattle.machine.specs.Sizes.{mostCandidates, kindRanks}
 use Rattle.machine.specs.Rules.{ruleIn, ruleOf}
 
 abbrev pub issueStep : ℕ → Step
-issueStep t = record { thread = record { 0 = t }; code = 0; position = 0; location = record { 0 = 0 } }
+issueStep t = record { thread = record { 0 = t }; code = issue; position = 0; location = record { 0 = 0 } }
 
 abbrev pub moveStep : ℕ → ℕ → Step
-moveStep t i = record { thread = record { 0 = t }; code = 1; position = i; location = record { 0 = 0 } }
+moveStep t i = record { thread = record { 0 = t }; code = move; position = i; location = record { 0 = 0 } }
 
 abbrev pub persistStep : ℕ → Step
-persistStep l = record { thread = record { 0 = 0 }; code = 2; position = 0; location = record { 0 = l } }
+persistStep l = record { thread = record { 0 = 0 }; code = persist; position = 0; location = record { 0 = l } }
 
--- the issue steps of n threads from t on; the moves of thread t at n positions from i on; those of n threads
--- from t on; the persists of n locations from l on
 unfoldable pub issuesFrom : ℕ → ℕ → List Step
 issuesFrom t zero = []
 issuesFrom t (suc n) = issueStep t ∷ issuesFrom (suc t) n
@@ -52,7 +57,7 @@ persistsFrom l (suc n) = persistStep l ∷ persistsFrom (suc l) n
 unfoldable pub candidates : Program → List Step
 candidates p = issuesFrom 0 (p .threads) ++ movesFrom 0 (p .threads) ++ persistsFrom 0 (p .locations)
 
--- those of some steps that a rule has nothing against
+-- those of some steps that break no rule
 unfoldable pub allowed : (Step → ℕ) → List Step → List Step
 allowed rule [] = []
 allowed rule (k ∷ ks) = pick (eqb (rule k) 0) (k ∷ allowed rule ks) (allowed rule ks)
@@ -75,7 +80,6 @@ unfoldable pub listed : List Step → Next
 listed ks =
     record { count = length ks; ranks = map rankOf ks ++ replicate (mostCandidates - length ks) 0 }
 
--- over the parts of the state that the rules look at, and of a state
 unfoldable pub nextIn : Program → List Waiting → List ℕ → List ℕ → List ℕ → List ℕ → Next
 nextIn p buffers issued waiting marks lengths =
     listed (allowed (ruleIn p buffers issued waiting marks lengths) (candidates p))

@@ -1,9 +1,9 @@
 -- How the list of next steps is made, a step more at a time; Next says what it holds, and doesn't use this
 -- page.
 --   nextWith c r           the first c of the ranks r, as such a list
---   offered rule k n       the list n, with the step k behind it where no rule stands against it
+--   offered rule k n       the list n, with the step k behind it where it breaks no rule
 --   offeredAll rule ks n   the same for each of the steps ks
---   ..RuleAt               the rule of a step, over the parts of the state that it looks at
+--   issueRuleAt, moveRuleAt, persistRuleAt   the rule of a step, over the parts of the state that it looks at
 -- Assumes nothing.
 use Prim.Native.Nat.{ℕ, _+_, _<_, _≤_}
 use mathlib.Core.List.{List, [], _∷_}

@@ -1,10 +1,15 @@
 -- Document 01, "The machine's steps": for each step the rule it breaks, 0 where it is legal, and what it does.
 -- A rule looks at no part of the state but those it is given; what a legal step does is said apart.
+--   enqueue, await           the state with one more at a queue's end, at a buffer's end
+--   instructionAt p t i      instruction i of thread t
+--   isBarrier op             exchange and mfence
+--   operationRule            the rule against issuing an operation: 22, 23
 --   issueRule, issueOf       issue: 21, 22, 23
+--   entryAt b i              the entry at position i of the buffer b
 --   moveRule, moveOf         move: 24, 25, 26, then 27 or 28
 --   effectRule, effectOf     what an entry does as it takes effect: 27, 28. It is already out of its buffer, so
 --                            that a machine without buffers can use these two.
---   persistRule, persistOf   persist: 29
+--   persistRule, persistOf   persist: 29; persistFirst: of the entries of a queue
 --   ruleIn, ruleOf p s k     a step's rule by its code, over the parts it looks at, in a state
 --   nextOf p s k             what a legal step does, by its code
 --   startOf p                where a run starts
@@ -19,19 +24,21 @@ use Rattle.cases.specs.declared.case.Step.{Step}
 use Rattle.cases.specs.declared.case.Program.{Program}
 use Rattle.cases.specs.Choice.{pick, either, refuse}
 use Rattle.cases.specs.Sizes.{mostThreads, mostInstructions, mostLocations, mostCode}
+use Rattle.cases.specs.Operations.{storeWord, storeRegister, load, exchange, flush, flushOpt, mfence}
+use Rattle.cases.specs.Operations.{issue, move}
+use Rattle.cases.specs.Checks.{countAt}
 use Rattle.cases.specs.Draft.{noInstruction}
 use Rattle.machine.specs.declared.cells.State.{State}
 use Rattle.machine.specs.declared.cells.Waiting.{Waiting}
 use Rattle.machine.specs.declared.cells.Entry.{Entry}
 use Rattle.machine.specs.declared.cells.Entry.the-variants.{Store, Flush, FlushOpt, Sfence}
-use Rattle.machine.specs.Sizes.{mostSlots, mostPlaces}
+use Rattle.machine.specs.Sizes.{mostSlots, allRegisters}
 use Rattle.machine.specs.View.{Slot, queueOf, writeSlot, markerSlot}
 use Rattle.machine.specs.View.{without, queue, withQueue, blankWaiting}
 use Rattle.machine.specs.View.{bufferIn, buffer, withBuffer, wordOf, withWord}
 use Rattle.machine.specs.View.{registerIn, withRegister, issuedOf, withIssued}
 use Rattle.machine.specs.Look.{wordOr, queuedWord, loadOf, marked, firstBar}
 
--- one more at a queue's end, at a buffer's end
 unfoldable pub enqueue : State → ℕ → Slot → State
 enqueue s l h = withQueue s (queueOf l) (queue s (queueOf l) ++ (h ∷ []))
 
@@ -39,9 +46,6 @@ unfoldable pub await : State → ℕ → Entry → State
 await s t e = withBuffer s t (buffer s t ++ (record { entry = e } ∷ []))
 
 -- "Issue takes the thread's next instruction"
-abbrev pub countAt : Program → ℕ → ℕ
-countAt p t = getD (p .counts) t 0
-
 abbrev pub instructionAt : Program → ℕ → ℕ → Instruction
 instructionAt p t i = getD (p .code) (t * mostInstructions + i) noInstruction
 
@@ -53,7 +57,7 @@ barrierRule waiting marks lengths t =
     (refuse (marked marks lengths t) 23 0)
 
 unfoldable pub isBarrier : ℕ → Bool
-isBarrier op = either (eqb op 4) (eqb op 8)
+isBarrier op = either (eqb op exchange) (eqb op mfence)
 
 unfoldable pub operationRule : ℕ → List ℕ → List ℕ → List ℕ → ℕ → ℕ
 operationRule op waiting marks lengths t = pick (isBarrier op) (barrierRule waiting marks lengths t) 0
@@ -67,11 +71,11 @@ issueRule p issued waiting marks lengths t =
 -- "Stores fix their word now; stores, flushes, flush-opts and sfences join the end of the thread's buffer."
 unfoldable pub entryOf : List ℕ → ℕ → Instruction → Entry
 entryOf registers t x =
-    pick (eqb (x .operation) 1) (Store (record { location = x .location; word = x .word }))
-    (pick (eqb (x .operation) 2)
+    pick (eqb (x .operation) storeWord) (Store (record { location = x .location; word = x .word }))
+    (pick (eqb (x .operation) storeRegister)
     (Store (record { location = x .location; word = registerIn registers t (x .register .0) }))
-    (pick (eqb (x .operation) 5) (Flush (x .location))
-    (pick (eqb (x .operation) 6) (FlushOpt (x .location))
+    (pick (eqb (x .operation) flush) (Flush (x .location))
+    (pick (eqb (x .operation) flushOpt) (FlushOpt (x .location))
     Sfence)))
 
 -- a load's register takes the word that the load finds
@@ -84,12 +88,12 @@ exchanged s t x =
     enqueue (withRegister s t (x .register .0) (queuedWord s (x .location .0))) (x .location .0)
     (writeSlot (x .word))
 
--- what an instruction does as it is issued: 3 load, 4 exchange, 8 mfence; the others wait
+-- what an instruction does as it is issued: load, exchange and mfence are done with it; the others wait
 unfoldable pub performed : State → ℕ → Instruction → State
 performed s t x =
-    pick (eqb (x .operation) 3) (loaded s t x)
-    (pick (eqb (x .operation) 4) (exchanged s t x)
-    (pick (eqb (x .operation) 8) s
+    pick (eqb (x .operation) load) (loaded s t x)
+    (pick (eqb (x .operation) exchange) (exchanged s t x)
+    (pick (eqb (x .operation) mfence) s
     (await s t (entryOf (s .registers) t x))))
 
 unfoldable pub issueOf : Program → State → ℕ → State
@@ -148,8 +152,8 @@ persistOf s l = persistFirst s l (queue s l)
 -- "Step codes: 0 issue (thread); 1 move (thread, position 0 to 7); 2 persist (location)."
 unfoldable pub ruleIn : Program → List Waiting → List ℕ → List ℕ → List ℕ → List ℕ → Step → ℕ
 ruleIn p buffers issued waiting marks lengths k =
-    pick (eqb (k .code) 0) (issueRule p issued waiting marks lengths (k .thread .0))
-    (pick (eqb (k .code) 1) (moveRule buffers waiting marks lengths (k .thread .0) (k .position))
+    pick (eqb (k .code) issue) (issueRule p issued waiting marks lengths (k .thread .0))
+    (pick (eqb (k .code) move) (moveRule buffers waiting marks lengths (k .thread .0) (k .position))
     (persistRule lengths (k .location .0)))
 
 unfoldable pub ruleOf : Program → State → Step → ℕ
@@ -157,8 +161,8 @@ ruleOf p s k = ruleIn p (s .buffers) (s .issued) (s .waiting) (s .marks) (s .len
 
 unfoldable pub nextOf : Program → State → Step → State
 nextOf p s k =
-    pick (eqb (k .code) 0) (issueOf p s (k .thread .0))
-    (pick (eqb (k .code) 1) (moveOf s (k .thread .0) (k .position))
+    pick (eqb (k .code) issue) (issueOf p s (k .thread .0))
+    (pick (eqb (k .code) move) (moveOf s (k .thread .0) (k .position))
     (persistOf s (k .location .0)))
 
 -- "a run starts from the first contents, nothing queued, waiting or issued"
@@ -171,6 +175,6 @@ startOf p =
       lengths = replicate mostLocations 0;
       buffers = replicate mostCode blankWaiting;
       waiting = replicate mostThreads 0;
-      registers = replicate mostPlaces 0;
+      registers = replicate allRegisters 0;
       issued = replicate mostThreads 0;
     }

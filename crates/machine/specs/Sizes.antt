@@ -2,7 +2,7 @@
 -- the code.
 --   room            the most entries of a queue: every instruction of every thread
 --   mostSlots       all queues' slots, one queue's behind the other's
---   mostPlaces      all threads' registers, one thread's behind the other's
+--   allRegisters      all threads' registers, one thread's behind the other's
 --   mostCandidates  the steps that a state can have next
 --   kindRanks       the ranks that a kind of step takes up in the order of steps
 -- Assumes nothing.
@@ -15,8 +15,8 @@ room = mostCode
 abbrev pub mostSlots : ℕ
 mostSlots = mostLocations * room
 
-abbrev pub mostPlaces : ℕ
-mostPlaces = mostThreads * mostRegisters
+abbrev pub allRegisters : ℕ
+allRegisters = mostThreads * mostRegisters
 
 abbrev pub mostCandidates : ℕ
 mostCandidates = mostThreads + mostCode + mostLocations

@@ -3,10 +3,15 @@
 -- them is not looked at and not changed, whatever it is.
 --   part base n xs          the first n of xs from base on
 --   put blank base n q xs   xs with q from base on; of the n that stood there, those given up are blank
---   shift, closeGap         one taken out of a row: those behind it each one place down
+--   shift, closeGap         one taken out of a row: those behind it each one down
+--   writeSlot, markerSlot   a slot of a queue
+--   slots, wordsOf, marksOf words and marks as slots, and back
 --   queueOf l               the queue that location l's entries go through
 --   queue, withQueue        the entries of a queue, oldest first; the state with others there
 --   buffer, withBuffer      the entries of a store buffer, oldest first; the state with others there
+--   queueLen, bufferLen     how many
+--   queueIn, marksIn, bufferIn, registerIn   the same over a state's arrays, where only those are lent
+--   wordOf, withWord, withRegister, issuedOf, withIssued   persistent words, registers, issued counts
 -- Assumes nothing.
 use Prim.Native.Nat.{ℕ, _+_, _*_, _-_}
 use mathlib.Core.List.{List, [], _∷_, _++_}
@@ -24,15 +29,15 @@ part base n xs = take n (drop base xs)
 unfoldable pub put {ℓ} : {A : Type ℓ} → A → ℕ → ℕ → List A → List A → List A
 put blank base n q xs = sets xs base (q ++ replicate (n - length q) blank)
 
--- what stands behind `from`, up to end, each one place down, and the last of them still there
+-- what stands behind `from`, up to end, each one down, and the last of them still there
 unfoldable pub shift {ℓ} : {A : Type ℓ} → ℕ → ℕ → List A → List A
 shift from end xs = sets xs from (part (from + 1) (end - (from + 1)) xs)
 
--- the same with a blank in the last place
+-- the same with the last of them blank
 unfoldable pub closeGap {ℓ} : {A : Type ℓ} → A → ℕ → ℕ → List A → List A
 closeGap blank from end xs = set (shift from end xs) (end - 1) blank
 
--- q without what stands at place i
+-- q without what stands at position i
 unfoldable pub without {ℓ} : {A : Type ℓ} → ℕ → List A → List A
 without i q = take i q ++ drop (i + 1) q
 
@@ -48,7 +53,6 @@ writeSlot w = record { word = w; mark = 0 }
 abbrev pub markerSlot : ℕ → Slot
 markerSlot t = record { word = 0; mark = t + 1 }
 
--- words and marks side by side
 unfoldable pub slots : List ℕ → List ℕ → List Slot
 slots [] ms = []
 slots (w ∷ ws) [] = []

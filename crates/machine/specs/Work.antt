@@ -1,10 +1,13 @@
 -- Document 01, "Work left and the walk".
+--   weighCode, weighBuffer   what instructions weigh, and entries of a buffer
+--   threadWork p s t    the work left in thread t
 --   work p s            the work left
 --   Unfinished p s      there is something to do: an instruction is unissued or an entry waits
 --   fullLength p        "The sum at the start is the program's full length"
 --   programWeight p t   thread t's part of it, from the program alone
 --   cost                what a legal step uses up of it
 --   workOf, fullOf      what is told of a case and a state in memory
+--   weighedNo, weighedWork   its number, and the work
 -- Assumes nothing.
 use Prim.Native.Nat.{ℕ, _+_, _*_, _<_}
 use mathlib.Core.Logic.{_⊎_, _≢_}
@@ -18,6 +21,8 @@ use Rattle.cases.specs.declared.case.Case.{Case}
 use Rattle.cases.specs.Choice.{pick}
 use Rattle.cases.specs.Sizes.{mostThreads, mostInstructions, mostLocations}
 use Rattle.cases.specs.Writing.{readsBack}
+use Rattle.cases.specs.Operations.{storeWord, storeRegister, load, exchange, flush, flushOpt, sfence}
+use Rattle.cases.specs.Checks.{countAt}
 use Rattle.machine.specs.declared.cells.State.{State}
 use Rattle.machine.specs.declared.cells.Waiting.{Waiting}
 use Rattle.machine.specs.declared.cells.Entry.{Entry}
@@ -25,19 +30,19 @@ use Rattle.machine.specs.declared.cells.Entry.the-variants.{Store, Flush
 use Rattle.machine.specs.declared.work.Weighed.{Weighed}
 use Rattle.machine.specs.declared.work.Weighed.the-variants.{Left, Unweighed}
 use Rattle.machine.specs.View.{part, queue, queueLen, buffer, issuedOf}
-use Rattle.machine.specs.Rules.{countAt, startOf}
+use Rattle.machine.specs.Rules.{startOf}
 use Rattle.machine.specs.Fit.{sumTo, unissued, misfits}
 
--- "Unissued: store or flush-opt 3; flush, sfence or exchange 2; load or mfence 1." By operation, 1 to 8.
+-- "Unissued: store or flush-opt 3; flush, sfence or exchange 2; load or mfence 1." By operation.
 unfoldable pub unissuedWeight : ℕ → ℕ
 unissuedWeight op =
-    pick (eqb op 1) 3
-    (pick (eqb op 2) 3
-    (pick (eqb op 3) 1
-    (pick (eqb op 4) 2
-    (pick (eqb op 5) 2
-    (pick (eqb op 6) 3
-    (pick (eqb op 7) 2
+    pick (eqb op storeWord) 3
+    (pick (eqb op storeRegister) 3
+    (pick (eqb op load) 1
+    (pick (eqb op exchange) 2
+    (pick (eqb op flush) 2
+    (pick (eqb op flushOpt) 3
+    (pick (eqb op sfence) 2
     1))))))
 
 -- "Waiting in a buffer: store or flush-opt 2; flush or sfence 1."

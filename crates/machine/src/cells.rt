@@ -1,5 +1,5 @@
 // The machine's state: what it is made of.
-use crate::sizes::PLACES;
+use crate::sizes::ALL_REGISTERS;
 use crate::sizes::SLOTS;
 use cases::case::Location;
 use cases::case::Write;
@@ -30,6 +30,6 @@ pub struct State {
     pub lengths: [u8; LOCATIONS],
     pub buffers: [Waiting; CODE],
     pub waiting: [u8; THREADS],
-    pub registers: [u32; PLACES],
+    pub registers: [u32; ALL_REGISTERS],
     pub issued: [u8; THREADS],
 }

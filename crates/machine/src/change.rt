@@ -31,7 +31,7 @@ pub(crate) fn enqueue(s: State, l: Location, word: u32, mark: u8) -> State
     u
 }
 
-// The words behind `from`, up to `end`, each one place down, and the last place 0.
+// The words behind `from`, up to `end`, each one down, and the last of them 0.
 pub(crate) fn close_words(held: &mut [u32; SLOTS], from: usize, end: usize)
     requires { ⌜ (from < end) × (end ≤ mostSlots) × (length (now held) ≡ mostSlots) ⌝ }
     ensures { λ r. ⌜ now (held .exit) ≡ closeGap 0 from end (now (held .entry)) ⌝ }
@@ -57,7 +57,7 @@ pub(crate) fn close_marks(marks: &mut [u8; SLOTS], from: usize, end: usize)
     marks[end - 1] = 0;
 }
 
-// The entries behind `from`, up to `end`, each one place down, and the last place blank. By value: an array of
+// The entries behind `from`, up to `end`, each one down, and the last of them blank. By value: an array of
 // structs can't be lent.
 pub(crate) fn close_entries(buffers: [Waiting; CODE], from: usize, end: usize) -> [Waiting; CODE]
     requires { ⌜ (from < end) × (end ≤ mostCode) ⌝ }

@@ -1,15 +1,22 @@
-// Issue: which rule stands against a thread's next instruction, and what it does.
+// Issue: which rule a thread's next instruction breaks, and what it does.
 use crate::cells::Entry;
 use crate::cells::State;
 use crate::cells::Waiting;
 use crate::change;
 use crate::look;
-use crate::sizes::PLACES;
+use crate::sizes::ALL_REGISTERS;
 use crate::sizes::SLOTS;
 use cases::case::Instruction;
 use cases::case::Program;
 use cases::case::Thread;
 use cases::case::Write;
+use cases::operations::EXCHANGE;
+use cases::operations::FLUSH;
+use cases::operations::FLUSH_OPT;
+use cases::operations::LOAD;
+use cases::operations::MFENCE;
+use cases::operations::STORE_REGISTER;
+use cases::operations::STORE_WORD;
 use cases::sizes::INSTRUCTIONS;
 use cases::sizes::LOCATIONS;
 use cases::sizes::REGISTERS;
@@ -18,9 +25,10 @@ ghost use mathlib.Core.Path.{_≡_};
 ghost use Prim.Native.Nat.{_+_, _<_, _≤_};
 ghost use lib.ListN.{length};
 ghost use Rattle.cases.specs.Sizes.{mostThreads, mostInstructions, mostLocations, mostRegisters};
+ghost use Rattle.cases.specs.Checks.{countAt};
 ghost use Rattle.machine.specs.Sizes.{room, mostSlots};
 ghost use Rattle.machine.specs.View.{queueLen, bufferLen, issuedOf};
-ghost use Rattle.machine.specs.Rules.{countAt, instructionAt, isBarrier, barrierRule, operationRule};
+ghost use Rattle.machine.specs.Rules.{instructionAt, isBarrier, barrierRule, operationRule};
 ghost use Rattle.machine.specs.Rules.{issueRule, entryOf, loaded, exchanged, performed, issueOf, await};
 ghost use Rattle.machine.specs.Fit.{Shallow};
 
@@ -28,10 +36,10 @@ ghost use Rattle.machine.specs.Fit.{Shallow};
 fn is_barrier(op: u8) -> bool
     ensures { λ r. ⌜ r ≡ isBarrier op ⌝ }
 {
-    if op == 4 {
+    if op == EXCHANGE {
         return true;
     }
-    op == 8
+    op == MFENCE
 }
 
 fn barrier_rule<'a>(
@@ -70,7 +78,7 @@ pub(crate) fn operation_rule<'a>(
     0
 }
 
-// The rule against issuing a thread's next instruction; 0 where none stands against it.
+// The rule that issuing a thread's next instruction breaks; 0 where it is legal.
 pub(crate) fn issue_rule<'a>(
     p: Program,
     issued: &'a [u8; THREADS],
@@ -96,29 +104,29 @@ pub(crate) fn issue_rule<'a>(
 }
 
 // The entry that a store, flush, flush-opt or sfence leaves in the buffer; a store's word is fixed now.
-fn entry_of<'a>(registers: &'a [u32; PLACES], t: Thread, x: Instruction) -> Entry
+fn entry_of<'a>(registers: &'a [u32; ALL_REGISTERS], t: Thread, x: Instruction) -> Entry
     requires { ⌜ (t .0 < mostThreads) × (x .register .0 < mostRegisters) ⌝ }
     ensures { λ r. ⌜ r ≡ entryOf (now (registers .entry)) (t .0) x ⌝ }
 {
     let l = x.location;
     let op = x.operation;
-    if op == 1 {
+    if op == STORE_WORD {
         return Entry::Store(Write {
             location: l,
             word: x.word,
         });
     }
-    if op == 2 {
+    if op == STORE_REGISTER {
         let word = registers[(t.0 as usize) * REGISTERS + (x.register.0 as usize)];
         return Entry::Store(Write {
             location: l,
             word: word,
         });
     }
-    if op == 5 {
+    if op == FLUSH {
         return Entry::Flush(l);
     }
-    if op == 6 {
+    if op == FLUSH_OPT {
         return Entry::FlushOpt(l);
     }
     Entry::Sfence
@@ -178,19 +186,19 @@ fn perform(s: State, t: Thread, x: Instruction) -> State
     ensures { λ r. ⌜ r ≡ performed s (t .0) x ⌝ }
 {
     let op = x.operation;
-    if op == 3 {
+    if op == LOAD {
         return load(s, t, x);
     }
-    if op == 4 {
+    if op == EXCHANGE {
         return exchange(s, t, x);
     }
-    if op == 8 {
+    if op == MFENCE {
         return s;
     }
     join_buffer(s, t, x)
 }
 
-// A thread's next instruction issued, where no rule stands against it.
+// A thread's next instruction issued, where it breaks no rule.
 pub(crate) fn issue(p: Program, s: State, t: Thread) -> State
     requires { ⌜ (t .0 < mostThreads) × (issuedOf s (t .0) < mostInstructions)
         × (bufferLen s (t .0) < mostInstructions)

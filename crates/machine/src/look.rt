@@ -17,10 +17,10 @@ ghost use Rattle.cases.specs.Sizes.{mostThreads, mostInstructions, mostLocation
 ghost use Rattle.machine.specs.Sizes.{room, mostSlots};
 ghost use Rattle.machine.specs.View.{queueIn, bufferIn};
 ghost use Rattle.machine.specs.Fit.{Shallow};
-ghost use Rattle.machine.specs.Look.{wordOr, newestIn, storedOr, newestStore, markerOf, marked, bars};
+ghost use Rattle.machine.specs.Look.{wordOr, newestWrite, storedOr, newestStore, markerOf, marked, bars};
 ghost use Rattle.machine.specs.Look.{firstBar};
 
-// Where a marker stands: its queue and its place there.
+// Where a marker stands: its queue and its position there.
 pub enum Found {
     At(Location, u8),
     Nothing,
@@ -44,7 +44,7 @@ pub(crate) fn newest_write<'a>(
     requires { ⌜ (l .0 < mostLocations) × (getD (now lengths) (l .0) 0 ≤ room)
         × (length (now held) ≡ mostSlots) × (length (now marks) ≡ mostSlots) ⌝ }
     ensures { λ r. ⌜ r
-        ≡ newestIn (queueIn (now (held .entry)) (now (marks .entry)) (now (lengths .entry)) (l .0)) other ⌝ }
+        ≡ newestWrite (queueIn (now (held .entry)) (now (marks .entry)) (now (lengths .entry)) (l .0)) other ⌝ }
 {
     let base = (l.0 as usize) * ROOM;
     let n = lengths[l.0 as usize] as usize;
@@ -94,7 +94,7 @@ pub(crate) fn newest_store<'a>(
     word
 }
 
-// The first marker of a thread, by queue and then by place.
+// The first marker of a thread, by queue and then by position.
 pub(crate) fn marker<'a>(marks: &'a [u8; SLOTS], lengths: &'a [u8; LOCATIONS], t: Thread) -> Found
     requires { ⌜ (t .0 < mostThreads) × Shallow (now lengths) × (length (now marks) ≡ mostSlots) ⌝ }
     ensures { λ r. ⌜ r ≡ markerOf (now (marks .entry)) (now (lengths .entry)) (t .0) ⌝ }
@@ -141,7 +141,7 @@ fn is_bar(w: Waiting, l: Location) -> bool
     }
 }
 
-// The place of the first of a buffer's first i entries that keeps a flush-opt of the location behind it; i
+// The position of the first of a buffer's first i entries that keeps a flush-opt of the location behind it; i
 // where none does.
 pub(crate) fn first_bar<'a>(
     buffers: [Waiting; CODE],

@@ -1,4 +1,4 @@
-// Move and persist: which rule stands against them, and what they do.
+// Move and persist: which rule they break, and what they do.
 use crate::cells::Entry;
 use crate::cells::State;
 use crate::cells::Waiting;
@@ -22,7 +22,7 @@ ghost use Rattle.machine.specs.Rules.{effectRule, effectOf, passRule, en
 ghost use Rattle.machine.specs.Rules.{persistRule, persistOf};
 ghost use Rattle.machine.specs.Fit.{Named, Shallow, Roomy};
 
-// The rule against an entry's effect; 0 where none stands against it.
+// The rule that an entry's effect breaks; 0 where it is legal.
 fn effect_rule<'a>(marks: &'a [u8; SLOTS], lengths: &'a [u8; LOCATIONS], t: Thread, e: Entry) -> u8
     requires { ⌜ (t .0 < mostThreads) × Named mostLocations e × Shallow (now lengths)
         × (length (now marks) ≡ mostSlots) ⌝ }
@@ -42,7 +42,7 @@ fn effect_rule<'a>(marks: &'a [u8; SLOTS], lengths: &'a [u8; LOCATIONS], t: Thre
     }
 }
 
-// The rule against an entry that goes before others; 0 where none stands against it.
+// The rule that an entry breaks by going before others; 0 where it is legal.
 fn pass_rule<'a>(
     buffers: [Waiting; CODE],
     waiting: &'a [u8; THREADS],
@@ -68,7 +68,7 @@ fn pass_rule<'a>(
     }
 }
 
-// The rule against moving the entry at a position; 0 where none stands against it.
+// The rule that moving the entry at a position breaks; 0 where it is legal.
 pub(crate) fn move_rule<'a>(
     buffers: [Waiting; CODE],
     waiting: &'a [u8; THREADS],
@@ -109,7 +109,7 @@ fn take_effect(s: State, t: Thread, e: Entry) -> State
     }
 }
 
-// The entry at a position moved, where no rule stands against it.
+// The entry at a position moved, where it breaks no rule.
 pub(crate) fn move_entry(s: State, t: Thread, i: u8) -> State
     requires { ⌜ (t .0 < mostThreads) × (i < bufferLen s (t .0)) × (bufferLen s (t .0) ≤ mostInstructions)
         × Named mostLocations (entryAt (buffer s (t .0)) i) × Roomy s ⌝ }
@@ -128,7 +128,7 @@ pub(crate) fn move_entry(s: State, t: Thread, i: u8) -> State
     take_effect(u, t, e)
 }
 
-// The rule against persisting a location's oldest entry; 0 where none stands against it.
+// The rule that persisting a location's oldest entry breaks; 0 where it is legal.
 pub(crate) fn persist_rule<'a>(lengths: &'a [u8; LOCATIONS], l: Location) -> u8
     requires { ⌜ l .0 < mostLocations ⌝ }
     ensures { λ r. ⌜ r ≡ persistRule (now (lengths .entry)) (l .0) ⌝ }

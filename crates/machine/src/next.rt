@@ -11,6 +11,9 @@ use cases::case::Location;
 use cases::case::Program;
 use cases::case::Step;
 use cases::case::Thread;
+use cases::operations::ISSUE;
+use cases::operations::MOVE;
+use cases::operations::PERSIST;
 use cases::sizes::CODE;
 use cases::sizes::INSTRUCTIONS;
 use cases::sizes::LOCATIONS;
@@ -32,7 +35,7 @@ pub struct Next {
     pub ranks: [u8; CANDIDATES],
 }
 
-// A step's place in the order.
+// A step's rank in the order.
 fn rank(k: Step) -> u8
     requires { ⌜ rankOf k < 256 ⌝ }
     ensures { λ r. ⌜ r ≡ rankOf k ⌝ }
@@ -48,7 +51,7 @@ pub fn step_at(r: u8) -> Step
     if n < RANKS {
         return Step {
             thread: Thread((n / INSTRUCTIONS) as u8),
-            code: 0,
+            code: ISSUE,
             position: 0,
             location: Location(0),
         };
@@ -56,20 +59,20 @@ pub fn step_at(r: u8) -> Step
     if n < 2 * RANKS {
         return Step {
             thread: Thread(((n - RANKS) / INSTRUCTIONS) as u8),
-            code: 1,
+            code: MOVE,
             position: ((n - RANKS) % INSTRUCTIONS) as u8,
             location: Location(0),
         };
     }
     Step {
         thread: Thread(0),
-        code: 2,
+        code: PERSIST,
         position: 0,
         location: Location((n - 2 * RANKS) as u8),
     }
 }
 
-// A step more, where no rule stands against it; says how many there are now.
+// A step more, where it breaks no rule; says how many there are now.
 fn offer(ranks: &mut [u8; CANDIDATES], count: u8, broken: u8, k: Step) -> u8
     requires { ⌜ (count < mostCandidates) × (rankOf k < 256) ⌝ }
     ensures { λ r. ⌜ nextWith r (now (ranks .exit)) ≡ offered broken k (nextWith count (now (ranks .entry))) ⌝ }
@@ -114,7 +117,7 @@ fn offer_issues<'a>(
             broken,
             Step {
                 thread: Thread(t),
-                code: 0,
+                code: ISSUE,
                 position: 0,
                 location: Location(0),
             },
@@ -151,7 +154,7 @@ fn offer_moves_of<'a>(
             broken,
             Step {
                 thread: t,
-                code: 1,
+                code: MOVE,
                 position: i,
                 location: Location(0),
             },
@@ -206,7 +209,7 @@ fn offer_persists<'a>(
             broken,
             Step {
                 thread: Thread(0),
-                code: 2,
+                code: PERSIST,
                 position: 0,
                 location: Location(l),
             },

@@ -1,4 +1,4 @@
-// A run, judged: step by step from the start, to the first that a rule stands against.
+// A run, judged: step by step from the start, to the first that breaks a rule.
 use crate::cells::State;
 use crate::steps;
 use cases::case::Case;

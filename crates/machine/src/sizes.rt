@@ -11,7 +11,7 @@ pub const ROOM: usize = CODE;
 pub const SLOTS: usize = LOCATIONS * ROOM;
 
 // All threads' registers, one thread's behind the other's.
-pub const PLACES: usize = THREADS * REGISTERS;
+pub const ALL_REGISTERS: usize = THREADS * REGISTERS;
 
 // The steps that a state can have next.
 pub const CANDIDATES: usize = THREADS + CODE + LOCATIONS;

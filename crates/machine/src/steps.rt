@@ -5,7 +5,7 @@ use crate::cells::Waiting;
 use crate::fit;
 use crate::issue;
 use crate::moves;
-use crate::sizes::PLACES;
+use crate::sizes::ALL_REGISTERS;
 use crate::sizes::SLOTS;
 use cases::case::Case;
 use cases::case::Location;
@@ -13,6 +13,8 @@ use cases::case::Program;
 use cases::case::Step;
 use cases::case::Write;
 use cases::checks;
+use cases::operations::ISSUE;
+use cases::operations::MOVE;
 use cases::sizes::CODE;
 use cases::sizes::LOCATIONS;
 use cases::sizes::THREADS;
@@ -66,7 +68,7 @@ pub fn start_of(p: Program) -> State
         lengths: [0u8; LOCATIONS],
         buffers: [blank; CODE],
         waiting: [0u8; THREADS],
-        registers: [0u32; PLACES],
+        registers: [0u32; ALL_REGISTERS],
         issued: [0u8; THREADS],
     }
 }
@@ -88,10 +90,10 @@ pub(crate) fn rule<'a>(
         (now (lengths .entry)) k ⌝ }
 {
     let code = k.code;
-    if code == 0 {
+    if code == ISSUE {
         return issue::issue_rule(p, issued, waiting, marks, lengths, k.thread);
     }
-    if code == 1 {
+    if code == MOVE {
         return moves::move_rule(buffers, waiting, marks, lengths, k.thread, k.position);
     }
     moves::persist_rule(lengths, k.location)
@@ -103,10 +105,10 @@ pub fn take_step(p: Program, s: State, k: Step) -> State
     ensures { λ r. ⌜ r ≡ nextOf p s k ⌝ }
 {
     let code = k.code;
-    if code == 0 {
+    if code == ISSUE {
         return issue::issue(p, s, k.thread);
     }
-    if code == 1 {
+    if code == MOVE {
         return moves::move_entry(s, k.thread, k.position);
     }
     moves::persist(s, k.location)

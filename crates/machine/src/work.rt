@@ -7,6 +7,13 @@ use crate::steps;
 use cases::case::Case;
 use cases::case::Program;
 use cases::case::Thread;
+use cases::operations::EXCHANGE;
+use cases::operations::FLUSH;
+use cases::operations::FLUSH_OPT;
+use cases::operations::LOAD;
+use cases::operations::SFENCE;
+use cases::operations::STORE_REGISTER;
+use cases::operations::STORE_WORD;
 use cases::sizes::CODE;
 use cases::sizes::INSTRUCTIONS;
 use cases::sizes::LOCATIONS;
@@ -15,8 +22,8 @@ ghost use mathlib.Core.Path.{_≡_};
 ghost use Prim.Native.Nat.{_+_, _*_, _<_, _≤_};
 ghost use lib.ListN.{getD};
 ghost use Rattle.cases.specs.Sizes.{mostThreads, mostInstructions, mostLocations, mostCode};
+ghost use Rattle.cases.specs.Checks.{countAt};
 ghost use Rattle.machine.specs.View.{bufferIn, queueLen, issuedOf};
-ghost use Rattle.machine.specs.Rules.{countAt};
 ghost use Rattle.machine.specs.Fit.{sumTo, Fits};
 ghost use Rattle.machine.specs.Work.{unissuedWeight, waitingWeight, weighCode, weighBuffer, codeLeft};
 ghost use Rattle.machine.specs.Work.{threadWork, work, weighedNo, weighedWork, workOf, fullOf};
@@ -51,25 +58,25 @@ pub fn weighed_work(w: Weighed) -> usize
 fn unissued_weight(op: u8) -> usize
     ensures { λ r. ⌜ (r ≡ unissuedWeight op) × (r ≤ 3) ⌝ }
 {
-    if op == 1 {
+    if op == STORE_WORD {
         return 3;
     }
-    if op == 2 {
+    if op == STORE_REGISTER {
         return 3;
     }
-    if op == 3 {
+    if op == LOAD {
         return 1;
     }
-    if op == 4 {
+    if op == EXCHANGE {
         return 2;
     }
-    if op == 5 {
+    if op == FLUSH {
         return 2;
     }
-    if op == 6 {
+    if op == FLUSH_OPT {
         return 3;
     }
-    if op == 7 {
+    if op == SFENCE {
         return 2;
     }
     1

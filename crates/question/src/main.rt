@@ -1,5 +1,9 @@
 // Asks the question of a case from standard input, of any length: REACHED and the number of steps, then the run
 // that reaches, a step a line; UNREACHABLE; UNDECIDED; or REFUSED, the number and the offset.
+use cases::operations::ISSUE;
+use cases::operations::MOVE;
+use cases::operations::PERSIST;
+use cases::sizes::STEP_SIZE;
 use cases::sizes::STEPS;
 use libc::STDIN_FILENO;
 use libc::STDOUT_FILENO;
@@ -8,11 +12,8 @@ use search::ask::Outcome;
 // How many runs the question looks at.
 const BUDGET: u32 = 1000000;
 
-// The bytes of a step record.
-const RECORD: usize = 8;
-
 // Room for the longest run.
-const ROOM: usize = RECORD * STEPS;
+const ROOM: usize = STEP_SIZE * STEPS;
 
 fn say(word: &[u8], n: u64) {
     io::write_all(STDOUT_FILENO, word);
@@ -22,14 +23,14 @@ fn say(word: &[u8], n: u64) {
 // A step by the payload of its record: I0 issues in thread 0, M0.0 moves the entry at position 0 of thread 0's
 // buffer, P1 persists location 1.
 fn say_step(thread: u8, code: u8, position: u8, location: u8) {
-    if code == 0 {
+    if code == ISSUE {
         say(b"I", thread as u64);
     }
-    if code == 1 {
+    if code == MOVE {
         say(b"M", thread as u64);
         say(b".", position as u64);
     }
-    if code == 2 {
+    if code == PERSIST {
         say(b"P", location as u64);
     }
     io::write_all(STDOUT_FILENO, b"\n");
@@ -42,7 +43,7 @@ fn say_run(run: [u8; ROOM], count: usize) {
         if count <= i {
             return;
         }
-        let at = RECORD * i;
+        let at = STEP_SIZE * i;
         say_step(run[at + 4], run[at + 5], run[at + 6], run[at + 7]);
         i += 1;
     }

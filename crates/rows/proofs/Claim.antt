@@ -5,7 +5,7 @@ use mathlib.Core.Path.{_≡_, refl}
 use mathlib.Core.Logic.{inl, inr}
 use mathlib.Core.List.{List, [], _∷_, _++_, map}
 use lib.ListN.{length, drop}
-use Rattle.cases.specs.Places.{stepsBytes}
+use Rattle.cases.specs.Seats.{stepsBytes}
 use Rattle.cases.proofs.Computing.{reading-computes, bytes-compute}
 use Rattle.machine.specs.Next.{Listed}
 use Rattle.machine.proofs.Computing.{work-computes, judging-computes}

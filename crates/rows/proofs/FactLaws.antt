@@ -8,6 +8,7 @@ use native.Mathlib.Omega.{arith}
 use lib.ListN.{length}
 use Rattle.cases.specs.declared.case.Step.{Step}
 use Rattle.cases.specs.Reading.{numberOf, readOf}
+use Rattle.cases.specs.Sizes.{stepSize}
 use Rattle.machine.specs.Work.{fullLength}
 use Rattle.machine.specs.Next.{Listed}
 use Rattle.search.specs.declared.ask.Outcome.{Outcome}
@@ -16,7 +17,7 @@ use Rattle.search.specs.Question.{questionOf, shownBy, shownOf}
 use Rattle.search.proofs.Promises.{question-reached, question-unreachable, question-undecided, shown-run}
 use Rattle.search.proofs.Promises.{only-reached-stores}
 use Rattle.rows.specs.Words.{bytesOf}
-use Rattle.rows.specs.Row.{Row, asked, ruled, opened, numberIn, programIn, askIn, said, due, Fact}
+use Rattle.rows.specs.Row.{Row, asked, ruled, opened, rowNumber, rowProgram, rowAsk, said, due, Fact}
 
 -- two definitions that say the same of a whole list say the same of each that is on it
 pub listed-same : {A B : Type 0} (f g : A → B) (x : A) (xs : List A) → map f xs ≡ map g xs → Listed x xs
@@ -27,7 +28,7 @@ listed-same f g x (y ∷ ys) e (inl same) = rw same cc
 listed-same f g x (y ∷ ys) e (inr h) = let rest : map f ys ≡ map g ys = cc in listed-same f g x ys rest h
 
 module _ (s : List ℕ) (b : ℕ) (out : List ℕ) (read : numberOf (readOf s .answer) ≡ 0)
-    (room : 8 * fullLength (readOf s .case .program) ≤ length out) where
+    (room : stepSize * fullLength (readOf s .case .program) ≤ length out) where
   pub asked-told : (d : Decided Step) → askOf (readOf s .case .program) (readOf s .case .ask) b ≡ d
       → questionOf s (length out) b ≡ toldOf d
   unfolding toldOf
@@ -48,12 +49,12 @@ module _ (s : List ℕ) (b : ℕ) (out : List ℕ) (read : numberOf (readOf s .a
 pub said-fact : (r : Row) → said r ≡ due r → Fact r
 unfolding said due Fact
 said-fact (asked rs full b d) e =
-    let read : numberIn rs ≡ 0 = cc in
-    let weighs : fullLength (programIn rs) ≡ full = cc in
-    let told : askOf (programIn rs) (askIn rs) b ≡ d = cc in (
+    let read : rowNumber rs ≡ 0 = cc in
+    let weighs : fullLength (rowProgram rs) ≡ full = cc in
+    let told : askOf (rowProgram rs) (rowAsk rs) b ≡ d = cc in (
       weighs,
       (λ out room.
-          let enough : 8 * fullLength (programIn rs) ≤ length out = rw weighs room in (
+          let enough : stepSize * fullLength (rowProgram rs) ≤ length out = rw weighs room in (
             asked-told (bytesOf rs) b out read enough d told,
             asked-shown (bytesOf rs) b out read enough d told,
           )),

@@ -1,8 +1,9 @@
--- A row of document 01: records, and what must come out of their bytes.
+-- A row of document 01 (Row): records, and what must come out of their bytes.
 --   asked rs full b d   a program of the full length `full`, asked with the budget b: the answer d, with the
 --                       walk's first run where it is reached
 --   ruled rs v          a run, judged: legal with its number of steps, or the rule and the index
 --   opened rs n at      bytes, read: the number and the offset
+--   rowNumber, rowOffset, rowProgram, rowAsk   what reading the records' bytes answers, and what it hands out
 --   said r              what the layers' definitions say of the row's bytes
 --   due r               what the row says of them
 --   Fact r              what it tells of the functions that a host or a program calls
@@ -16,6 +17,7 @@ use Rattle.cases.specs.declared.case.Program.{Program}
 use Rattle.cases.specs.declared.case.Ask.{Ask}
 use Rattle.cases.specs.declared.record.Record.{Record}
 use Rattle.cases.specs.Reading.{numberOf, offsetOf, readOf}
+use Rattle.cases.specs.Sizes.{stepSize}
 use Rattle.machine.specs.declared.runs.Verdict.{Verdict}
 use Rattle.machine.specs.Work.{fullLength}
 use Rattle.machine.specs.Judge.{judgeBytes}
@@ -27,18 +29,17 @@ pub data Row : Type 0 where
   ruled : List Record → Verdict → Row
   opened : List Record → ℕ → ℕ → Row
 
--- the number and the offset that reading the records' bytes answers, and what it hands out
-abbrev pub numberIn : List Record → ℕ
-numberIn rs = numberOf (readOf (bytesOf rs) .answer)
+abbrev pub rowNumber : List Record → ℕ
+rowNumber rs = numberOf (readOf (bytesOf rs) .answer)
 
-abbrev pub offsetIn : List Record → ℕ
-offsetIn rs = offsetOf (readOf (bytesOf rs) .answer)
+abbrev pub rowOffset : List Record → ℕ
+rowOffset rs = offsetOf (readOf (bytesOf rs) .answer)
 
-abbrev pub programIn : List Record → Program
-programIn rs = readOf (bytesOf rs) .case .program
+abbrev pub rowProgram : List Record → Program
+rowProgram rs = readOf (bytesOf rs) .case .program
 
-abbrev pub askIn : List Record → Ask
-askIn rs = readOf (bytesOf rs) .case .ask
+abbrev pub rowAsk : List Record → Ask
+rowAsk rs = readOf (bytesOf rs) .case .ask
 
 -- reading's number, full length and answer; a verdict; reading's number and offset
 pub data Said : Type 0 where
@@ -47,9 +48,10 @@ pub data Said : Type 0 where
   opens : ℕ → ℕ → Said
 
 unfoldable pub said : Row → Said
-said (asked rs full b d) = answers (numberIn rs) (fullLength (programIn rs)) (askOf (programIn rs) (askIn rs) b)
+said (asked rs full b d) =
+    answers (rowNumber rs) (fullLength (rowProgram rs)) (askOf (rowProgram rs) (rowAsk rs) b)
 said (ruled rs v) = rules (judgeBytes (bytesOf rs) .verdict)
-said (opened rs n at) = opens (numberIn rs) (offsetIn rs)
+said (opened rs n at) = opens (rowNumber rs) (rowOffset rs)
 
 unfoldable pub due : Row → Said
 due (asked rs full b d) = answers 0 full d
@@ -59,8 +61,8 @@ due (opened rs n at) = opens n at
 -- of a question: whatever bytes are lent, if they are long enough, the answer and what they hold afterwards
 unfoldable pub Fact : Row → Type 0
 Fact (asked rs full b d) =
-    (fullLength (programIn rs) ≡ full)
-    × ((out : List ℕ) → 8 * full ≤ length out
+    (fullLength (rowProgram rs) ≡ full)
+    × ((out : List ℕ) → stepSize * full ≤ length out
     → (questionOf (bytesOf rs) (length out) b ≡ toldOf d) × (shownOf (bytesOf rs) b out ≡ shownBy d out))
 Fact (ruled rs v) = judgeBytes (bytesOf rs) .verdict ≡ v
-Fact (opened rs n at) = (numberIn rs ≡ n) × (offsetIn rs ≡ at)
+Fact (opened rs n at) = (rowNumber rs ≡ n) × (rowOffset rs ≡ at)

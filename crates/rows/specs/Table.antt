@@ -15,6 +15,7 @@ use Rattle.rows.specs.Words.{x, y, program, threads, first, store, store
 use Rattle.rows.specs.Words.{flushOpt, sfence, mfence, want, passed, taking, issue, move, persist}
 use Rattle.rows.specs.Row.{Row, asked, ruled, opened}
 
+-- "a budget not named is 1,000,000"
 abbrev usual : ℕ
 usual = 1000000
 
@@ -35,10 +36,11 @@ outageBytes =
     ∷ 5 ∷ 0 ∷ 4 ∷ 0 ∷ 1 ∷ 1 ∷ 0 ∷ 0 ∷ 0
     ∷ []
 
--- * "No instructions, want x=0, budget 1: reached, 0 steps. Budget 0: undecided."
+-- "No instructions, want x=0"
 abbrev idle : List Record
 idle = threads 1 ∷ want x 0 ∷ []
 
+-- * "No instructions, want x=0, budget 1: reached, 0 steps. Budget 0: undecided."
 abbrev noInstructions : List Row
 noInstructions =
     asked idle 0 1 (reached [])

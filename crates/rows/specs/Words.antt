@@ -2,11 +2,12 @@
 --   x, y              "x is location 0, y is location 1."
 --   threads n         kind 1, of two locations; program n m: of m locations
 --   first l w         kind 2
---   store t l w ..    kind 3: an instruction of thread t
+--   store, storeRegister, load, exchange, flush, flushOpt, sfence, mfence
+--                     kind 3: an instruction of thread t, at location l, with the word w
 --   want l w          kind 4
 --   passed t n        kind 5
 --   taking ks         kind 6, for each of the steps ks
---   issue t ..        steps
+--   issue, move, persist   steps
 --   bytesOf rs        the bytes of the records rs, one behind the other
 -- Assumes nothing.
 use Prim.Native.Nat.{ℕ}
@@ -14,6 +15,7 @@ use mathlib.Core.List.{List, [], _∷_, _++_, map}
 use Rattle.cases.specs.declared.case.Step.{Step}
 use Rattle.cases.specs.declared.record.Record.{Record}
 use Rattle.cases.specs.declared.record.Record.the-variants.{Declare, First, Instruct, Want, Passed, Take}
+use Rattle.cases.specs.Operations as operation
 use Rattle.cases.specs.Record.{recordBytes}
 use Rattle.machine.specs.Next.{issueStep, moveStep, persistStep}
 
@@ -32,35 +34,35 @@ threads n = program n 2
 abbrev pub first : ℕ → ℕ → Record
 first l w = First (record { location = record { 0 = l }; word = w })
 
--- an instruction of thread t by its operation's number; no row uses another register than register 0
+-- an instruction of thread t by its operation; no row uses another register than register 0
 abbrev pub instruction : ℕ → ℕ → ℕ → ℕ → Record
 instruction t op l w =
     Instruct (record { 0 = t })
     (record { operation = op; location = record { 0 = l }; register = record { 0 = 0 }; word = w })
 
 abbrev pub store : ℕ → ℕ → ℕ → Record
-store t l w = instruction t 1 l w
+store t l w = instruction t operation.storeWord l w
 
 abbrev pub storeRegister : ℕ → ℕ → Record
-storeRegister t l = instruction t 2 l 0
+storeRegister t l = instruction t operation.storeRegister l 0
 
 abbrev pub load : ℕ → ℕ → Record
-load t l = instruction t 3 l 0
+load t l = instruction t operation.load l 0
 
 abbrev pub exchange : ℕ → ℕ → ℕ → Record
-exchange t l w = instruction t 4 l w
+exchange t l w = instruction t operation.exchange l w
 
 abbrev pub flush : ℕ → ℕ → Record
-flush t l = instruction t 5 l 0
+flush t l = instruction t operation.flush l 0
 
 abbrev pub flushOpt : ℕ → ℕ → Record
-flushOpt t l = instruction t 6 l 0
+flushOpt t l = instruction t operation.flushOpt l 0
 
 abbrev pub sfence : ℕ → Record
-sfence t = instruction t 7 0 0
+sfence t = instruction t operation.sfence 0 0
 
 abbrev pub mfence : ℕ → Record
-mfence t = instruction t 8 0 0
+mfence t = instruction t operation.mfence 0 0
 
 abbrev pub want : ℕ → ℕ → Record
 want l w = Want (record { location = record { 0 = l }; word = w })

@@ -11,9 +11,9 @@ use Rattle.cases.specs.declared.case.Step.{Step}
 use Rattle.cases.specs.declared.case.Program.{Program}
 use Rattle.cases.specs.declared.case.Ask.{Ask}
 use Rattle.cases.specs.declared.reader.Reading.{Reading}
-use Rattle.cases.specs.Sizes.{mostSteps}
+use Rattle.cases.specs.Sizes.{mostSteps, stepSize}
 use Rattle.cases.specs.Reading.{numberOf, offsetOf, readOf}
-use Rattle.cases.specs.Places.{stepsBytes}
+use Rattle.cases.specs.Seats.{stepsBytes}
 use Rattle.cases.proofs.ChoiceLaws.{pick-true, pick-false}
 use Rattle.cases.proofs.ArrayLaws.{sets-front}
 use Rattle.cases.proofs.Promises.{steps-bytes-length}
@@ -21,7 +21,7 @@ use Rattle.machine.specs.declared.cells.State.{State}
 use Rattle.machine.specs.Rules.{startOf}
 use Rattle.machine.specs.Fit.{ProgramFits, Fits}
 use Rattle.machine.specs.Work.{work, fullLength}
-use Rattle.machine.proofs.Promises.{begin-fits, full-length-low, read-fits}
+use Rattle.machine.proofs.Promises.{start-fits, full-length-most, read-fits}
 use Rattle.machine.specs.Next.{Listed}
 use Rattle.search.specs.declared.walk.Walked.{Walked}
 use Rattle.search.specs.declared.walk.Walked.the-variants.{Found, Finished, Stopped}
@@ -29,7 +29,7 @@ use Rattle.search.specs.declared.ask.Outcome.{Outcome}
 use Rattle.search.specs.declared.ask.Outcome.the-variants.{Reached, Unreachable, Undecided, Refused}
 use Rattle.search.specs.Walk.{Visit, walkOf}
 use Rattle.search.specs.Question.{reaches, reached, FirstThat, walkFrom, askOf, toldOf, short, answerOf}
-use Rattle.search.specs.Question.{questionOf, shownBy, shownIn, shownOf}
+use Rattle.search.specs.Question.{questionOf, shownBy, shownFor, shownOf}
 use Rattle.search.specs.Seek.{Sought, hit, done, spent, seek, walkedOf, storedOf}
 use Rattle.machine.proofs.ListLaws.{listed-right}
 use Rattle.search.proofs.PtsoLaws.{walk-short}
@@ -47,11 +47,11 @@ first-on test vs before v f =
 -- the walk may begin at the start
 module _ (p : Program) (fits : ProgramFits p) (s : State) (s-is : s ≡ startOf p) where
   pub begun-fits : Fits p s
-  begun-fits = rw s-is (begin-fits p fits)
+  begun-fits = rw s-is (start-fits p fits)
 
   pub begun-few : work p s ≤ mostSteps
   unfolding fullLength
-  begun-few = rw s-is (full-length-low p fits)
+  begun-few = rw s-is (full-length-most p fits)
 
 module _ (p : Program) (fits : ProgramFits p) (a : Ask) (b : ℕ) where
   -- a run that reaches is no longer than the full length
@@ -60,7 +60,7 @@ module _ (p : Program) (fits : ProgramFits p) (a : Ask) (b : ℕ) where
   reached-short run e =
       let r = reached-is (reaches a) b (walkOf p (startOf p)) run e in
       let on = first-on (reaches a) (walkOf p (startOf p)) (r .0) (r .1) (r .2) in
-      let w = walk-short p (startOf p) (begin-fits p fits) (r .1 .run) (r .1 .end) on in
+      let w = walk-short p (startOf p) (start-fits p fits) (r .1 .run) (r .1 .end) on in
       let l = ap length (r .4) in
       omega arith
 
@@ -75,29 +75,29 @@ module _ (p : Program) (fits : ProgramFits p) (a : Ask) (b : ℕ) where
     full-is = sym (w-is ∙ ap (work p) s-is)
 
     -- the buffer is too short
-    pub answer-short : length out < 8 * w
-        → (Refused 31 0 ≡ answerOf p a (length out) b) × (out ≡ shownIn p a b out)
-    unfolding answerOf shownIn short
+    pub answer-short : length out < stepSize * w
+        → (Refused 31 0 ≡ answerOf p a (length out) b) × (out ≡ shownFor p a b out)
+    unfolding answerOf shownFor short
     answer-short h =
         let e = full-is in
-        let t = lt-ltb (length out) (8 * fullLength p) (omega arith) in
+        let t = lt-ltb (length out) (stepSize * fullLength p) (omega arith) in
         (sym (pick-true _ _ _ t), sym (pick-true _ _ _ t))
 
     -- it is not: what the walk leaves
-    module _ (h : 8 * w ≤ length out) (r : Walked) (last : List ℕ)
+    module _ (h : stepSize * w ≤ length out) (r : Walked) (last : List ℕ)
         (left : (r ≡ walkedOf 0 (seek (reaches a) b (walkOf p s)))
         × (last ≡ storedOf 0 (seek (reaches a) b (walkOf p s)) out)) where
       abbrev sought : Sought Step
       sought = seek (reaches a) b (walkOf p s)
 
       abbrev Answers : Outcome → Type 0
-      Answers o = (o ≡ answerOf p a (length out) b) × (last ≡ shownIn p a b out)
+      Answers o = (o ≡ answerOf p a (length out) b) × (last ≡ shownFor p a b out)
 
       answer-as : (o : Outcome) → o ≡ toldOf (askOf p a b) → last ≡ shownBy (askOf p a b) out → Answers o
-      unfolding answerOf shownIn short
+      unfolding answerOf shownFor short
       answer-as o e f =
           let g = full-is in
-          let t = le-ltb (length out) (8 * fullLength p) (omega arith) in
+          let t = le-ltb (length out) (stepSize * fullLength p) (omega arith) in
           (e ∙ sym (pick-false _ _ _ t), f ∙ sym (pick-false _ _ _ t))
 
       asked : (x : Sought Step) → sought ≡ x → askOf p a b ≡ comesTo x
@@ -158,11 +158,11 @@ module _ (s : List ℕ) (r : Reading) (r-is : r ≡ readOf s) (n : ℕ) (n-is : 
 
     pub question-read : (b : ℕ) (out : List ℕ) (o : Outcome) (last : List ℕ)
         → (o ≡ answerOf (r .case .program) (r .case .ask) (length out) b)
-        × (last ≡ shownIn (r .case .program) (r .case .ask) b out)
+        × (last ≡ shownFor (r .case .program) (r .case .ask) b out)
         → (o ≡ questionOf s (length out) b) × (last ≡ shownOf s b out)
     unfolding questionOf shownOf
     question-read b out o last e =
         let t = eq-eqb (numberOf (readOf s .answer)) 0 (sym number-is ∙ h) in
         let same = ap (λ (x : Reading). answerOf (x .case .program) (x .case .ask) (length out) b) r-is in
-        let shown = ap (λ (x : Reading). shownIn (x .case .program) (x .case .ask) b out) r-is in
+        let shown = ap (λ (x : Reading). shownFor (x .case .program) (x .case .ask) b out) r-is in
         (e .0 ∙ same ∙ sym (pick-true _ _ _ t), e .1 ∙ shown ∙ sym (pick-true _ _ _ t))

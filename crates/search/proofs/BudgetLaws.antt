@@ -78,7 +78,7 @@ module _ {S K : Type 0} (test : S → Bool) where
   found-first (w ∷ before) v after f t =
       rw (f w (inl refl), firstOf) (found-first before v after (λ x h. f x (inr h)) t)
 
-  -- among the first b: it stands there as in the whole list, at a place below b
+  -- among the first b: it stands there as in the whole list, at a position below b
   take-found : (b : ℕ) (vs : List (Visit S K)) (run : List K) → Found (take b vs) run
       → (before : List (Visit S K))
       × (v : Visit S K)

@@ -13,7 +13,7 @@ use native.Mathlib.Omega.{arith}
 use Rattle.cases.specs.declared.case.Step.{Step}
 use Rattle.cases.specs.declared.case.Program.{Program}
 use Rattle.cases.specs.declared.case.Ask.{Ask}
-use Rattle.cases.specs.Places.{stepsBytes}
+use Rattle.cases.specs.Seats.{stepsBytes}
 use Rattle.machine.specs.declared.cells.State.{State}
 use Rattle.machine.specs.declared.next.Next.{Next}
 use Rattle.machine.specs.Fit.{Fits}
@@ -63,7 +63,7 @@ module _ (p : Program) (a : Ask) (s : State) (b depth : ℕ) (out : List ℕ) wh
       go zero n = absurd (n refl)
       go (suc c) n = rw (t, seek)
 
--- `next` lists the next steps; those from place i on are still to be walked, with so much of the budget left,
+-- `next` lists the next steps; those from i on are still to be walked, with so much of the budget left,
 -- and nothing is stored yet
 pub record Walking (p : Program) (a : Ask) (s : State) (b : ℕ) (next : Next) (before out : List ℕ) (left i : ℕ)
     : Type 0 where

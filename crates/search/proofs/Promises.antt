@@ -9,11 +9,11 @@ use Rattle.cases.specs.declared.case.Step.{Step}
 use Rattle.cases.specs.declared.case.Program.{Program}
 use Rattle.cases.specs.declared.case.Ask.{Ask}
 use Rattle.cases.specs.declared.case.Case.{Case}
-use Rattle.cases.specs.Sizes.{mostThreads, mostLocations, longest}
+use Rattle.cases.specs.Sizes.{mostThreads, mostLocations, longest, stepSize}
 use Rattle.cases.specs.Bytes.{IsBytes}
 use Rattle.cases.specs.Draft.{runWith, withRun}
 use Rattle.cases.specs.Reading.{numberOf, offsetOf, readOf}
-use Rattle.cases.specs.Places.{encodeOf, stepsBytes}
+use Rattle.cases.specs.Seats.{encodeOf, stepsBytes}
 use Rattle.cases.specs.Writing.{readsBack}
 use Rattle.machine.specs.declared.cells.State.{State}
 use Rattle.machine.specs.declared.runs.Verdict.the-variants.{Legal}
@@ -23,7 +23,7 @@ use Rattle.machine.specs.Fit.{ProgramFits}
 use Rattle.machine.specs.Work.{fullLength}
 use Rattle.machine.specs.Judge.{Leads, Faultless, judgeOf, judgeBytes}
 use Rattle.machine.specs.Next.{rankOf, Listed}
-use Rattle.machine.proofs.Promises.{begin-fits}
+use Rattle.machine.proofs.Promises.{start-fits}
 use Rattle.search.specs.declared.ask.Outcome.the-variants.{Reached, Unreachable, Undecided, Refused}
 use Rattle.search.specs.Walk.{Visit, here, InOrder}
 use Rattle.search.specs.Question.{reaches, reached, unreachable, undecided, None, FirstThat, walkFrom}
@@ -37,13 +37,13 @@ use Rattle.search.proofs.QuestionLaws as QuestionLaws
 
 -- The walk of a program that the machine can run
 module _ (p : Program) (fits : ProgramFits p) where
-  -- "The walk lists all legal runs": exactly these, of steps that 5 and 8 have nothing against, with their end
+  -- "The walk lists all legal runs": exactly these, of steps that pass the checks 5 and 8, with their end
   pub walk-exact : (ks : List Step) (u : State)
       → Listed (record { run = ks; end = u }) (walkFrom p) ↔ (Faultless p ks × Leads p (startOf p) ks u)
   unfolding walkFrom
   walk-exact ks u = (
-    PtsoLaws.walk-leads p (startOf p) (begin-fits p fits) ks u,
-    (λ h. PtsoLaws.leads-walk p (startOf p) (begin-fits p fits) ks u (h .0) (h .1)),
+    PtsoLaws.walk-leads p (startOf p) (start-fits p fits) ks u,
+    (λ h. PtsoLaws.leads-walk p (startOf p) (start-fits p fits) ks u (h .0) (h .1)),
   )
 
   -- "the empty run first; each run is followed by everything that starts with it, next steps in the order issue
@@ -51,7 +51,7 @@ module _ (p : Program) (fits : ProgramFits p) where
   -- it in the list, by that order
   pub walk-in-order : InOrder rankOf (walkFrom p)
   unfolding walkFrom
-  walk-in-order = PtsoLaws.walk-ordered p (startOf p) (begin-fits p fits)
+  walk-in-order = PtsoLaws.walk-ordered p (startOf p) (start-fits p fits)
 
   -- and no other list holds exactly these in that order
   pub walk-only : (vs : List (Visit State Step)) → InOrder rankOf vs
@@ -63,7 +63,7 @@ module _ (p : Program) (fits : ProgramFits p) where
   pub walk-first : (rest : List (Visit State Step)) × (walkFrom p ≡ here (startOf p) ∷ rest)
   walk-first = QuestionLaws.walk-first p
 
-  -- each once: of two places of the list, the runs differ
+  -- each once: of two parts of the list, the runs differ
   pub walk-once : (xs ys : List (Visit State Step)) → walkFrom p ≡ xs ++ ys
       → (v w : Visit State Step) → Listed v xs → Listed w ys → v .run ≢ w .run
   walk-once xs ys e = OrderLaws.order-once rankOf xs ys (subst (InOrder rankOf) e walk-in-order)
@@ -114,7 +114,7 @@ module _ (p : Program) (a : Ask) (b : ℕ) where
     (λ h. BudgetLaws.is-undecided (reaches a) b (walkFrom p) (h .0) (h .1)),
   )
 
--- a budget of just the runs before the first that reaches decides nothing: one less than that run's place
+-- a budget of just the runs before the first that reaches decides nothing: one less than where that run stands
 pub one-less-undecided : (p : Program) (a : Ask) (before : List (Visit State Step)) (v : Visit State Step)
     → FirstThat (reaches a) (walkFrom p) before v
     → askOf p a (length before) ≡ undecided
@@ -130,12 +130,12 @@ module _ (s : List ℕ) (b : ℕ) (out : List ℕ) where
 
   module _ (read : numberOf (readOf s .answer) ≡ 0) where
     -- "then 31 (shorter than 8 bytes times the program's full length, below)"
-    pub question-short : length out < 8 * fullLength (readOf s .case .program)
+    pub question-short : length out < stepSize * fullLength (readOf s .case .program)
         → questionOf s (length out) b ≡ Refused 31 0
     question-short = QuestionLaws.question-short s (length out) b read
 
     -- then 100, 101 or 102, by what the budget decides
-    module _ (room : 8 * fullLength (readOf s .case .program) ≤ length out) where
+    module _ (room : stepSize * fullLength (readOf s .case .program) ≤ length out) where
       pub question-reached : (n : ℕ)
           → (questionOf s (length out) b ≡ Reached n)
           ↔ ((run : List Step)
@@ -156,7 +156,7 @@ module _ (s : List ℕ) (b : ℕ) (out : List ℕ) where
       -- "the first such run, as kind 6 records in the lent buffer": from the front, and nothing behind is
       -- touched
       pub shown-run : (run : List Step) → askOf (readOf s .case .program) (readOf s .case .ask) b ≡ reached run
-          → shownOf s b out ≡ stepsBytes run ++ drop (8 * length run) out
+          → shownOf s b out ≡ stepsBytes run ++ drop (stepSize * length run) out
       shown-run = QuestionLaws.shown-run s b out read room
 
   -- "Refusals, and the answers 101 and 102, store nothing."
@@ -189,10 +189,11 @@ module _ (c : Case) (readable : readsBack c ≡ true) (b : ℕ) (run : List Step
 -- the same of the bytes: those that are stored, behind the case's file without its steps, are a file that gets
 -- 103
 pub stored-passes : (s : List ℕ) → IsBytes s → numberOf (readOf s .answer) ≡ 0
-    → (b : ℕ) (out : List ℕ) → 8 * fullLength (readOf s .case .program) ≤ length out
+    → (b : ℕ) (out : List ℕ) → stepSize * fullLength (readOf s .case .program) ≤ length out
     → (run : List Step) → askOf (readOf s .case .program) (readOf s .case .ask) b ≡ reached run
     → judgeBytes
-    (encodeOf (withRun (readOf s .case) (runWith [])) ++ take (8 * length run) (shownOf s b out)) .verdict
+    (encodeOf (withRun (readOf s .case) (runWith []))
+    ++ take (stepSize * length run) (shownOf s b out)) .verdict
     ≡ Legal (length run)
 stored-passes s bytes read b out room run = ShownLaws.stored-legal s bytes read b out room run
 

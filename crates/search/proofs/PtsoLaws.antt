@@ -28,7 +28,7 @@ module _ (p : Program) where
         rises = λ s f. next-rising p s f;
       }
 
-  -- a run of next steps is a legal run of steps that 5 and 8 have nothing against
+  -- a run of next steps is a legal run of steps that pass the checks 5 and 8
   pub runs-leads : (s : State) → Fits p s → (ks : List Step) (u : State) → Runs (ptso p) s ks u
       → Faultless p ks × Leads p s ks u
   unfolding ptso Runs Faultless Leads

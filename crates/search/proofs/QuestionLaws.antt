@@ -9,23 +9,23 @@ use borrow.Author.Tests.{lt-ltb, le-ltb, eq-eqb, ne-eqb, eqb-true}
 use native.Mathlib.Omega.{arith}
 use Rattle.cases.specs.declared.case.Step.{Step}
 use Rattle.cases.specs.declared.case.Program.{Program}
-use Rattle.cases.specs.Sizes.{longest}
+use Rattle.cases.specs.Sizes.{longest, stepSize}
 use Rattle.cases.specs.Reading.{numberOf, offsetOf, readOf}
-use Rattle.cases.specs.Places.{stepsBytes}
+use Rattle.cases.specs.Seats.{stepsBytes}
 use Rattle.cases.proofs.ChoiceLaws.{pick-true, pick-false, pick-cases, pick-pair}
 use Rattle.cases.proofs.Promises.{number-in-table, offset-low}
 use Rattle.machine.specs.declared.cells.State.{State}
 use Rattle.machine.specs.Rules.{startOf}
 use Rattle.machine.specs.Fit.{ProgramFits}
 use Rattle.machine.specs.Work.{fullLength}
-use Rattle.machine.proofs.Promises.{read-fits, begin-fits, full-length-low}
+use Rattle.machine.proofs.Promises.{read-fits, start-fits, full-length-most}
 use Rattle.machine.specs.Next.{Listed}
 use Rattle.search.specs.declared.ask.Outcome.{Outcome}
 use Rattle.search.specs.declared.ask.Outcome.the-variants.{Reached, Unreachable, Undecided, Refused}
 use Rattle.search.specs.Walk.{Visit, here, walk, walkOf}
 use Rattle.search.specs.Question.{Decided, reached, unreachable, undecided, walkFrom, askOf}
 use Rattle.search.specs.Question.{outcomeNo, outcomePlace, toldOf, short, answerOf, questionOf}
-use Rattle.search.specs.Question.{shownBy, shownIn, shownOf}
+use Rattle.search.specs.Question.{shownBy, shownFor, shownOf}
 use Rattle.search.proofs.PtsoLaws.{walk-short}
 use Rattle.search.proofs.AskLaws.{reached-short}
 
@@ -36,7 +36,7 @@ walk-first p = (_, refl)
 pub walk-deep : (p : Program) → ProgramFits p → (ks : List Step) (u : State)
     → Listed (record { run = ks; end = u }) (walkFrom p) → length ks ≤ fullLength p
 unfolding walkFrom fullLength
-walk-deep p fits ks u h = let e = walk-short p (startOf p) (begin-fits p fits) ks u h in omega arith
+walk-deep p fits ks u h = let e = walk-short p (startOf p) (start-fits p fits) ks u h in omega arith
 
 -- toldOf, back
 told-reached : (d : Decided Step) (n : ℕ) → toldOf d ≡ Reached n
@@ -65,11 +65,12 @@ module _ (s : List ℕ) (room b : ℕ) where
   question-unread h = pick-false _ _ _ (ne-eqb _ _ h)
 
   module _ (read : numberOf (readOf s .answer) ≡ 0) where
-    pub question-short : room < 8 * fullLength (readOf s .case .program) → questionOf s room b ≡ Refused 31 0
+    pub question-short : room < stepSize * fullLength (readOf s .case .program)
+        → questionOf s room b ≡ Refused 31 0
     unfolding questionOf answerOf short
     question-short h = pick-true _ _ _ (eq-eqb _ _ read) ∙ pick-true _ _ _ (lt-ltb _ _ h)
 
-    module _ (h : 8 * fullLength (readOf s .case .program) ≤ room) where
+    module _ (h : stepSize * fullLength (readOf s .case .program) ≤ room) where
       told : questionOf s room b ≡ toldOf (askOf (readOf s .case .program) (readOf s .case .ask) b)
       unfolding questionOf answerOf short
       told = pick-true _ _ _ (eq-eqb _ _ read) ∙ pick-false _ _ _ (le-ltb _ _ h)
@@ -99,10 +100,10 @@ module _ (s : List ℕ) (room b : ℕ) where
 
 -- what is shown
 pub shown-run : (s : List ℕ) (b : ℕ) (out : List ℕ) → numberOf (readOf s .answer) ≡ 0
-    → 8 * fullLength (readOf s .case .program) ≤ length out
+    → stepSize * fullLength (readOf s .case .program) ≤ length out
     → (run : List Step) → askOf (readOf s .case .program) (readOf s .case .ask) b ≡ reached run
-    → shownOf s b out ≡ stepsBytes run ++ drop (8 * length run) out
-unfolding shownOf shownIn short shownBy
+    → shownOf s b out ≡ stepsBytes run ++ drop (stepSize * length run) out
+unfolding shownOf shownFor short shownBy
 shown-run s b out read h run e =
     pick-true _ _ _ (eq-eqb _ _ read)
     ∙ pick-false _ _ _ (le-ltb _ _ h)
@@ -121,7 +122,7 @@ told-stores out undecided n = refl
 pub only-reached-stores : (s : List ℕ) (b : ℕ) (out : List ℕ)
     → outcomeNo (questionOf s (length out) b) ≢ 100
     → shownOf s b out ≡ out
-unfolding questionOf answerOf shownOf shownIn Stores
+unfolding questionOf answerOf shownOf shownFor Stores
 only-reached-stores s b out =
     pick-pair (Stores out) (eqb (numberOf (readOf s .answer)) 0) _ _ _ _
     (pick-pair (Stores out) (short (readOf s .case .program) (length out)) _ _ _ _
@@ -141,7 +142,7 @@ steps-not-looked-at s t g h p a b out =
     let x = eq-eqb (numberOf (readOf s .answer)) 0 g in
     let y = eq-eqb (numberOf (readOf t .answer)) 0 h in (
       pick-true _ _ _ x ∙ (λ i. answerOf (p i) (a i) (length out) b) ∙ sym (pick-true _ _ _ y),
-      pick-true _ _ _ x ∙ (λ i. shownIn (p i) (a i) b out) ∙ sym (pick-true _ _ _ y),
+      pick-true _ _ _ x ∙ (λ i. shownFor (p i) (a i) b out) ∙ sym (pick-true _ _ _ y),
     )
 
 -- the number is below 256, and the place at most the longest file's length
@@ -165,6 +166,6 @@ question-low s room b =
     (λ k. (omega arith, omega arith))
     (λ k. told-low _ (λ run e.
     let a = reached-short (readOf s .case .program) fits (readOf s .case .ask) b run e in
-    let f = full-length-low (readOf s .case .program) fits in
+    let f = full-length-most (readOf s .case .program) fits in
     omega arith)))
     (λ h. (omega (arith, number-in-table s), offset-low s))

@@ -9,11 +9,11 @@ use native.Mathlib.Omega.{arith}
 use Rattle.cases.specs.declared.case.Step.{Step}
 use Rattle.cases.specs.declared.case.Case.{Case}
 use Rattle.cases.specs.declared.reader.Reading.{Reading}
-use Rattle.cases.specs.Sizes.{mostSteps}
+use Rattle.cases.specs.Sizes.{mostSteps, stepSize}
 use Rattle.cases.specs.Bytes.{IsBytes}
 use Rattle.cases.specs.Draft.{runWith, withRun}
 use Rattle.cases.specs.Reading.{numberOf, readOf}
-use Rattle.cases.specs.Places.{encodeOf, stepsBytes}
+use Rattle.cases.specs.Seats.{encodeOf, stepsBytes}
 use Rattle.cases.specs.Writing.{readsBack}
 use Rattle.cases.proofs.Promises.{read-reads-back, read-after-write, file-bytes, steps-bytes-length}
 use Rattle.cases.proofs.Promises.{other-run-file}
@@ -23,7 +23,7 @@ use Rattle.machine.specs.declared.runs.Judged.{Judged}
 use Rattle.machine.specs.Rules.{startOf}
 use Rattle.machine.specs.Work.{fullLength}
 use Rattle.machine.specs.Judge.{Leads, Faultless, judged, judgeOf, judgeBytes}
-use Rattle.machine.proofs.Promises.{program-fits, begin-fits, full-length-most, judge-read, rerun-reads}
+use Rattle.machine.proofs.Promises.{program-fits, start-fits, full-length-most, judge-read, rerun-reads}
 use Rattle.machine.proofs.Promises.{rerun-passes}
 use Rattle.search.specs.Walk.{walkOf}
 use Rattle.search.specs.Question.{reaches, reached, walkFrom, askOf, shownOf}
@@ -41,7 +41,7 @@ pub reached-leads : (c : Case) → readsBack c ≡ true → (b : ℕ) (run : Lis
     × (reaches (c .ask) u ≡ true)
 unfolding askOf walkFrom
 reached-leads c h b run q =
-    let fits = begin-fits (c .program) (program-fits c h) in
+    let fits = start-fits (c .program) (program-fits c h) in
     let r = reached-is (reaches (c .ask)) b (walkOf (c .program) (startOf (c .program))) run q in
     let v = r .1 in
     let on = first-on (reaches (c .ask)) (walkOf (c .program) (startOf (c .program))) (r .0) v (r .2) in
@@ -61,7 +61,7 @@ module _ (c : Case) (h : readsBack c ≡ true) (b : ℕ) (run : List Step)
   few : length run ≤ mostSteps
   few =
       let a = reached-short (c .program) (program-fits c h) (c .ask) b run q in
-      let f = full-length-most c h in
+      let f = full-length-most (c .program) (program-fits c h) in
       omega arith
 
   pub shown-readable : readsBack shown ≡ true
@@ -82,7 +82,7 @@ module _ (c : Case) (h : readsBack c ≡ true) (b : ℕ) (run : List Step)
 -- Bytes that read, and the bytes that the question stores for them: behind the file without its steps they are
 -- a file that the judge passes
 module _ (s : List ℕ) (bytes : IsBytes s) (read : numberOf (readOf s .answer) ≡ 0) (b : ℕ) (out : List ℕ)
-    (room : 8 * fullLength (readOf s .case .program) ≤ length out) (run : List Step)
+    (room : stepSize * fullLength (readOf s .case .program) ≤ length out) (run : List Step)
     (q : askOf (readOf s .case .program) (readOf s .case .ask) b ≡ reached run) where
   abbrev case : Case
   case = readOf s .case
@@ -90,12 +90,13 @@ module _ (s : List ℕ) (bytes : IsBytes s) (read : numberOf (readOf s .answer) 
   readable : readsBack case ≡ true
   readable = read-reads-back s bytes read
 
-  stored : take (8 * length run) (shownOf s b out) ≡ stepsBytes run
+  stored : take (stepSize * length run) (shownOf s b out) ≡ stepsBytes run
   stored =
-      ap (take (8 * length run)) (QuestionLaws.shown-run s b out read room run q)
-      ∙ take-at (stepsBytes run) (drop (8 * length run) out) (8 * length run) (steps-bytes-length run)
+      ap (take (stepSize * length run)) (QuestionLaws.shown-run s b out read room run q)
+      ∙ take-at (stepsBytes run) (drop (stepSize * length run) out) (stepSize * length run)
+      (steps-bytes-length run)
 
-  file : encodeOf (withRun case (runWith [])) ++ take (8 * length run) (shownOf s b out)
+  file : encodeOf (withRun case (runWith [])) ++ take (stepSize * length run) (shownOf s b out)
       ≡ encodeOf (withRun case (runWith run))
   file =
       ap (λ (x : List ℕ). encodeOf (withRun case (runWith [])) ++ x) stored
@@ -109,7 +110,8 @@ module _ (s : List ℕ) (bytes : IsBytes s) (read : numberOf (readOf s .answer) 
       ∙ ap (λ (r : Reading). judgeOf (r .case)) e
 
   pub stored-legal :
-      judgeBytes (encodeOf (withRun case (runWith [])) ++ take (8 * length run) (shownOf s b out)) .verdict
+      judgeBytes
+      (encodeOf (withRun case (runWith [])) ++ take (stepSize * length run) (shownOf s b out)) .verdict
       ≡ Legal (length run)
   stored-legal =
       ap (λ (x : List ℕ). judgeBytes x .verdict) file

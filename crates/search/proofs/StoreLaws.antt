@@ -11,8 +11,9 @@ use Rattle.cases.specs.declared.record.Record.the-variants.{Take}
 use Rattle.cases.specs.Bytes.{halfBytes}
 use Rattle.cases.specs.Choice.{pick}
 use Rattle.cases.specs.Record.{payloadOf, payloadBytes, recordBytes}
-use Rattle.cases.specs.Places.{stepsBytes}
+use Rattle.cases.specs.Seats.{stepsBytes}
 use Rattle.cases.proofs.ArrayLaws.{sets-append}
+use Rattle.cases.specs.Sizes.{stepSize}
 use Rattle.search.specs.Seek.{Sought, hit, done, spent, storedOf}
 
 -- a byte before bytes that were put; bytes before them
@@ -57,18 +58,19 @@ put-record d at k = put-eight d at 4 0 6 0 (k .thread .0) (k .code) (k .position
 
 -- the record of a step before the records of the steps behind it
 pub step-before : (d : List ℕ) (depth : ℕ) (k : Step) (ks : List Step)
-    → sets (sets d (8 * (depth + 1)) (stepsBytes ks)) (8 * depth) (recordBytes (Take k))
-    ≡ sets d (8 * depth) (stepsBytes (k ∷ ks))
+    → sets (sets d (stepSize * (depth + 1)) (stepsBytes ks)) (stepSize * depth) (recordBytes (Take k))
+    ≡ sets d (stepSize * depth) (stepsBytes (k ∷ ks))
 unfolding stepsBytes
 step-before d depth k ks =
     let e = record-length k in
-    let behind : 8 * (depth + 1) ≡ 8 * depth + length (recordBytes (Take k)) = omega arith in
-    sets-before d (8 * depth) (8 * (depth + 1)) (recordBytes (Take k)) (stepsBytes ks) (omega arith)
-    ∙ rw behind (sym (sets-append d (8 * depth) (recordBytes (Take k)) (stepsBytes ks)))
+    let behind : stepSize * (depth + 1) ≡ stepSize * depth + length (recordBytes (Take k)) = omega arith in
+    sets-before d (stepSize * depth) (stepSize * (depth + 1)) (recordBytes (Take k)) (stepsBytes ks)
+    (omega arith)
+    ∙ rw behind (sym (sets-append d (stepSize * depth) (recordBytes (Take k)) (stepsBytes ks)))
 
 -- storing keeps the length
 pub length-stored : (depth : ℕ) (x : Sought Step) (out : List ℕ) → length (storedOf depth x out) ≡ length out
 unfolding storedOf
-length-stored depth (hit run) out = length-sets out (8 * depth) (stepsBytes run)
+length-stored depth (hit run) out = length-sets out (stepSize * depth) (stepsBytes run)
 length-stored depth (done b) out = refl
 length-stored depth spent out = refl

@@ -12,7 +12,8 @@ use Rattle.cases.specs.declared.case.Ask.{Ask}
 use Rattle.cases.specs.declared.record.Record.the-variants.{Take}
 use Rattle.cases.specs.Checks.{stepFault}
 use Rattle.cases.specs.Record.{recordBytes}
-use Rattle.cases.specs.Places.{stepsBytes}
+use Rattle.cases.specs.Seats.{stepsBytes}
+use Rattle.cases.specs.Sizes.{stepSize}
 use Rattle.machine.specs.declared.cells.State.{State}
 use Rattle.machine.specs.declared.next.Next.{Next}
 use Rattle.machine.specs.Rules.{ruleOf, nextOf}
@@ -33,7 +34,7 @@ use Rattle.search.proofs.LoopLaws.{restOf, Left, left-as, Walking}
 
 module _ {p : Program} {a : Ask} {s : State} {b : ℕ} {next : Next} {before out : List ℕ} {left i : ℕ}
     (o : Walking p a s b next before out left i) where
-  -- a turn: k is the step of the rank at place i, and z the state behind it
+  -- a turn: k is the step of the rank at position i, and z the state behind it
   module _ (h : i < next .count) (k : Step) (k-is : k ≡ stepAt (getD (next .ranks) i 0)) where
     front : drop i (legalSteps p s) ≡ k ∷ drop (i + 1) (legalSteps p s)
     front =
@@ -93,7 +94,7 @@ module _ {p : Program} {a : Ask} {s : State} {b : ℕ} {next : Next} {before out
         turn-put at final e =
             ap length e ∙ length-sets last at (recordBytes (Take k)) ∙ turn-length ∙ ap length (o .kept)
 
-        pub turn-room : 8 * (depth + work p s) ≤ length out → 8 * depth + 8 ≤ length last
+        pub turn-room : stepSize * (depth + work p s) ≤ length out → stepSize * depth + stepSize ≤ length last
         turn-room h =
             let e = turn-length in
             let w = turn-work in
@@ -101,17 +102,17 @@ module _ {p : Program} {a : Ask} {s : State} {b : ℕ} {next : Next} {before out
 
         -- a run was found below: the step goes before it
         pub turn-found : (n : ℕ) → r ≡ Found n
-            → Left p a s b depth before (Found n) (sets last (8 * depth) (recordBytes (Take k)))
+            → Left p a s b depth before (Found n) (sets last (stepSize * depth) (recordBytes (Take k)))
         unfolding walkedOf storedOf on-from
         turn-found n e =
             let w = walked-found (depth + 1) sought n (sym (below .0) ∙ e) in
             let long = w .2 in
             left-as p a s b depth before (hit (k ∷ w .0)) (turn-seek ∙ ap on-from (w .1)) (Found n) _
             (ap Found (omega arith))
-            (ap (λ y. sets y (8 * depth) (recordBytes (Take k)))
+            (ap (λ y. sets y (stepSize * depth) (recordBytes (Take k)))
             (below .1 ∙ ap (λ y. storedOf (depth + 1) y out) (w .1))
             ∙ step-before out depth k (w .0)
-            ∙ ap (λ y. sets y (8 * depth) (stepsBytes (k ∷ w .0))) (o .kept))
+            ∙ ap (λ y. sets y (stepSize * depth) (stepsBytes (k ∷ w .0))) (o .kept))
 
         -- the budget was used up below
         pub turn-stopped : r ≡ Stopped → Left p a s b depth before Stopped last

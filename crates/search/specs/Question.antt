@@ -1,8 +1,14 @@
 -- Document 01, "Work left and the walk" and "Refusal numbers": the question.
 --   reaches a s          a crash in the state s leaves what is asked for, with what is asked for issued
---   firstOf test vs      the first of some runs whose end passes a test
---   decided test b vs    what a budget b says of the runs vs
+--   misses, missesAt, lacksAt   a location holds another word than is wanted; a thread has issued too few
+--   firstOf test vs      the first of some runs whose end passes a test, or none (First)
+--   decided test b vs    what a budget b says of the runs vs (Decided)
+--   FirstThat            the run v is the first of vs that passes, and `before` stands before it
 --   walkFrom p           the walk of a program
+--   askOf p a b          what a budget b says of it
+--   outcomeNo, outcomePlace   01's number of an answer, and its place
+--   toldOf d             how that is told
+--   answerOf p a room b, shownFor p a b out   the answer for a program, and what the lent bytes hold afterwards
 --   questionOf s room b  what the question answers for the bytes s, a lent buffer of `room` bytes, a budget b
 --   shownOf s b out      what the lent bytes `out` hold afterwards
 -- Assumes nothing.
@@ -16,9 +22,9 @@ use Rattle.cases.specs.declared.case.Step.{Step}
 use Rattle.cases.specs.declared.case.Program.{Program}
 use Rattle.cases.specs.declared.case.Ask.{Ask}
 use Rattle.cases.specs.Choice.{pick, both}
-use Rattle.cases.specs.Sizes.{mostThreads, mostLocations}
+use Rattle.cases.specs.Sizes.{mostThreads, mostLocations, stepSize}
 use Rattle.cases.specs.Reading.{numberOf, offsetOf, readOf}
-use Rattle.cases.specs.Places.{stepsBytes}
+use Rattle.cases.specs.Seats.{stepsBytes}
 use Rattle.machine.specs.declared.cells.State.{State}
 use Rattle.machine.specs.Rules.{startOf}
 use Rattle.machine.specs.Fit.{anyFrom}
@@ -110,7 +116,7 @@ toldOf undecided = Undecided
 
 -- "The question tests reading first, then 31 (shorter than 8 bytes times the program's full length, below)."
 unfoldable pub short : Program → ℕ → Bool
-short p room = ltb room (8 * fullLength p)
+short p room = ltb room (stepSize * fullLength p)
 
 unfoldable pub answerOf : Program → Ask → ℕ → ℕ → Outcome
 answerOf p a room b = pick (short p room) (Refused 31 0) (toldOf (askOf p a b))
@@ -124,15 +130,15 @@ questionOf s room b =
 -- "100 reached (the first such run, as kind 6 records in the lent buffer ..)": from the front, and nothing
 -- behind them is touched. "Refusals, and the answers 101 and 102, store nothing."
 unfoldable pub shownBy : Decided Step → List ℕ → List ℕ
-shownBy (reached run) out = stepsBytes run ++ drop (8 * length run) out
+shownBy (reached run) out = stepsBytes run ++ drop (stepSize * length run) out
 shownBy unreachable out = out
 shownBy undecided out = out
 
-unfoldable pub shownIn : Program → Ask → ℕ → List ℕ → List ℕ
-shownIn p a b out = pick (short p (length out)) out (shownBy (askOf p a b) out)
+unfoldable pub shownFor : Program → Ask → ℕ → List ℕ → List ℕ
+shownFor p a b out = pick (short p (length out)) out (shownBy (askOf p a b) out)
 
 unfoldable pub shownOf : List ℕ → ℕ → List ℕ → List ℕ
 shownOf s b out =
     pick (eqb (numberOf (readOf s .answer)) 0)
-    (shownIn (readOf s .case .program) (readOf s .case .ask) b out)
+    (shownFor (readOf s .case .program) (readOf s .case .ask) b out)
     out

@@ -10,7 +10,8 @@ use mathlib.Core.List.{List, [], _∷_}
 use lib.ListN.{length}
 use lib.Seq.{sets}
 use Rattle.cases.specs.declared.case.Step.{Step}
-use Rattle.cases.specs.Places.{stepsBytes}
+use Rattle.cases.specs.Seats.{stepsBytes}
+use Rattle.cases.specs.Sizes.{stepSize}
 use Rattle.search.specs.declared.walk.Walked.{Walked}
 use Rattle.search.specs.declared.walk.Walked.the-variants.{Found, Finished, Stopped}
 use Rattle.search.specs.Walk.{Visit}
@@ -32,6 +33,6 @@ walkedOf d (done b) = Finished b
 walkedOf d spent = Stopped
 
 unfoldable pub storedOf : ℕ → Sought Step → List ℕ → List ℕ
-storedOf d (hit run) out = sets out (8 * d) (stepsBytes run)
+storedOf d (hit run) out = sets out (stepSize * d) (stepsBytes run)
 storedOf d (done b) out = out
 storedOf d spent out = out

@@ -1,6 +1,6 @@
 -- Document 01, "Work left and the walk": the walk, over any machine.
 --   Machine         which steps a state has next, in order, and where each leads
---   Visit           a run, and the state where it ends
+--   Visit           a run, and the state where it ends; here s: one of no steps; under k v: k, then those of v
 --   walk m n s      all runs from s of fewer than n steps: the empty run first, "each run is followed by
 --                   everything that starts with it, next steps in the order" of the machine
 --   Runs m s ks u   the steps ks, each a next one where it is taken, lead from s to u
@@ -28,7 +28,6 @@ pub record Visit (S K : Type 0) : Type 0 where
   pub run : List K
   pub end : S
 
--- a run of no steps; the step k before a run
 abbrev pub here : {S K : Type 0} → S → Visit S K
 here s = record { run = []; end = s }
 

@@ -4,12 +4,13 @@ use crate::walk::Walked;
 use cases::case::Ask;
 use cases::case::Program;
 use cases::reader;
+use cases::sizes::STEP_SIZE;
 use machine::steps;
 use machine::work;
 ghost use mathlib.Core.Path.{_≡_};
 ghost use lib.ListN.{length};
 ghost use Rattle.machine.specs.Fit.{ProgramFits};
-ghost use Rattle.search.specs.Question.{outcomeNo, outcomePlace, answerOf, shownIn, questionOf, shownOf};
+ghost use Rattle.search.specs.Question.{outcomeNo, outcomePlace, answerOf, shownFor, questionOf, shownOf};
 
 // Reached with the number of steps of the run that is shown; refused with the number and the offset.
 pub enum Outcome {
@@ -47,10 +48,10 @@ pub fn outcome_place(o: Outcome) -> usize
 fn ask(p: Program, a: Ask, run: &mut [u8], budget: u32) -> Outcome
     requires { ⌜ ProgramFits p ⌝ }
     ensures { λ r. ⌜ (r ≡ answerOf p a (length (now (run .entry))) budget)
-        × (now (run .exit) ≡ shownIn p a budget (now (run .entry))) ⌝ }
+        × (now (run .exit) ≡ shownFor p a budget (now (run .entry))) ⌝ }
 {
     let s = steps::start_of(p);
-    if run.len() < 8 * work::work_in(p, s) {
+    if run.len() < STEP_SIZE * work::work_in(p, s) {
         return Outcome::Refused(31, 0);
     }
     match walk::walk(p, a, s, budget, 0, run) {

@@ -6,9 +6,10 @@ ghost use lib.ListN.{length};
 ghost use lib.Seq.{sets};
 ghost use Rattle.cases.specs.declared.record.Record.the-variants.{Take};
 ghost use Rattle.cases.specs.Record.{recordBytes};
+ghost use Rattle.cases.specs.Sizes.{stepSize};
 
 pub(crate) fn put_step(out: &mut [u8], at: usize, k: Step)
-    requires { ⌜ at + 8 ≤ length (now out) ⌝ }
+    requires { ⌜ at + stepSize ≤ length (now out) ⌝ }
     ensures { λ r. ⌜ now (out .exit) ≡ sets (now (out .entry)) at (recordBytes (Take k)) ⌝ }
 {
     out[at] = 4;

@@ -4,13 +4,14 @@ use crate::shown;
 use crate::wants;
 use cases::case::Ask;
 use cases::case::Program;
+use cases::sizes::STEP_SIZE;
 use machine::cells::State;
 use machine::next;
 use machine::steps;
 ghost use mathlib.Core.Path.{_≡_};
 ghost use Prim.Native.Nat.{_+_, _*_, _≤_};
 ghost use lib.ListN.{length};
-ghost use Rattle.cases.specs.Sizes.{mostSteps};
+ghost use Rattle.cases.specs.Sizes.{mostSteps, stepSize};
 ghost use Rattle.machine.specs.Fit.{Fits};
 ghost use Rattle.machine.specs.Work.{work};
 ghost use Rattle.search.specs.Walk.{walkOf};
@@ -33,7 +34,8 @@ pub(crate) fn walk(
     depth: usize,
     run: &mut [u8],
 ) -> Walked
-    requires { ⌜ Fits p s × (depth + work p s ≤ mostSteps) × (8 * (depth + work p s) ≤ length (now run)) ⌝ }
+    requires { ⌜ Fits p s × (depth + work p s ≤ mostSteps)
+        × (stepSize * (depth + work p s) ≤ length (now run)) ⌝ }
     ensures { λ r. ⌜ (r ≡ walkedOf depth (seek (reaches a) budget (walkOf p s)))
         × (now (run .exit) ≡ storedOf depth (seek (reaches a) budget (walkOf p s)) (now (run .entry))) ⌝ }
 {
@@ -54,7 +56,7 @@ pub(crate) fn walk(
         let below = walk(p, a, steps::take_step(p, u, k), left, depth + 1, run);
         match below {
             Walked::Found(n) => {
-                shown::put_step(run, 8 * depth, k);
+                shown::put_step(run, STEP_SIZE * depth, k);
                 return Walked::Found(n);
             }
             Walked::Finished(rest) => {

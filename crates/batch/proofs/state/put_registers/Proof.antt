@@ -1,16 +1,16 @@
 -- `put_registers` is safe and ends: the measure is how many registers are still to come. Assumes nothing.
 use Prim.Native.Nat.{_≤_, _-_}
 use borrow.Author.Needs.{needs}
-use Rattle.machine.specs.Sizes.{mostPlaces}
+use Rattle.machine.specs.Sizes.{allRegisters}
 use Rattle.batch.proofs.state.put_registers.Statement.{statement}
 use Rattle.batch.proofs.state.put_registers.Tie as tie
 
 -- the index is at most the number of registers
 abbrev Inv-loop : tie.InvT-loop
-Inv-loop raw₀ u i₀ raw i = i ≤ mostPlaces
+Inv-loop raw₀ u i₀ raw i = i ≤ allRegisters
 
 abbrev μ-loop : tie.MeasureT-loop
-μ-loop raw₀ u i₀ raw i = mostPlaces - i
+μ-loop raw₀ u i₀ raw i = allRegisters - i
 
 loop-holds : tie.Need-loop-holds Inv-loop μ-loop
 loop-holds c = search needs

@@ -1,6 +1,6 @@
--- `add` meets its contract: a faultless record of each kind finds its place. Assumes nothing.
-use Rattle.cases.proofs.DraftLaws.{first-placed, instruction-placed, want-placed, passed-placed}
-use Rattle.cases.proofs.DraftLaws.{step-placed}
+-- `add` meets its contract: a faultless record of each kind finds its seat. Assumes nothing.
+use Rattle.cases.proofs.DraftLaws.{first-seated, instruction-seated, want-seated, passed-seated}
+use Rattle.cases.proofs.DraftLaws.{step-seated}
 use borrow.Author.Needs.{needs}
 use Rattle.cases.proofs.draft.add.Statement.{statement}
 use Rattle.cases.proofs.draft.add.Tie as tie
@@ -17,7 +17,7 @@ enum-known-r-2 c = search needs
 add-first-requires : tie.Need-add-first-requires
 add-first-requires c κs =
     let a = c .before .before .before in
-    first-placed (a .args .d) (a .pre .0) (a .pre .1) _ (rw (c .before .r2 .given .1) at (a .pre .2))
+    first-seated (a .args .d) (a .pre .0) (a .pre .1) _ (rw (c .before .r2 .given .1) at (a .pre .2))
 
 enum-known-r-3 : tie.Need-enum-known-r-3
 enum-known-r-3 c = search needs
@@ -25,7 +25,7 @@ enum-known-r-3 c = search needs
 add-instruction-requires : tie.Need-add-instruction-requires
 add-instruction-requires c κs =
     let a = c .before .before .before in
-    instruction-placed (a .args .d) (a .pre .0) (a .pre .1) _ _ (rw (c .before .r3 .given .1) at (a .pre .2))
+    instruction-seated (a .args .d) (a .pre .0) (a .pre .1) _ _ (rw (c .before .r3 .given .1) at (a .pre .2))
 
 enum-known-r-4 : tie.Need-enum-known-r-4
 enum-known-r-4 c = search needs
@@ -33,7 +33,7 @@ enum-known-r-4 c = search needs
 add-want-requires : tie.Need-add-want-requires
 add-want-requires c κs =
     let a = c .before .before .before in
-    want-placed (a .args .d) (a .pre .0) (a .pre .1) _ (rw (c .before .r4 .given .1) at (a .pre .2))
+    want-seated (a .args .d) (a .pre .0) (a .pre .1) _ (rw (c .before .r4 .given .1) at (a .pre .2))
 
 enum-known-r-5 : tie.Need-enum-known-r-5
 enum-known-r-5 c = search needs
@@ -41,7 +41,7 @@ enum-known-r-5 c = search needs
 add-passed-requires : tie.Need-add-passed-requires
 add-passed-requires c κs =
     let a = c .before .before .before in
-    passed-placed (a .args .d) (a .pre .0) (a .pre .1) _ _ (rw (c .before .r5 .given .1) at (a .pre .2))
+    passed-seated (a .args .d) (a .pre .0) (a .pre .1) _ _ (rw (c .before .r5 .given .1) at (a .pre .2))
 
 enum-known-r-6 : tie.Need-enum-known-r-6
 enum-known-r-6 c = search needs
@@ -49,7 +49,7 @@ enum-known-r-6 c = search needs
 add-step-requires : tie.Need-add-step-requires
 add-step-requires c κs =
     let a = c .before .before .before in
-    step-placed (a .args .d) _ (rw (c .before .r6 .given .1) at (a .pre .2))
+    step-seated (a .args .d) _ (rw (c .before .r6 .given .1) at (a .pre .2))
 
 returns : tie.Need-returns
 returns c = rw (c .before .before .r .given .1) (c .add-header .ensures)

@@ -6,15 +6,15 @@ use Rattle.cases.specs.Record.{recordOf}
 use Rattle.cases.proofs.record.decode.Statement.{statement}
 use Rattle.cases.proofs.record.decode.Tie as tie
 
-header-in-requires : tie.Need-header-in-requires
-header-in-requires c κs = search needs
+as-header-requires : tie.Need-as-header-requires
+as-header-requires c κs = search needs
 
 returns : tie.Need-returns
 unfolding recordOf pick
 returns c = rw (c .before .if1 .taken) (cc)
 
-write-in-requires : tie.Need-write-in-requires
-write-in-requires c κs = search needs
+as-write-requires : tie.Need-as-write-requires
+as-write-requires c κs = search needs
 
 returns-2 : tie.Need-returns-2
 unfolding recordOf pick
@@ -23,15 +23,15 @@ returns-2 c = rw (c .before .if2 .taken) (cc)
 byte-at-requires : tie.Need-byte-at-requires
 byte-at-requires c κs = search needs
 
-instruction-in-requires : tie.Need-instruction-in-requires
-instruction-in-requires c κs = search needs
+as-instruction-requires : tie.Need-as-instruction-requires
+as-instruction-requires c κs = search needs
 
 returns-3 : tie.Need-returns-3
 unfolding recordOf pick
 returns-3 c = rw (c .before .before .if3 .taken) (cc)
 
-write-in-requires-2 : tie.Need-write-in-requires-2
-write-in-requires-2 c κs = search needs
+as-write-requires-2 : tie.Need-as-write-requires-2
+as-write-requires-2 c κs = search needs
 
 returns-4 : tie.Need-returns-4
 unfolding recordOf pick
@@ -47,8 +47,8 @@ returns-5 : tie.Need-returns-5
 unfolding recordOf pick
 returns-5 c = rw (c .before .before .if5 .taken) (cc)
 
-step-in-requires : tie.Need-step-in-requires
-step-in-requires c κs = search needs
+as-step-requires : tie.Need-as-step-requires
+as-step-requires c κs = search needs
 
 returns-6 : tie.Need-returns-6
 unfolding recordOf pick
@@ -65,17 +65,17 @@ pub decode-spec : {M : Type 1} → statement M
 decode-spec =
     tie.close
     (tie.spec
-    header-in-requires
+    as-header-requires
     returns
-    write-in-requires
+    as-write-requires
     returns-2
     byte-at-requires
-    instruction-in-requires
+    as-instruction-requires
     returns-3
-    write-in-requires-2
+    as-write-requires-2
     returns-4
     byte-at-requires-2
     byte-at-requires-3
     returns-5
-    step-in-requires
+    as-step-requires
     returns-6)

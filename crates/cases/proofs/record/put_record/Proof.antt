@@ -1,4 +1,4 @@
--- `put_record` meets its contract. The loop's invariant: the first `i` of the packed bytes are put, and the
+-- `put_record` meets its contract. The loop's invariant: the first `i` of the padded bytes are put, and the
 -- rest of the lent bytes is as it was. The measure is how many are left to put. Assumes nothing.
 use Prim.Native.Nat.{_≤_, _+_, _-_}
 use mathlib.Core.Path.{_≡_, refl, _∙_}
@@ -7,7 +7,7 @@ use lib.Seq.{paste, paste-zero}
 use borrow.Author.Needs.{needs}
 use native.Mathlib.Omega.{arith}
 use Rattle.cases.specs.Sizes.{longestRecord}
-use Rattle.cases.proofs.PutLaws.{put-next, packed-length, packed-fits, packed-put}
+use Rattle.cases.proofs.PutLaws.{put-next, padded-length, padded-fits, padded-put}
 use Rattle.cases.proofs.record.put_record.Statement.{statement}
 use Rattle.cases.proofs.record.put_record.Tie as tie
 
@@ -19,22 +19,22 @@ Inv-loop out₀ at n bytes i₀ out i =
 abbrev μ-loop : tie.MeasureT-loop
 μ-loop out₀ at n bytes i₀ out i = n - i
 
-packed-record-requires : tie.Need-packed-record-requires Inv-loop μ-loop
-packed-record-requires c κs = search needs
+padded-record-requires : tie.Need-padded-record-requires Inv-loop μ-loop
+padded-record-requires c κs = search needs
 
 loop-holds : tie.Need-loop-holds Inv-loop μ-loop
 loop-holds c =
-    let e = c .before .packed-record .ensures in (
+    let e = c .before .padded-record .ensures in (
       omega arith,
-      packed-fits _ _ e,
-      omega (arith, packed-length _ _ e),
+      padded-fits _ _ e,
+      omega (arith, padded-length _ _ e),
       refl,
-      paste-zero _ (c .before .before .before .args .at) (c .before .packed-record .result .bytes),
+      paste-zero _ (c .before .before .before .args .at) (c .before .padded-record .result .bytes),
     )
 
 array-read-out : tie.Need-array-read-out Inv-loop μ-loop
 array-read-out c =
-    let k : length (c .before .before .before .packed-record .result .bytes) ≡ longestRecord = search needs in
+    let k : length (c .before .before .before .padded-record .result .bytes) ≡ longestRecord = search needs in
     omega arith
 
 add-out : tie.Need-add-out Inv-loop μ-loop
@@ -62,10 +62,10 @@ same-length c = c .before .loop .inv .3
 
 returns : tie.Need-returns Inv-loop μ-loop
 returns c =
-    let e = c .before .before .before .packed-record .ensures in
-    let n : c .before .loop .i ≡ c .before .before .before .packed-record .result .length = omega arith in (
-      omega (arith, packed-length _ _ e),
-      rw n at (c .before .loop .inv .4) ∙ packed-put _ _ e _ _ (c .before .before .before .before .before .pre),
+    let e = c .before .before .before .padded-record .ensures in
+    let n : c .before .loop .i ≡ c .before .before .before .padded-record .result .length = omega arith in (
+      omega (arith, padded-length _ _ e),
+      rw n at (c .before .loop .inv .4) ∙ padded-put _ _ e _ _ (c .before .before .before .before .before .pre),
     )
 
 pub put-record-spec : {M : Type 1} → statement M
@@ -74,7 +74,7 @@ put-record-spec =
     (tie.spec
     Inv-loop
     μ-loop
-    packed-record-requires
+    padded-record-requires
     loop-holds
     array-read-out
     add-out

@@ -9,7 +9,7 @@ use borrow.Author.Needs.{needs}
 use Rattle.machine.proofs.change.close_entries.Statement.{statement}
 use Rattle.machine.proofs.change.close_entries.Tie as tie
 
--- the entries are those before the loop, and those behind the gap are one place down up to i
+-- the entries are those before the loop, and those behind the gap are one down up to i
 abbrev Inv-loop : tie.InvT-loop
 Inv-loop from end b₀ i₀ b i = Closing from end mostCode b₀ b i
 

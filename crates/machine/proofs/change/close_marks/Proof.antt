@@ -7,7 +7,7 @@ use borrow.Author.Needs.{needs}
 use Rattle.machine.proofs.change.close_marks.Statement.{statement}
 use Rattle.machine.proofs.change.close_marks.Tie as tie
 
--- the marks are those before the loop, and those behind the gap are one place down up to i
+-- the marks are those before the loop, and those behind the gap are one down up to i
 abbrev Inv-loop : tie.InvT-loop
 Inv-loop marks₀ from end i₀ marks i = Closing from end mostSlots marks₀ marks i
 

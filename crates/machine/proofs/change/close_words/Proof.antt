@@ -7,7 +7,7 @@ use borrow.Author.Needs.{needs}
 use Rattle.machine.proofs.change.close_words.Statement.{statement}
 use Rattle.machine.proofs.change.close_words.Tie as tie
 
--- the words are those before the loop, and those behind the gap are one place down up to i
+-- the words are those before the loop, and those behind the gap are one down up to i
 abbrev Inv-loop : tie.InvT-loop
 Inv-loop held₀ from end i₀ held i = Closing from end mostSlots held₀ held i
 

@@ -4,7 +4,7 @@ use native.Mathlib.Omega.{arith}
 use mir.Syntax.{w8}
 use mir.Val.{Fits}
 use Rattle.cases.specs.Sizes.{mostThreads}
-use Rattle.machine.specs.Rules.{countAt}
+use Rattle.cases.specs.Checks.{countAt}
 use Rattle.machine.specs.Fit.{unissued}
 use Rattle.machine.proofs.CheckLaws.{SummedSoFar, sum-start, sum-next, sum-end, unissued-most}
 use borrow.Author.Needs.{needs}

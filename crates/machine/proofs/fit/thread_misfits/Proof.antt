@@ -2,8 +2,8 @@
 use native.Mathlib.Omega.{arith}
 use mir.Syntax.{w8}
 use mir.Val.{Fits}
+use Rattle.cases.specs.Checks.{countAt}
 use Rattle.machine.specs.View.{bufferLen}
-use Rattle.machine.specs.Rules.{countAt}
 use Rattle.machine.proofs.CheckLaws.{unissued-most}
 use Rattle.machine.proofs.CheckLaws.{thread-over, thread-lacked, thread-full, thread-rest}
 use borrow.Author.Needs.{needs}

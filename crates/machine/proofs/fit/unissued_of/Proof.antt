@@ -2,7 +2,7 @@
 use native.Mathlib.Omega.{arith}
 use mir.Syntax.{w8}
 use mir.Val.{Fits}
-use Rattle.machine.specs.Rules.{countAt}
+use Rattle.cases.specs.Checks.{countAt}
 use Rattle.machine.specs.Fit.{unissued}
 use borrow.Author.Needs.{needs}
 use Rattle.machine.proofs.fit.unissued_of.Statement.{statement}

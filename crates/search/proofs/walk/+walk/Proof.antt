@@ -3,7 +3,7 @@ use Prim.Native.Nat.{ℕ, _+_, _*_, _-_, _<_, _≤_}
 use mathlib.Core.Path.{sym, ap, _∙_}
 use native.Mathlib.Omega.{arith}
 use lib.ListN.{length}
-use Rattle.cases.specs.Sizes.{mostSteps}
+use Rattle.cases.specs.Sizes.{mostSteps, stepSize}
 use Rattle.machine.specs.Work.{work}
 use Rattle.machine.proofs.Promises.{next-asks}
 use Rattle.search.proofs.LoopLaws.{left-spent, left-here, Walking, walking-start, walking-few}
@@ -33,10 +33,10 @@ walk-at t = and 1 walk-kinds.ps (is 1 walk-kinds.ps μ-walk t) walk.Pre
 abbrev walk-below : ℕ → In 1 walk-kinds.ps
 walk-below t = and 1 walk-kinds.ps (falls 1 walk-kinds.ps _<_ μ-walk t) walk.Pre
 
--- the run fits the lent bytes; the next steps from place i on are still to be walked
+-- the run fits the lent bytes; the next steps from position i on are still to be walked
 abbrev walk-Inv-loop : walk-lts.InvT-loop
 walk-Inv-loop p a budget depth run₀ u next left₀ i₀ run left i =
-    (depth + work p u ≤ mostSteps) × (8 * (depth + work p u) ≤ length run)
+    (depth + work p u ≤ mostSteps) × (stepSize * (depth + work p u) ≤ length run)
     × Walking p a u budget next run₀ run left i
 
 abbrev walk-μ-loop : walk-lts.MeasureT-loop

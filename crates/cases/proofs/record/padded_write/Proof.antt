@@ -1,0 +1,36 @@
+-- `padded_write` meets its contract: the bytes compute. Assumes nothing.
+use borrow.Author.Needs.{needs}
+use Rattle.cases.specs.Bytes.{wordBytes}
+use Rattle.cases.specs.Record.{paddedOf}
+use Rattle.cases.proofs.record.padded_write.Statement.{statement}
+use Rattle.cases.proofs.record.padded_write.Tie as tie
+
+word-bytes-requires : tie.Need-word-bytes-requires
+word-bytes-requires c κs = search needs
+
+array-read-t7 : tie.Need-array-read-t7
+array-read-t7 c = search needs
+
+array-read-t10 : tie.Need-array-read-t10
+array-read-t10 c = search needs
+
+array-read-t13 : tie.Need-array-read-t13
+array-read-t13 c = search needs
+
+array-read-t16 : tie.Need-array-read-t16
+array-read-t16 c = search needs
+
+returns : tie.Need-returns
+unfolding paddedOf wordBytes
+returns c = rw (c .word-bytes .ensures)
+
+pub padded-write-spec : {M : Type 1} → statement M
+padded-write-spec =
+    tie.close
+    (tie.spec
+    word-bytes-requires
+    array-read-t7
+    array-read-t10
+    array-read-t13
+    array-read-t16
+    returns)
