@@ -38,6 +38,9 @@ mod ProgressLaws
 mod AddLaws
 mod EffectLaws
 mod PersistLaws
+-- what stands behind the entries
+mod BehindLaws
+mod BlankStepLaws
 -- next steps
 mod OfferedLaws
 mod NextLaws

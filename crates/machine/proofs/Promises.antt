@@ -23,6 +23,7 @@ use Rattle.machine.specs.declared.cells.State.{State}
 use Rattle.machine.specs.declared.steps.Stepped.{Stepped}
 use Rattle.machine.specs.declared.runs.Verdict.the-variants.{Legal, Illegal}
 use Rattle.machine.specs.View.{queue, buffer, issuedOf}
+use Rattle.machine.specs.Behind.{BlankBehind}
 use Rattle.machine.specs.Rules.{countAt, ruleOf, nextOf, startOf}
 use Rattle.machine.specs.Fit.{sumTo, misfits, Sized, ProgramFits, Fits, Shallow}
 use Rattle.machine.specs.Work.{work, Unfinished, fullLength, programWeight, cost}
@@ -45,6 +46,7 @@ use Rattle.machine.proofs.RuleLaws as RuleLaws
 use Rattle.machine.proofs.FitLaws as FitLaws
 use Rattle.machine.proofs.CandidateLaws as CandidateLaws
 use Rattle.machine.proofs.PlaceLaws as PlaceLaws
+use Rattle.machine.proofs.BlankStepLaws as BlankStepLaws
 use Rattle.machine.proofs.JudgeLaws.{leads-or-stops, says-legal, says-illegal, legal-says}
 use Rattle.machine.proofs.JudgeLaws.{illegal-says, says-leads, says-stops, state-is}
 
@@ -61,6 +63,14 @@ module _ (p : Program) (fits : ProgramFits p) where
   -- "The sum at the start is the program's full length, at most 96."
   pub full-length-low : fullLength p ≤ mostSteps
   full-length-low = StartLaws.full-most p fits
+
+  -- every state that a legal run from its start reaches is blank behind its entries
+  pub run-blank : (ks : List Step) (u : State) → Faultless p ks → Leads p (startOf p) ks u → BlankBehind u
+  run-blank ks u = BlankStepLaws.run-blank p ks u fits
+
+-- the start is, of any program
+pub start-blank : (p : Program) → BlankBehind (startOf p)
+start-blank = BlankStepLaws.start-blank
 
 -- "known from the program alone": it is what the threads' instructions weigh
 pub full-length-weighs : (p : Program) → fullLength p ≡ sumTo mostThreads (programWeight p)
@@ -186,13 +196,21 @@ module _ (p : Program) (s : State) (fit : Fits p s) where
     pub step-work : work p (nextOf p s k) + cost p s k ≡ work p s
     step-work = StepLaws.step-work p s fit k (fault-none p k faultless) legal
 
-  -- so does a run of them: the fit stays, and its length is used up
+    -- from a state that is blank behind its entries it leads to one that is
+    pub step-blank : BlankBehind s → BlankBehind (nextOf p s k)
+    step-blank blank = BlankStepLaws.step-blank p s fit blank k (fault-none p k faultless) legal
+
+  -- so does a run of them: the fit stays, its length is used up, and what is blank stays blank
   pub leads-fits : (ks : List Step) (u : State) → Faultless p ks → Leads p s ks u → Fits p u
   leads-fits ks u = RunLaws.leads-fits p s ks u fit
 
   pub leads-work : (ks : List Step) (u : State) → Faultless p ks → Leads p s ks u
       → work p u + length ks ≡ work p s
   leads-work ks u = RunLaws.leads-work p s ks u fit
+
+  pub leads-blank : (ks : List Step) (u : State) → BlankBehind s → Faultless p ks → Leads p s ks u
+      → BlankBehind u
+  leads-blank ks u = BlankStepLaws.leads-blank p s ks u fit
 
   -- a queue that holds something: its oldest may persist
   pub persist-legal : (l : ℕ) → l < p .locations → queue s l ≢ []

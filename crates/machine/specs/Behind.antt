@@ -1,0 +1,24 @@
+-- What stands behind a state's entries. The rules don't look there (View).
+--   BlankFrom blank base n m xs   of the m places of xs from base on, all but the first n are blank
+--   BlankBehind s                 the state s is blank behind its entries
+-- Assumes nothing.
+use Prim.Native.Nat.{ℕ, _+_, _*_, _<_, _≤_}
+use mathlib.Core.Path.{_≡_}
+use mathlib.Core.List.{List}
+use lib.ListN.{getD}
+use Rattle.cases.specs.Sizes.{mostThreads, mostInstructions, mostLocations}
+use Rattle.machine.specs.declared.cells.State.{State}
+use Rattle.machine.specs.Sizes.{room}
+use Rattle.machine.specs.View.{queueLen, bufferLen, blankWaiting}
+
+abbrev pub BlankFrom : {A : Type 0} → A → ℕ → ℕ → ℕ → List A → Type 0
+BlankFrom blank base n m xs = (i : ℕ) → n ≤ i → i < m → getD xs (base + i) blank ≡ blank
+
+-- Every slot from a queue's length on up to its room holds word 0 and mark 0; every entry from a buffer's
+-- length on up to a thread's instructions is the blank one. Of every queue and every buffer that there is room
+-- for, the program's or not.
+pub record BlankBehind (s : State) : Type 0 where
+  pub words-blank : (l : ℕ) → l < mostLocations → BlankFrom 0 (l * room) (queueLen s l) room (s .held)
+  pub marks-blank : (l : ℕ) → l < mostLocations → BlankFrom 0 (l * room) (queueLen s l) room (s .marks)
+  pub entries-blank : (t : ℕ) → t < mostThreads
+      → BlankFrom blankWaiting (t * mostInstructions) (bufferLen s t) mostInstructions (s .buffers)
