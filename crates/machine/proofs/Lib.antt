@@ -41,6 +41,7 @@ mod PersistLaws
 -- what stands behind the entries
 mod BehindLaws
 mod BlankStepLaws
+mod SameLaws
 -- next steps
 mod OfferedLaws
 mod NextLaws

@@ -23,7 +23,7 @@ use Rattle.machine.specs.declared.cells.State.{State}
 use Rattle.machine.specs.declared.steps.Stepped.{Stepped}
 use Rattle.machine.specs.declared.runs.Verdict.the-variants.{Legal, Illegal}
 use Rattle.machine.specs.View.{queue, buffer, issuedOf}
-use Rattle.machine.specs.Behind.{BlankBehind}
+use Rattle.machine.specs.Behind.{BlankBehind, SameEntries}
 use Rattle.machine.specs.Rules.{countAt, ruleOf, nextOf, startOf}
 use Rattle.machine.specs.Fit.{sumTo, misfits, Sized, ProgramFits, Fits, Shallow}
 use Rattle.machine.specs.Work.{work, Unfinished, fullLength, programWeight, cost}
@@ -47,6 +47,7 @@ use Rattle.machine.proofs.FitLaws as FitLaws
 use Rattle.machine.proofs.CandidateLaws as CandidateLaws
 use Rattle.machine.proofs.PlaceLaws as PlaceLaws
 use Rattle.machine.proofs.BlankStepLaws as BlankStepLaws
+use Rattle.machine.proofs.SameLaws as SameLaws
 use Rattle.machine.proofs.JudgeLaws.{leads-or-stops, says-legal, says-illegal, legal-says}
 use Rattle.machine.proofs.JudgeLaws.{illegal-says, says-leads, says-stops, state-is}
 
@@ -68,9 +69,25 @@ module _ (p : Program) (fits : ProgramFits p) where
   pub run-blank : (ks : List Step) (u : State) → Faultless p ks → Leads p (startOf p) ks u → BlankBehind u
   run-blank ks u = BlankStepLaws.run-blank p ks u fits
 
+  -- and of two of them that have the same entries there is one: the same state
+  pub run-same : (ks js : List Step) (s u : State)
+      → Faultless p ks → Leads p (startOf p) ks s
+      → Faultless p js → Leads p (startOf p) js u
+      → SameEntries s u
+      → s ≡ u
+  run-same ks js s u faultless leads other goes =
+      SameLaws.blank-same s u
+      (RunLaws.leads-fits p _ ks s begin-fits faultless leads .sized)
+      (RunLaws.leads-fits p _ js u begin-fits other goes .sized)
+      (run-blank ks s faultless leads) (run-blank js u other goes)
+
 -- the start is, of any program
 pub start-blank : (p : Program) → BlankBehind (startOf p)
 start-blank = BlankStepLaws.start-blank
+
+-- two states that are, and have the same entries, are the same state, array for array
+pub blank-same : (s u : State) → Sized s → Sized u → BlankBehind s → BlankBehind u → SameEntries s u → s ≡ u
+blank-same = SameLaws.blank-same
 
 -- "known from the program alone": it is what the threads' instructions weigh
 pub full-length-weighs : (p : Program) → fullLength p ≡ sumTo mostThreads (programWeight p)
