@@ -17,6 +17,7 @@ mod SumLaws
 -- looks, changes, rules, each as the code meets them
 mod LookLaws
 mod MarkerLaws
+mod FoundLaws
 mod ChangeLaws
 mod MoveLaws
 mod CheckLaws

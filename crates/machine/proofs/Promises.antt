@@ -11,7 +11,7 @@ use Rattle.cases.specs.declared.case.Step.{Step}
 use Rattle.cases.specs.declared.case.Program.{Program}
 use Rattle.cases.specs.declared.case.Ask.{Ask}
 use Rattle.cases.specs.declared.case.Case.{Case}
-use Rattle.cases.specs.Sizes.{mostThreads, mostSteps, longest}
+use Rattle.cases.specs.Sizes.{mostThreads, mostLocations, mostSteps, longest}
 use Rattle.cases.specs.Bytes.{IsBytes}
 use Rattle.cases.specs.Checks.{stepFault}
 use Rattle.cases.specs.Draft.{noStep, runWith, withAsk, withRun}
@@ -22,8 +22,9 @@ use Rattle.cases.proofs.ChoiceLaws.{pick-true, pick-false, pick-cases, true-not
 use Rattle.machine.specs.declared.cells.State.{State}
 use Rattle.machine.specs.declared.steps.Stepped.{Stepped}
 use Rattle.machine.specs.declared.runs.Verdict.the-variants.{Legal, Illegal}
-use Rattle.machine.specs.View.{queue, buffer, issuedOf}
+use Rattle.machine.specs.View.{marksIn, queue, buffer, issuedOf}
 use Rattle.machine.specs.Behind.{BlankBehind, SameEntries}
+use Rattle.machine.specs.Look.{markerOf, isAt, foundQueue, foundPosition}
 use Rattle.machine.specs.Rules.{countAt, ruleOf, nextOf, startOf}
 use Rattle.machine.specs.Fit.{sumTo, misfits, Sized, ProgramFits, Fits, Shallow}
 use Rattle.machine.specs.Work.{work, Unfinished, fullLength, programWeight, cost}
@@ -44,6 +45,7 @@ use Rattle.machine.proofs.RankLaws as RankLaws
 use Rattle.machine.proofs.ReadyLaws as ReadyLaws
 use Rattle.machine.proofs.RuleLaws as RuleLaws
 use Rattle.machine.proofs.FitLaws as FitLaws
+use Rattle.machine.proofs.FoundLaws as FoundLaws
 use Rattle.machine.proofs.CandidateLaws as CandidateLaws
 use Rattle.machine.proofs.PlaceLaws as PlaceLaws
 use Rattle.machine.proofs.BlankStepLaws as BlankStepLaws
@@ -287,6 +289,29 @@ module _ (p : Program) (s : State) (fit : Fits p s) where
 -- the test for 33 and the facts that proofs use are one: of a state whose arrays are as long as their types say
 pub fits-exactly : (p : Program) (s : State) → ProgramFits p → Sized s → (misfits p s ≡ false) ↔ Fits p s
 fits-exactly p s g z = (FitLaws.fits-is p s g z, FitLaws.is-fits p s)
+
+-- "Looking for a thread's marker goes through every queue and stops at the first one found."
+module _ (marks lengths : List ℕ) (t : ℕ) where
+  -- one that is found stands in a queue that there is, at a position of it, and bears the thread
+  pub marker-stands : isAt (markerOf marks lengths t) ≡ true
+      → (foundQueue (markerOf marks lengths t) < mostLocations)
+      × (foundPosition (markerOf marks lengths t)
+      < length (marksIn marks lengths (foundQueue (markerOf marks lengths t))))
+      × (getD (marksIn marks lengths (foundQueue (markerOf marks lengths t)))
+      (foundPosition (markerOf marks lengths t)) 0 ≡ t + 1)
+  marker-stands = FoundLaws.marker-stands marks lengths t
+
+  -- it is the first: no earlier queue holds one of that thread, and no earlier position of its own queue does
+  pub marker-first : isAt (markerOf marks lengths t) ≡ true
+      → ((l i : ℕ) → l < foundQueue (markerOf marks lengths t) → getD (marksIn marks lengths l) i 0 ≢ t + 1)
+      × ((i : ℕ) → i < foundPosition (markerOf marks lengths t)
+      → getD (marksIn marks lengths (foundQueue (markerOf marks lengths t))) i 0 ≢ t + 1)
+  marker-first = FoundLaws.marker-first marks lengths t
+
+  -- where none is found no queue holds one
+  pub marker-none : isAt (markerOf marks lengths t) ≡ false
+      → (l i : ℕ) → l < mostLocations → getD (marksIn marks lengths l) i 0 ≢ t + 1
+  marker-none = FoundLaws.marker-none marks lengths t
 
 -- a step breaks no rule, or one of 21 to 29
 pub rule-in-table : (p : Program) (s : State) (k : Step)

@@ -4,6 +4,7 @@
 --   newestStore l b w        the newest store to location l in the buffer b, else w
 --   loadOf s t l             what a load takes
 --   markerOf marks lengths t the first marker of thread t, by queue and then by place
+--   isAt, foundQueue, foundPosition   of what it answers: whether there is one, and where; 0 and 0 where not
 --   bars l e                 the entry e keeps a flush-opt of location l behind it
 --   firstBar l b             the place of the first entry of b that does; the number of entries where none does
 -- Assumes nothing.
@@ -66,6 +67,15 @@ markerOf marks lengths t = markerFrom marks lengths t mostLocations 0
 abbrev pub isAt : Found → Bool
 isAt (At l i) = true
 isAt Nothing = false
+
+-- its queue, by location, and its position there
+abbrev pub foundQueue : Found → ℕ
+foundQueue (At l i) = l .0
+foundQueue Nothing = 0
+
+abbrev pub foundPosition : Found → ℕ
+foundPosition (At l i) = i
+foundPosition Nothing = 0
 
 -- some queue holds a marker of thread t
 unfoldable pub marked : List ℕ → List ℕ → ℕ → Bool
