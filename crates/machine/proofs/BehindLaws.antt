@@ -71,31 +71,31 @@ module _ {A : Type 0} (blank : A) where
 
 -- A queue put, a buffer put
 module _ (s : State) (z : Sized s) (o : BlankBehind s) where
-  module _ (l : ℕ) (low : l < mostLocations) (n : queueLen s l ≤ room) (q : List Slot) (m : length q ≤ room)
-    where
-      -- a row of one of the two arrays: that queue's, another's
-      row-blank : (xs vs : List ℕ) → length xs ≡ mostSlots → length vs ≡ length q
-          → ((k : ℕ) → k < mostLocations → BlankFrom 0 (k * room) (queueLen s k) room xs)
-          → (k : ℕ) → k < mostLocations → Dec (k ≡ l)
-          → BlankFrom 0 (k * room) (queueLen (withQueue s l q) k) room (put 0 (l * room) (queueLen s l) vs xs)
-      row-blank xs vs long e old k h (yes d) =
-          rw (d, queueLen-same s z l low n q m, sym e)
-          (put-blank 0 (l * room) (queueLen s l) vs xs room n (omega arith) (omega arith) (old l low))
-      row-blank xs vs long e old k h (no d) =
-          rw (queueLen-other s z l low n q m k d)
-          (put-blank-other 0 (l * room) (queueLen s l) vs xs (k * room) (queueLen s k) room n (omega arith)
-          (apart room k l room d (omega arith)) (old k h))
+  module _ (l : ℕ) (low : l < mostLocations) (n : queueLen s l ≤ room) (q : List Slot)
+      (m : length q ≤ room) where
+    -- a row of one of the two arrays: that queue's, another's
+    row-blank : (xs vs : List ℕ) → length xs ≡ mostSlots → length vs ≡ length q
+        → ((k : ℕ) → k < mostLocations → BlankFrom 0 (k * room) (queueLen s k) room xs)
+        → (k : ℕ) → k < mostLocations → Dec (k ≡ l)
+        → BlankFrom 0 (k * room) (queueLen (withQueue s l q) k) room (put 0 (l * room) (queueLen s l) vs xs)
+    row-blank xs vs long e old k h (yes d) =
+        rw (d, queueLen-same s z l low n q m, sym e)
+        (put-blank 0 (l * room) (queueLen s l) vs xs room n (omega arith) (omega arith) (old l low))
+    row-blank xs vs long e old k h (no d) =
+        rw (queueLen-other s z l low n q m k d)
+        (put-blank-other 0 (l * room) (queueLen s l) vs xs (k * room) (queueLen s k) room n (omega arith)
+        (apart room k l room d (omega arith)) (old k h))
 
-      pub blank-queue : BlankBehind (withQueue s l q)
-      unfolding withQueue
-      blank-queue =
-          record {
-            words-blank = λ k h. row-blank (s .held) (wordsOf q) (z .held-long) (length-words q) (o .words-blank)
-                k h (ℕ-discrete k l);
-            marks-blank = λ k h. row-blank (s .marks) (marksOf q) (z .marks-long) (length-marks q)
-                (o .marks-blank) k h (ℕ-discrete k l);
-            entries-blank = o .entries-blank;
-          }
+    pub blank-queue : BlankBehind (withQueue s l q)
+    unfolding withQueue
+    blank-queue =
+        record {
+          words-blank = λ k h. row-blank (s .held) (wordsOf q) (z .held-long) (length-words q) (o .words-blank)
+              k h (ℕ-discrete k l);
+          marks-blank = λ k h. row-blank (s .marks) (marksOf q) (z .marks-long) (length-marks q)
+              (o .marks-blank) k h (ℕ-discrete k l);
+          entries-blank = o .entries-blank;
+        }
 
   module _ (t : ℕ) (low : t < mostThreads) (n : bufferLen s t ≤ mostInstructions) (b : List Waiting)
       (m : length b ≤ mostInstructions) where

@@ -1,4 +1,5 @@
--- The start of a run is blank behind its entries, a legal step leaves it so, and so does a run. Assumes nothing.
+-- The start of a run is blank behind its entries, a legal step leaves it so, and so does a run. Assumes
+-- nothing.
 use Prim.Native.Nat.{ℕ, suc, _+_, _*_, _≤_, _<_}
 use mathlib.Core.Path.{_≡_, refl, sym, ap}
 use mathlib.Core.List.{List, [], _∷_, _++_}
@@ -10,18 +11,18 @@ use Rattle.cases.specs.declared.case.Instruction.{Instruction}
 use Rattle.cases.specs.declared.case.Step.{Step}
 use Rattle.cases.specs.declared.case.Program.{Program}
 use Rattle.cases.specs.Choice.{pick}
-use Rattle.cases.specs.Sizes.{mostThreads, mostInstructions, mostLocations, mostCode}
+use Rattle.cases.specs.Sizes.{mostInstructions, mostCode}
 use Rattle.cases.proofs.ArrayLaws.{getD-blank}
 use Rattle.machine.specs.declared.cells.State.{State}
 use Rattle.machine.specs.declared.cells.Entry.{Entry}
 use Rattle.machine.specs.declared.cells.Entry.the-variants.{Store, Flush, FlushOpt, Sfence}
 use Rattle.machine.specs.Sizes.{room, mostSlots}
 use Rattle.machine.specs.View.{Slot, writeSlot, markerSlot, without, queue, queueLen, withWord}
-use Rattle.machine.specs.View.{blankWaiting, buffer, bufferLen, wordOf, issuedOf, withIssued}
+use Rattle.machine.specs.View.{blankWaiting, buffer, wordOf, issuedOf}
 use Rattle.machine.specs.Behind.{BlankBehind}
 use Rattle.machine.specs.Look.{wordOr}
 use Rattle.machine.specs.Rules.{enqueue, await, instructionAt, issueRule, entryOf, loaded, exchanged}
-use Rattle.machine.specs.Rules.{performed, issueOf, effectOf, entryAt, moveRule, moveOf, persistFirst}
+use Rattle.machine.specs.Rules.{performed, issueOf, effectOf, moveRule, moveOf, persistFirst}
 use Rattle.machine.specs.Rules.{persistOf, ruleOf, nextOf, startOf}
 use Rattle.machine.specs.Fit.{ProgramFits, Fits, Named}
 use Rattle.machine.specs.Judge.{Leads, Faultless}
@@ -71,29 +72,29 @@ module _ (p : Program) (s : State) (t : ℕ) (o : Spare p s t) (blank : BlankBeh
       (buffer s t ++ (record { entry = e } ∷ [])) k
 
 -- an instruction that is counted already; an entry that is out of its buffer
-module _ (p : Program) (s : State) (t : ℕ) (o : Spare p s t) (blank : BlankBehind s) (low : t < p .threads)
-  where
-    performed-blank : (l : Location) (r : Register) (w : ℕ) → l .0 < p .locations
-        → (op : ℕ) → 1 ≤ op → op ≤ 8 → BlankBehind (performed s t (of op l r w))
-    unfolding performed pick entryOf loaded exchanged
-    performed-blank l r w there =
-        each-operation (λ op. BlankBehind (performed s t (of op l r w)))
-        (await-blank p s t o blank low _)
-        (await-blank p s t o blank low _)
-        (blank-register s blank t _ _)
-        (enqueue-blank p _ t (register-spare p s t o _ _) (blank-register s blank t _ _) (l .0) there
-        (writeSlot w))
-        (await-blank p s t o blank low _)
-        (await-blank p s t o blank low _)
-        (await-blank p s t o blank low _)
-        blank
+module _ (p : Program) (s : State) (t : ℕ) (o : Spare p s t) (blank : BlankBehind s)
+    (low : t < p .threads) where
+  performed-blank : (l : Location) (r : Register) (w : ℕ) → l .0 < p .locations
+      → (op : ℕ) → 1 ≤ op → op ≤ 8 → BlankBehind (performed s t (of op l r w))
+  unfolding performed pick entryOf loaded exchanged
+  performed-blank l r w there =
+      each-operation (λ op. BlankBehind (performed s t (of op l r w)))
+      (await-blank p s t o blank low _)
+      (await-blank p s t o blank low _)
+      (blank-register s blank t _ _)
+      (enqueue-blank p _ t (register-spare p s t o _ _) (blank-register s blank t _ _) (l .0) there
+      (writeSlot w))
+      (await-blank p s t o blank low _)
+      (await-blank p s t o blank low _)
+      (await-blank p s t o blank low _)
+      blank
 
-    effect-blank : (e : Entry) → Named (p .locations) e → BlankBehind (effectOf s t e)
-    unfolding effectOf Named
-    effect-blank (Store w) h = enqueue-blank p s t o blank (w .location .0) h (writeSlot (w .word))
-    effect-blank (Flush l) h = blank
-    effect-blank (FlushOpt l) h = enqueue-blank p s t o blank (l .0) h (markerSlot t)
-    effect-blank Sfence h = blank
+  effect-blank : (e : Entry) → Named (p .locations) e → BlankBehind (effectOf s t e)
+  unfolding effectOf Named
+  effect-blank (Store w) h = enqueue-blank p s t o blank (w .location .0) h (writeSlot (w .word))
+  effect-blank (Flush l) h = blank
+  effect-blank (FlushOpt l) h = enqueue-blank p s t o blank (l .0) h (markerSlot t)
+  effect-blank Sfence h = blank
 
 -- Issue, move, persist
 module _ (p : Program) (s : State) (f : Fits p s) (blank : BlankBehind s) where

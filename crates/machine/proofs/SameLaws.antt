@@ -1,7 +1,7 @@
 -- Two states that are blank behind their entries, and have the same entries, are the same state: place by place
 -- of each array, a row at a time. Assumes nothing.
 use Prim.Native.Nat.{ℕ, zero, suc, _+_, _*_, _-_, _≤_, _<_}
-use mathlib.Core.Path.{_≡_, refl, sym, ap, _∙_}
+use mathlib.Core.Path.{_≡_, sym, ap, _∙_}
 use mathlib.Core.Logic.{_⊎_, inl, inr}
 use mathlib.Core.List.{List}
 use native.Mathlib.Omega.{arith}
@@ -75,7 +75,8 @@ module _ (s : State) (z : Sized s) (l : ℕ) where
   marks-are = marks-slots _ _ alike
 
 -- a state is its arrays
-abbrev stateOf : (words held marks lengths : List ℕ) (buffers : List Waiting) (waiting registers issued : List ℕ)
+abbrev stateOf : (words held marks lengths : List ℕ) (buffers : List Waiting)
+    (waiting registers issued : List ℕ)
     → State
 stateOf words held marks lengths buffers waiting registers issued =
     record {
