@@ -17,6 +17,7 @@ mod SumLaws
 -- looks, changes, rules, each as the code meets them
 mod LookLaws
 mod MarkerLaws
+mod FoundLaws
 mod ChangeLaws
 mod MoveLaws
 mod CheckLaws
@@ -38,6 +39,10 @@ mod ProgressLaws
 mod AddLaws
 mod EffectLaws
 mod PersistLaws
+-- what stands behind the entries
+mod BehindLaws
+mod BlankStepLaws
+mod SameEntryLaws
 -- next steps
 mod OfferedLaws
 mod NextLaws

@@ -11,7 +11,7 @@ use Rattle.cases.specs.declared.case.Step.{Step}
 use Rattle.cases.specs.declared.case.Program.{Program}
 use Rattle.cases.specs.declared.case.Ask.{Ask}
 use Rattle.cases.specs.declared.case.Case.{Case}
-use Rattle.cases.specs.Sizes.{mostThreads, mostSteps, longest}
+use Rattle.cases.specs.Sizes.{mostThreads, mostLocations, mostSteps, longest}
 use Rattle.cases.specs.Bytes.{IsBytes}
 use Rattle.cases.specs.Checks.{stepFault, countAt}
 use Rattle.cases.specs.Draft.{noStep, runWith, withAsk, withRun}
@@ -22,7 +22,9 @@ use Rattle.cases.proofs.ChoiceLaws.{pick-true, pick-false, pick-cases, true-not
 use Rattle.machine.specs.declared.cells.State.{State}
 use Rattle.machine.specs.declared.steps.Stepped.{Stepped}
 use Rattle.machine.specs.declared.runs.Verdict.the-variants.{Legal, Illegal}
-use Rattle.machine.specs.View.{queue, buffer, issuedOf}
+use Rattle.machine.specs.View.{marksIn, queue, buffer, issuedOf}
+use Rattle.machine.specs.Behind.{BlankBehind, SameEntries}
+use Rattle.machine.specs.Look.{markerOf, isAt, foundQueue, foundPosition}
 use Rattle.machine.specs.Rules.{ruleOf, nextOf, startOf}
 use Rattle.machine.specs.Fit.{sumTo, misfits, Sized, ProgramFits, Fits, Shallow}
 use Rattle.machine.specs.Work.{work, Unfinished, fullLength, programWeight, cost}
@@ -43,8 +45,11 @@ use Rattle.machine.proofs.RankLaws as RankLaws
 use Rattle.machine.proofs.ReadyLaws as ReadyLaws
 use Rattle.machine.proofs.RuleLaws as RuleLaws
 use Rattle.machine.proofs.FitLaws as FitLaws
+use Rattle.machine.proofs.FoundLaws as FoundLaws
 use Rattle.machine.proofs.CandidateLaws as CandidateLaws
 use Rattle.machine.proofs.PlaceLaws as PlaceLaws
+use Rattle.machine.proofs.BlankStepLaws as BlankStepLaws
+use Rattle.machine.proofs.SameEntryLaws as SameEntryLaws
 use Rattle.machine.proofs.JudgeLaws.{leads-or-stops, says-legal, says-illegal, legal-says}
 use Rattle.machine.proofs.JudgeLaws.{illegal-says, says-leads, says-stops, state-is}
 
@@ -61,6 +66,30 @@ module _ (p : Program) (fits : ProgramFits p) where
   -- "The sum at the start is the program's full length, at most 96."
   pub full-length-most : fullLength p ≤ mostSteps
   full-length-most = StartLaws.full-most p fits
+
+  -- every state that a legal run from its start reaches is blank behind its entries
+  pub run-blank : (ks : List Step) (u : State) → Faultless p ks → Leads p (startOf p) ks u → BlankBehind u
+  run-blank ks u = BlankStepLaws.run-blank p ks u fits
+
+  -- and of two of them that have the same entries there is one: the same state
+  pub run-same : (ks js : List Step) (s u : State)
+      → Faultless p ks → Leads p (startOf p) ks s
+      → Faultless p js → Leads p (startOf p) js u
+      → SameEntries s u
+      → s ≡ u
+  run-same ks js s u faultless leads other goes =
+      SameEntryLaws.blank-same s u
+      (RunLaws.leads-fits p _ ks s start-fits faultless leads .sized)
+      (RunLaws.leads-fits p _ js u start-fits other goes .sized)
+      (run-blank ks s faultless leads) (run-blank js u other goes)
+
+-- the start is, of any program
+pub start-blank : (p : Program) → BlankBehind (startOf p)
+start-blank = BlankStepLaws.start-blank
+
+-- two states that are, and have the same entries, are the same state, array for array
+pub blank-same : (s u : State) → Sized s → Sized u → BlankBehind s → BlankBehind u → SameEntries s u → s ≡ u
+blank-same = SameEntryLaws.blank-same
 
 -- "known from the program alone": it is what the threads' instructions weigh
 pub full-length-weighs : (p : Program) → fullLength p ≡ sumTo mostThreads (programWeight p)
@@ -178,13 +207,21 @@ module _ (p : Program) (s : State) (fit : Fits p s) where
     pub step-work : work p (nextOf p s k) + cost p s k ≡ work p s
     step-work = StepLaws.step-work p s fit k (fault-none p k faultless) legal
 
-  -- so does a run of them: the fit stays, and its length is used up
+    -- from a state that is blank behind its entries it leads to one that is
+    pub step-blank : BlankBehind s → BlankBehind (nextOf p s k)
+    step-blank blank = BlankStepLaws.step-blank p s fit blank k (fault-none p k faultless) legal
+
+  -- so does a run of them: the fit stays, its length is used up, and what is blank stays blank
   pub leads-fits : (ks : List Step) (u : State) → Faultless p ks → Leads p s ks u → Fits p u
   leads-fits ks u = RunLaws.leads-fits p s ks u fit
 
   pub leads-work : (ks : List Step) (u : State) → Faultless p ks → Leads p s ks u
       → work p u + length ks ≡ work p s
   leads-work ks u = RunLaws.leads-work p s ks u fit
+
+  pub leads-blank : (ks : List Step) (u : State) → BlankBehind s → Faultless p ks → Leads p s ks u
+      → BlankBehind u
+  leads-blank ks u = BlankStepLaws.leads-blank p s ks u fit
 
   -- a queue that holds something: its oldest may persist
   pub persist-legal : (l : ℕ) → l < p .locations → queue s l ≢ []
@@ -244,6 +281,29 @@ module _ (p : Program) (s : State) (fit : Fits p s) where
 -- the test for 33 and the facts that proofs use are one: of a state whose arrays are as long as their types say
 pub fits-exactly : (p : Program) (s : State) → ProgramFits p → Sized s → (misfits p s ≡ false) ↔ Fits p s
 fits-exactly p s g z = (FitLaws.fits-is p s g z, FitLaws.is-fits p s)
+
+-- "Looking for a thread's marker goes through every queue and stops at the first one found."
+module _ (marks lengths : List ℕ) (t : ℕ) where
+  -- one that is found stands in a queue that there is, at a position of it, and bears the thread
+  pub marker-stands : isAt (markerOf marks lengths t) ≡ true
+      → (foundQueue (markerOf marks lengths t) < mostLocations)
+      × (foundPosition (markerOf marks lengths t)
+      < length (marksIn marks lengths (foundQueue (markerOf marks lengths t))))
+      × (getD (marksIn marks lengths (foundQueue (markerOf marks lengths t)))
+      (foundPosition (markerOf marks lengths t)) 0 ≡ t + 1)
+  marker-stands = FoundLaws.marker-stands marks lengths t
+
+  -- it is the first: no earlier queue holds one of that thread, and no earlier position of its own queue does
+  pub marker-first : isAt (markerOf marks lengths t) ≡ true
+      → ((l i : ℕ) → l < foundQueue (markerOf marks lengths t) → getD (marksIn marks lengths l) i 0 ≢ t + 1)
+      × ((i : ℕ) → i < foundPosition (markerOf marks lengths t)
+      → getD (marksIn marks lengths (foundQueue (markerOf marks lengths t))) i 0 ≢ t + 1)
+  marker-first = FoundLaws.marker-first marks lengths t
+
+  -- where none is found no queue holds one
+  pub marker-none : isAt (markerOf marks lengths t) ≡ false
+      → (l i : ℕ) → l < mostLocations → getD (marksIn marks lengths l) i 0 ≢ t + 1
+  marker-none = FoundLaws.marker-none marks lengths t
 
 -- a step breaks no rule, or one of 21 to 29
 pub rule-in-table : (p : Program) (s : State) (k : Step)

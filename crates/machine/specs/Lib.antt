@@ -1,6 +1,7 @@
 -- What a reader must believe of the machine, a page of document 01 each.
 pub mod Sizes
 pub mod View
+pub mod Behind
 pub mod Look
 pub mod Rules
 pub mod Joins

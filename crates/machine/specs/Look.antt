@@ -1,10 +1,10 @@
 -- Document 01, "The machine's steps": what a look through the state finds. A look that may find something says
 -- where.
---   newestWrite q w             the newest write of the queue q, else w
+--   newestWrite q w          the newest write of the queue q, else w
 --   newestStore l b w        the newest store to location l in the buffer b, else w
 --   loadOf s t l             what a load takes
 --   markerOf marks lengths t the first marker of thread t, by queue and then by position
---   isAt f                   one was found
+--   isAt, foundQueue, foundPosition   of what it answers: whether there is one, and where; 0 and 0 where not
 --   bars l e                 the entry e keeps a flush-opt of location l behind it
 --   firstBar l b             the position of the first entry of b that does; how many there are where none does
 -- Assumes nothing.
@@ -68,6 +68,15 @@ markerOf marks lengths t = markerFrom marks lengths t mostLocations 0
 abbrev pub isAt : Found → Bool
 isAt (At l i) = true
 isAt Nothing = false
+
+-- its queue, by location, and its position there
+abbrev pub foundQueue : Found → ℕ
+foundQueue (At l i) = l .0
+foundQueue Nothing = 0
+
+abbrev pub foundPosition : Found → ℕ
+foundPosition (At l i) = i
+foundPosition Nothing = 0
 
 -- some queue holds a marker of thread t
 unfoldable pub marked : List ℕ → List ℕ → ℕ → Bool

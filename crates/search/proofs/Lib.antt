@@ -9,6 +9,7 @@ mod PtsoLaws
 -- the budget: how it is counted down, and what that comes to
 mod SeekLaws
 mod BudgetLaws
+mod WalkedLaws
 -- the code: records in the lent bytes, the walk's turns
 mod StoreLaws
 mod LoopLaws

@@ -1,5 +1,5 @@
 -- What the search promises: all that others may cite. Each law is stated in full. Assumes nothing.
-use Prim.Native.Nat.{ℕ, _*_, _<_, _≤_}
+use Prim.Native.Nat.{ℕ, _+_, _*_, _<_, _≤_}
 use mathlib.Core.Path.{_≡_, ap, subst, _∙_}
 use mathlib.Core.Logic.{_≢_, _↔_}
 use mathlib.Core.Bool.{true, false}
@@ -27,10 +27,12 @@ use Rattle.machine.proofs.Promises.{start-fits}
 use Rattle.search.specs.declared.ask.Outcome.the-variants.{Reached, Unreachable, Undecided, Refused}
 use Rattle.search.specs.Walk.{Visit, here, InOrder}
 use Rattle.search.specs.Question.{reaches, reached, unreachable, undecided, None, FirstThat, walkFrom}
-use Rattle.search.specs.Question.{askOf, outcomeNo, outcomePlace, questionOf, shownOf}
+use Rattle.search.specs.Question.{askOf, outcomeNo, outcomePlace, toldOf, questionOf, shownOf}
+use Rattle.search.specs.Seek.{seek, walkedOf, walkedNo, walkedPlace, walkedLeft}
 use Rattle.search.proofs.PtsoLaws as PtsoLaws
 use Rattle.search.proofs.OrderLaws as OrderLaws
 use Rattle.search.proofs.BudgetLaws as BudgetLaws
+use Rattle.search.proofs.WalkedLaws as WalkedLaws
 use Rattle.search.proofs.ReachLaws as ReachLaws
 use Rattle.search.proofs.ShownLaws as ShownLaws
 use Rattle.search.proofs.QuestionLaws as QuestionLaws
@@ -113,6 +115,19 @@ module _ (p : Program) (a : Ask) (b : ℕ) where
     BudgetLaws.undecided-is (reaches a) b (walkFrom p),
     (λ h. BudgetLaws.is-undecided (reaches a) b (walkFrom p) (h .0) (h .1)),
   )
+
+-- What the code's walk answers from the start
+module _ (p : Program) (a : Ask) (b : ℕ) where
+  -- its number and its place are those that the question tells
+  pub walked-told :
+      (walkedNo (walkedOf 0 (seek (reaches a) b (walkFrom p))) ≡ outcomeNo (toldOf (askOf p a b)))
+      × (walkedPlace (walkedOf 0 (seek (reaches a) b (walkFrom p))) ≡ outcomePlace (toldOf (askOf p a b)))
+  walked-told = WalkedLaws.walked-told p a b
+
+  -- where no run reaches and the budget covers the walk, it leaves what the walk's runs don't use up
+  pub walked-left : None (reaches a) (walkFrom p) → length (walkFrom p) ≤ b
+      → walkedLeft (walkedOf 0 (seek (reaches a) b (walkFrom p))) + length (walkFrom p) ≡ b
+  walked-left = WalkedLaws.walked-left p a b
 
 -- a budget of just the runs before the first that reaches decides nothing: one less than where that run stands
 pub one-less-undecided : (p : Program) (a : Ask) (before : List (Visit State Step)) (v : Visit State Step)

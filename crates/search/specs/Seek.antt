@@ -2,6 +2,7 @@
 -- this page.
 --   seek test b vs      the first of the runs vs that passes the test, at a budget b
 --   walkedOf d x        what the walk at depth d answers
+--   walkedNo, walkedPlace, walkedLeft   of that answer: 01's number, its place, what is left of the budget
 --   storedOf d x out    what it leaves in the lent bytes: the run's records behind those of the first d steps
 -- Assumes nothing.
 use Prim.Native.Nat.{ℕ, zero, suc, _+_, _*_}
@@ -31,6 +32,25 @@ unfoldable pub walkedOf : ℕ → Sought Step → Walked
 walkedOf d (hit run) = Found (d + length run)
 walkedOf d (done b) = Finished b
 walkedOf d spent = Stopped
+
+-- "100 reached (.., and its length), 101 unreachable, 102 undecided"; the place is the number of steps for 100,
+-- else 0
+abbrev pub walkedNo : Walked → ℕ
+walkedNo (Found n) = 100
+walkedNo (Finished b) = 101
+walkedNo Stopped = 102
+
+abbrev pub walkedPlace : Walked → ℕ
+walkedPlace (Found n) = n
+walkedPlace (Finished b) = 0
+walkedPlace Stopped = 0
+
+-- told only of a walk that ended; a budget that is used up leaves none, and behind a run that reaches none is
+-- asked for
+abbrev pub walkedLeft : Walked → ℕ
+walkedLeft (Found n) = 0
+walkedLeft (Finished b) = b
+walkedLeft Stopped = 0
 
 unfoldable pub storedOf : ℕ → Sought Step → List ℕ → List ℕ
 storedOf d (hit run) out = sets out (stepSize * d) (stepsBytes run)

@@ -1,0 +1,177 @@
+-- Laws of what `markerOf` answers: where it says a marker stands there is one of that thread, and none before
+-- it; where it says nothing no queue holds one. Assumes nothing.
+use Prim.Native.Nat.{ℕ, zero, suc, _+_, _≤_, _<_}
+use mathlib.Core.Path.{_≡_, refl, ap, _∙_}
+use mathlib.Core.Logic.{_⊎_, inl, inr, _≢_}
+use mathlib.Core.Bool.{Bool, true, false}
+use mathlib.Core.List.{List, [], _∷_}
+use native.Mathlib.Omega.{arith}
+use native.Mathlib.Nat.{zero-add}
+use native.Mathlib.Decide.{ℕ-discrete}
+use borrow.Author.Tests.{eqb-true, eqb-false}
+use lib.Dec.{eqb}
+use lib.ListN.{length, getD}
+use Rattle.cases.specs.Choice.{pick}
+use Rattle.cases.specs.Sizes.{mostLocations}
+use Rattle.cases.proofs.ChoiceLaws.{never-both}
+use Rattle.machine.specs.declared.look.Found.{Found}
+use Rattle.machine.specs.declared.look.Found.the-variants.{At, Nothing}
+use Rattle.machine.specs.View.{marksIn}
+use Rattle.machine.specs.Look.{markerAmong, markerFrom, markerOf, isAt, foundQueue, foundPosition}
+
+module _ (t : ℕ) where
+  -- no mark of a list is one of thread t
+  abbrev Unmarked : List ℕ → Type 0
+  Unmarked ms = (i : ℕ) → getD ms i 0 ≢ t + 1
+
+  -- the first is at position i
+  record FirstMark (ms : List ℕ) (i : ℕ) : Type 0 where
+    within : i < length ms
+    mark : getD ms i 0 ≡ t + 1
+    none : (k : ℕ) → k < i → getD ms k 0 ≢ t + 1
+
+  -- one queue's marks: there is a first one, or none and what comes after is the answer
+  abbrev InQueue : ℕ → ℕ → List ℕ → Found → Found → Type 0
+  InQueue l i ms after x =
+      ((j : ℕ) × FirstMark ms j × (x ≡ At (record { 0 = l }) (i + j))) ⊎ (Unmarked ms × (x ≡ after))
+
+  unmarked-next : (m : ℕ) (ms : List ℕ) → m ≢ t + 1 → Unmarked ms → Unmarked (m ∷ ms)
+  unmarked-next m ms e h zero = e
+  unmarked-next m ms e h (suc i) = h i
+
+  first-next : (m : ℕ) (ms : List ℕ) (j : ℕ) → m ≢ t + 1 → FirstMark ms j → FirstMark (m ∷ ms) (suc j)
+  first-next m ms j e f = record { within = let h = f .within in omega arith; mark = f .mark; none = before }
+    where
+      before : (k : ℕ) → k < suc j → getD (m ∷ ms) k 0 ≢ t + 1
+      before zero h = e
+      before (suc k) h = f .none k (omega arith)
+
+  in-queue : (l i : ℕ) (ms : List ℕ) (after : Found) → InQueue l i ms after (markerAmong t l i ms after)
+  unfolding markerAmong pick
+  in-queue l i [] after = inr ((λ k e. omega arith), refl)
+  in-queue l i (m ∷ ms) after = go (eqb m (t + 1)) refl (in-queue l (suc i) ms after)
+    where
+      later : m ≢ t + 1 → InQueue l (suc i) ms after (markerAmong t l (suc i) ms after)
+          → InQueue l i (m ∷ ms) after (markerAmong t l (suc i) ms after)
+      later n (inl (j, f, e)) =
+          let same : suc i + j ≡ i + suc j = omega arith in
+          inl (suc j, first-next m ms j n f, e ∙ ap (λ k. At (record { 0 = l }) k) same)
+      later n (inr (h, e)) = inr (unmarked-next m ms n h, e)
+
+      go : (b : Bool) → eqb m (t + 1) ≡ b → InQueue l (suc i) ms after (markerAmong t l (suc i) ms after)
+          → InQueue l i (m ∷ ms) after (pick b (At (record { 0 = l }) i) (markerAmong t l (suc i) ms after))
+      go true e r =
+          let same : i ≡ i + 0 = omega arith in
+          inl (
+            0,
+            record { within = omega arith; mark = eqb-true _ _ e; none = λ k h. absurd (omega arith) },
+            ap (λ k. At (record { 0 = l }) k) same,
+          )
+      go false e r = later (eqb-false _ _ e) r
+
+  -- the n queues from l on
+  module _ (marks lengths : List ℕ) where
+    -- x is the first marker of those below `end`, of which none below `from` is asked
+    record FirstFrom (from end : ℕ) (x : Found) : Type 0 where
+      queue : ℕ
+      position : ℕ
+      not-before : from ≤ queue
+      low : queue < end
+      first : FirstMark (marksIn marks lengths queue) position
+      none : (l : ℕ) → from ≤ l → l < queue → Unmarked (marksIn marks lengths l)
+      is : x ≡ At (record { 0 = queue }) position
+
+    abbrev InQueues : ℕ → ℕ → Found → Type 0
+    InQueues from end x =
+        FirstFrom from end x
+        ⊎ (((l : ℕ) → from ≤ l → l < end → Unmarked (marksIn marks lengths l)) × (x ≡ Nothing))
+
+    in-queues : (n l end : ℕ) → end ≡ l + n → InQueues l end (markerFrom marks lengths t n l)
+    unfolding markerFrom
+    in-queues zero l end e = inr ((λ k a b. absurd (omega arith)), refl)
+    in-queues (suc n) l end e =
+        go (in-queue l 0 (marksIn marks lengths l) (markerFrom marks lengths t n (suc l)))
+        (in-queues n (suc l) end (omega arith))
+      where
+        x : Found
+        x = markerAmong t l 0 (marksIn marks lengths l) (markerFrom marks lengths t n (suc l))
+
+        beyond : Unmarked (marksIn marks lengths l) → (end : ℕ)
+            → ((k : ℕ) → suc l ≤ k → k < end → Unmarked (marksIn marks lengths k))
+            → (k : ℕ) → l ≤ k → k < end → Unmarked (marksIn marks lengths k)
+        beyond h top f k a b = at (ℕ-discrete k l)
+          where
+            at : Dec (k ≡ l) → Unmarked (marksIn marks lengths k)
+            at (yes d) = rw d h
+            at (no d) = f k (omega arith) b
+
+        later : Unmarked (marksIn marks lengths l) → x ≡ markerFrom marks lengths t n (suc l)
+            → InQueues (suc l) end (markerFrom marks lengths t n (suc l)) → InQueues l end x
+        later h d (inl f) =
+            inl record {
+              queue = f .queue;
+              position = f .position;
+              not-before = let a = f .not-before in omega arith;
+              low = f .low;
+              first = f .first;
+              none = beyond h (f .queue) (f .none);
+              is = d ∙ f .is;
+            }
+        later h d (inr f) = inr (beyond h end (f .0), d ∙ f .1)
+
+        go : InQueue l 0 (marksIn marks lengths l) (markerFrom marks lengths t n (suc l)) x
+            → InQueues (suc l) end (markerFrom marks lengths t n (suc l))
+            → InQueues l end x
+        go (inl (j, f, d)) r =
+            inl record {
+              queue = l;
+              position = j;
+              not-before = omega arith;
+              low = omega arith;
+              first = f;
+              none = λ k a b. absurd (omega arith);
+              is = d ∙ ap (λ k. At (record { 0 = l }) k) (zero-add j);
+            }
+        go (inr (h, d)) r = later h d r
+
+-- what is found, and what that tells of the marks
+module _ (marks lengths : List ℕ) (t : ℕ) where
+  looked : InQueues t marks lengths 0 mostLocations (markerOf marks lengths t)
+  unfolding markerOf
+  looked = in-queues t marks lengths mostLocations 0 mostLocations (omega arith)
+
+  stood : isAt (markerOf marks lengths t) ≡ true
+      → FirstFrom t marks lengths 0 mostLocations (markerOf marks lengths t)
+  stood h = go looked
+    where
+      go : InQueues t marks lengths 0 mostLocations (markerOf marks lengths t)
+          → FirstFrom t marks lengths 0 mostLocations (markerOf marks lengths t)
+      go (inl f) = f
+      go (inr f) = absurd (never-both h (ap isAt (f .1)))
+
+  pub marker-stands : isAt (markerOf marks lengths t) ≡ true
+      → (foundQueue (markerOf marks lengths t) < mostLocations)
+      × (foundPosition (markerOf marks lengths t)
+      < length (marksIn marks lengths (foundQueue (markerOf marks lengths t))))
+      × (getD (marksIn marks lengths (foundQueue (markerOf marks lengths t)))
+      (foundPosition (markerOf marks lengths t)) 0 ≡ t + 1)
+  marker-stands h =
+      let f = stood h in
+      rw (f .is) (f .low, f .first .within, f .first .mark)
+
+  pub marker-first : isAt (markerOf marks lengths t) ≡ true
+      → ((l i : ℕ) → l < foundQueue (markerOf marks lengths t) → getD (marksIn marks lengths l) i 0 ≢ t + 1)
+      × ((i : ℕ) → i < foundPosition (markerOf marks lengths t)
+      → getD (marksIn marks lengths (foundQueue (markerOf marks lengths t))) i 0 ≢ t + 1)
+  marker-first h =
+      let f = stood h in
+      rw (f .is) ((λ l i a. f .none l (omega arith) a i), f .first .none)
+
+  pub marker-none : isAt (markerOf marks lengths t) ≡ false
+      → (l i : ℕ) → l < mostLocations → getD (marksIn marks lengths l) i 0 ≢ t + 1
+  marker-none h l i low = go looked
+    where
+      go : InQueues t marks lengths 0 mostLocations (markerOf marks lengths t)
+          → getD (marksIn marks lengths l) i 0 ≢ t + 1
+      go (inl f) = absurd (never-both (ap isAt (f .is)) h)
+      go (inr f) = f .0 l (omega arith) low i

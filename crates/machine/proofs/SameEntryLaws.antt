@@ -1,0 +1,144 @@
+-- Two states that are blank behind their entries, and have the same entries, are the same state: each array, a
+-- row at a time. Assumes nothing.
+use Prim.Native.Nat.{ℕ, zero, suc, _+_, _*_, _-_, _≤_, _<_}
+use mathlib.Core.Path.{_≡_, sym, ap, _∙_}
+use mathlib.Core.Logic.{_⊎_, inl, inr}
+use mathlib.Core.List.{List}
+use native.Mathlib.Omega.{arith}
+use native.Mathlib.Nat.{suc-mul}
+use lib.ListN.{length, getD, length-take, length-drop}
+use lib.Seq.{ext-getD}
+use Rattle.cases.specs.Sizes.{mostThreads, mostInstructions, mostLocations}
+use Rattle.machine.specs.declared.cells.State.{State}
+use Rattle.machine.specs.declared.cells.Waiting.{Waiting}
+use Rattle.machine.specs.Sizes.{room}
+use Rattle.machine.specs.View.{wordsOf, marksOf, part, marksIn, queueIn, queue, queueLen, blankWaiting}
+use Rattle.machine.specs.View.{bufferIn, bufferLen}
+use Rattle.machine.specs.Behind.{BlankFrom, BlankBehind, SameEntries}
+use Rattle.machine.specs.Fit.{Sized}
+use Rattle.machine.proofs.PartLaws.{lt-or-ge, getD-part}
+use Rattle.machine.proofs.SlotLaws.{words-slots, marks-slots}
+
+module _ {A : Type 0} (blank : A) where
+  -- a row of m of which the first n are the same, and the others blank in both
+  row-same : (base n m : ℕ) (xs ys : List A) → part base n xs ≡ part base n ys
+      → BlankFrom blank base n m xs
+      → BlankFrom blank base n m ys
+      → (i : ℕ) → i < m → getD xs (base + i) blank ≡ getD ys (base + i) blank
+  row-same base n m xs ys e f g i h = go (lt-or-ge i n)
+    where
+      go : (i < n) ⊎ (n ≤ i) → getD xs (base + i) blank ≡ getD ys (base + i) blank
+      go (inl k) =
+          sym (getD-part base n i xs blank k) ∙ ap (λ x. getD x i blank) e ∙ getD-part base n i ys blank k
+      go (inr k) = f i k h ∙ sym (g i k h)
+
+  -- k rows as wide as w, one behind the other
+  rows-same : (w k : ℕ) (xs ys : List A)
+      → ((l i : ℕ) → l < k → i < w → getD xs (l * w + i) blank ≡ getD ys (l * w + i) blank)
+      → (j : ℕ) → j < k * w → getD xs j blank ≡ getD ys j blank
+  rows-same w zero xs ys h j low = absurd (omega arith)
+  rows-same w (suc k) xs ys h j low =
+      go (lt-or-ge j (k * w)) (rows-same w k xs ys (λ l i a b. h l i (omega arith) b) j)
+    where
+      go : (j < k * w) ⊎ (k * w ≤ j) → (j < k * w → getD xs j blank ≡ getD ys j blank)
+          → getD xs j blank ≡ getD ys j blank
+      go (inl b) before = before b
+      go (inr b) before =
+          let e : j ≡ k * w + (j - k * w) = omega arith in
+          let i : j - k * w < w = omega (arith, suc-mul k w) in
+          rw e (h k (j - k * w) (omega arith) i)
+
+  -- the arrays of such rows, each with as many in use as n says
+  array-same : (w k : ℕ) (n : ℕ → ℕ) (xs ys : List A) → length xs ≡ k * w → length ys ≡ k * w
+      → ((l : ℕ) → l < k → part (l * w) (n l) xs ≡ part (l * w) (n l) ys)
+      → ((l : ℕ) → l < k → BlankFrom blank (l * w) (n l) w xs)
+      → ((l : ℕ) → l < k → BlankFrom blank (l * w) (n l) w ys)
+      → xs ≡ ys
+  array-same w k n xs ys long same e f g =
+      ext-getD blank xs ys (long ∙ sym same) (λ j b. rows-same w k xs ys row j (omega arith))
+    where
+      row : (l i : ℕ) → l < k → i < w → getD xs (l * w + i) blank ≡ getD ys (l * w + i) blank
+      row l i a = row-same (l * w) (n l) w xs ys (e l a) (f l a) (g l a) i
+
+-- a queue's words and its marks, whatever its length says
+module _ (s : State) (z : Sized s) (l : ℕ) where
+  alike : length (part (l * room) (queueLen s l) (s .held)) ≡ length (marksIn (s .marks) (s .lengths) l)
+  unfolding marksIn part
+  alike = simp (length-take, length-drop, z .held-long, z .marks-long)
+
+  words-are : wordsOf (queue s l) ≡ part (l * room) (queueLen s l) (s .held)
+  unfolding queueIn
+  words-are = words-slots _ _ alike
+
+  marks-are : marksOf (queue s l) ≡ part (l * room) (queueLen s l) (s .marks)
+  unfolding queueIn marksIn
+  marks-are = marks-slots _ _ alike
+
+-- a state is its arrays
+abbrev stateOf : (words held marks lengths : List ℕ) (buffers : List Waiting)
+    (waiting registers issued : List ℕ)
+    → State
+stateOf words held marks lengths buffers waiting registers issued =
+    record {
+      words = words;
+      held = held;
+      marks = marks;
+      lengths = lengths;
+      buffers = buffers;
+      waiting = waiting;
+      registers = registers;
+      issued = issued;
+    }
+
+module _ (s u : State) (z : Sized s) (y : Sized u) (f : BlankBehind s) (g : BlankBehind u)
+    (e : SameEntries s u) where
+  same-length : (l : ℕ) → queueLen s l ≡ queueLen u l
+  same-length l = ap (λ x. getD x l 0) (e .same-lengths)
+
+  same-count : (t : ℕ) → bufferLen s t ≡ bufferLen u t
+  same-count t = ap (λ x. getD x t 0) (e .same-waiting)
+
+  held-same : s .held ≡ u .held
+  held-same =
+      array-same 0 room mostLocations (queueLen s) (s .held) (u .held) (z .held-long) (y .held-long)
+      (λ l a. sym (words-are s z l) ∙ ap wordsOf (e .same-queues l a) ∙ words-are u y l
+      ∙ ap (λ n. part (l * room) n (u .held)) (sym (same-length l)))
+      (f .words-blank)
+      (λ l a. rw (same-length l) (g .words-blank l a))
+
+  marks-same : s .marks ≡ u .marks
+  marks-same =
+      array-same 0 room mostLocations (queueLen s) (s .marks) (u .marks) (z .marks-long) (y .marks-long)
+      (λ l a. sym (marks-are s z l) ∙ ap marksOf (e .same-queues l a) ∙ marks-are u y l
+      ∙ ap (λ n. part (l * room) n (u .marks)) (sym (same-length l)))
+      (f .marks-blank)
+      (λ l a. rw (same-length l) (g .marks-blank l a))
+
+  buffers-same : s .buffers ≡ u .buffers
+  unfolding bufferIn
+  buffers-same =
+      array-same blankWaiting mostInstructions mostThreads (bufferLen s) (s .buffers) (u .buffers)
+      (z .buffers-long) (y .buffers-long)
+      (λ t a. e .same-buffers t a
+      ∙ ap (λ n. part (t * mostInstructions) n (u .buffers)) (sym (same-count t)))
+      (f .entries-blank)
+      (λ t a. rw (same-count t) (g .entries-blank t a))
+
+  pub blank-same : s ≡ u
+  blank-same =
+      ap (λ x. stateOf x (s .held) (s .marks) (s .lengths) (s .buffers) (s .waiting) (s .registers)
+      (s .issued)) (e .same-words)
+      ∙ ap (λ x. stateOf (u .words) x (s .marks) (s .lengths) (s .buffers) (s .waiting) (s .registers)
+      (s .issued)) held-same
+      ∙ ap (λ x. stateOf (u .words) (u .held) x (s .lengths) (s .buffers) (s .waiting) (s .registers)
+      (s .issued)) marks-same
+      ∙ ap (λ x. stateOf (u .words) (u .held) (u .marks) x (s .buffers) (s .waiting) (s .registers)
+      (s .issued)) (e .same-lengths)
+      ∙ ap (λ x. stateOf (u .words) (u .held) (u .marks) (u .lengths) x (s .waiting) (s .registers)
+      (s .issued)) buffers-same
+      ∙ ap (λ x. stateOf (u .words) (u .held) (u .marks) (u .lengths) (u .buffers) x (s .registers)
+      (s .issued)) (e .same-waiting)
+      ∙ ap (λ x. stateOf (u .words) (u .held) (u .marks) (u .lengths) (u .buffers) (u .waiting) x (s .issued))
+      (e .same-registers)
+      ∙ ap (stateOf (u .words) (u .held) (u .marks) (u .lengths) (u .buffers) (u .waiting) (u .registers))
+      (e .same-issued)

@@ -1,0 +1,51 @@
+-- What the walk's answer comes to: the number and the place that the question tells, and what is left of the
+-- budget. Assumes nothing.
+use Prim.Native.Nat.{ℕ, zero, suc, _+_, _-_, _≤_}
+use mathlib.Core.Path.{_≡_, refl, sym, ap}
+use mathlib.Core.Logic.{inl, inr}
+use mathlib.Core.Bool.{Bool}
+use mathlib.Core.List.{List, [], _∷_}
+use native.Mathlib.Omega.{arith}
+use lib.ListN.{length}
+use Rattle.cases.specs.declared.case.Step.{Step}
+use Rattle.cases.specs.declared.case.Program.{Program}
+use Rattle.cases.specs.declared.case.Ask.{Ask}
+use Rattle.machine.specs.Next.{Listed}
+use Rattle.search.specs.Walk.{Visit}
+use Rattle.search.specs.Question.{reaches, None, walkFrom, askOf, outcomeNo, outcomePlace, toldOf}
+use Rattle.search.specs.Seek.{Sought, hit, done, spent, seek, walkedOf, walkedNo, walkedPlace}
+use Rattle.search.specs.Seek.{walkedLeft}
+use Rattle.search.proofs.SeekLaws.{comesTo, seek-decides}
+
+-- each of the three
+walked-comes : (x : Sought Step)
+    → (walkedNo (walkedOf 0 x) ≡ outcomeNo (toldOf (comesTo x)))
+    × (walkedPlace (walkedOf 0 x) ≡ outcomePlace (toldOf (comesTo x)))
+unfolding walkedOf toldOf
+walked-comes (hit run) = (refl, omega arith)
+walked-comes (done b) = (refl, refl)
+walked-comes spent = (refl, refl)
+
+pub walked-told : (p : Program) (a : Ask) (b : ℕ)
+    → (walkedNo (walkedOf 0 (seek (reaches a) b (walkFrom p))) ≡ outcomeNo (toldOf (askOf p a b)))
+    × (walkedPlace (walkedOf 0 (seek (reaches a) b (walkFrom p))) ≡ outcomePlace (toldOf (askOf p a b)))
+unfolding askOf
+walked-told p a b =
+    rw (sym (seek-decides (reaches a) b (walkFrom p))) (walked-comes (seek (reaches a) b (walkFrom p)))
+
+-- none passes, and the budget has n more than there are runs
+seek-none : {S K : Type 0} (test : S → Bool) (b n : ℕ) (vs : List (Visit S K)) → None test vs
+    → b ≡ n + length vs
+    → seek test b vs ≡ done n
+unfolding seek None Listed
+seek-none test b n [] f e = let same : b ≡ n = omega arith in ap done same
+seek-none test zero n (v ∷ vs) f e = absurd (omega arith)
+seek-none test (suc b) n (v ∷ vs) f e =
+    rw (f v (inl refl), seek) (seek-none test b n vs (λ w h. f w (inr h)) (omega arith))
+
+pub walked-left : (p : Program) (a : Ask) (b : ℕ) → None (reaches a) (walkFrom p) → length (walkFrom p) ≤ b
+    → walkedLeft (walkedOf 0 (seek (reaches a) b (walkFrom p))) + length (walkFrom p) ≡ b
+unfolding walkedOf
+walked-left p a b none covers =
+    let n : ℕ = b - length (walkFrom p) in
+    rw (seek-none (reaches a) b n (walkFrom p) none (omega arith)) (omega arith)
