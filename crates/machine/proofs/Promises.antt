@@ -71,7 +71,7 @@ module _ (p : Program) (fits : ProgramFits p) where
   pub run-blank : (ks : List Step) (u : State) → Faultless p ks → Leads p (startOf p) ks u → BlankBehind u
   run-blank ks u = BlankStepLaws.run-blank p ks u fits
 
-  -- and of two of them that have the same entries there is one: the same state
+  -- and two of them that have the same entries are the same state
   pub run-same : (ks js : List Step) (s u : State)
       → Faultless p ks → Leads p (startOf p) ks s
       → Faultless p js → Leads p (startOf p) js u
@@ -83,11 +83,12 @@ module _ (p : Program) (fits : ProgramFits p) where
       (RunLaws.leads-fits p _ js u start-fits other goes .sized)
       (run-blank ks s faultless leads) (run-blank js u other goes)
 
--- the start is, of any program
+-- the start of any program is blank behind its entries
 pub start-blank : (p : Program) → BlankBehind (startOf p)
 start-blank = BlankStepLaws.start-blank
 
--- two states that are, and have the same entries, are the same state, array for array
+-- two states that are blank behind their entries, and have the same entries, are the same state, array for
+-- array
 pub blank-same : (s u : State) → Sized s → Sized u → BlankBehind s → BlankBehind u → SameEntries s u → s ≡ u
 blank-same = SameEntryLaws.blank-same
 
