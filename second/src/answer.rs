@@ -9,7 +9,8 @@ pub const UNTOUCHED: u8 = 0xA5;
 
 pub struct Answer {
     pub reading: Reading,
-    pub unread: usize,
+    /// The part of the input from the faulty record on; nothing where all was read.
+    pub unread: Vec<u8>,
     /// The case handed out, with the frame's field changed.
     pub changed: Case,
     pub number: u8,
@@ -26,7 +27,7 @@ pub fn answer(frame: &Frame) -> Answer {
     let mut lent = vec![UNTOUCHED; frame.room as usize];
     let (number, length) = write(&changed, &mut lent);
     Answer {
-        unread: frame.input.len() - reading.offset,
+        unread: frame.input[reading.offset..].to_vec(),
         reading,
         changed,
         number,
@@ -38,20 +39,21 @@ pub fn answer(frame: &Frame) -> Answer {
 impl Answer {
     pub fn line(&self) -> String {
         let read = &self.reading;
-        let mut line = format!("{} {} {} ", read.number, read.offset, self.unread);
-        line += &format!("{} {} ", self.number, self.length);
+        let mut line = format!("{} {} {} ", read.number, read.offset, self.unread.len());
+        push_buffer(&mut line, &self.unread);
+        line += &format!(" {} {} ", self.number, self.length);
         push_buffer(&mut line, &self.lent);
         line.push('\n');
         line
     }
 }
 
-/// A lent buffer, `-` where it has no bytes.
-pub fn push_buffer(line: &mut String, lent: &[u8]) {
-    if lent.is_empty() {
+/// Bytes that may be none: `-` then.
+pub fn push_buffer(line: &mut String, bytes: &[u8]) {
+    if bytes.is_empty() {
         line.push('-');
     }
-    push_hex(line, lent);
+    push_hex(line, bytes);
 }
 
 pub fn push_hex(line: &mut String, bytes: &[u8]) {

@@ -18,7 +18,13 @@ fn length_in(frame: &Frame, answer: &Answer, least: usize, most: usize) -> bool 
     rewritten(frame, answer) && (least..=most).contains(&frame.input.len())
 }
 
-const SORTS: [Sort<fn(&Frame, &Answer) -> bool>; 24] = [
+/// As many bytes from one byte earlier on are others.
+fn shows_its_place(input: &[u8], offset: usize) -> bool {
+    let within = (1..input.len()).contains(&offset);
+    within && input[offset - 1..input.len() - 1] != input[offset..]
+}
+
+const SORTS: [Sort<fn(&Frame, &Answer) -> bool>; 28] = [
     sort("written: 0", 500, |_, a| a.number == 0),
     sort("written: 31", 500, |_, a| a.number == 31),
     sort("written: 32", 500, |_, a| a.number == 32),
@@ -72,6 +78,18 @@ const SORTS: [Sort<fn(&Frame, &Answer) -> bool>; 24] = [
     sort("input of 65,536 bytes", 12, |f, _| f.input.len() == 65536),
     sort("faulty head at 1,328", 100, |_, a| {
         a.reading.number != 0 && a.reading.offset == 1328
+    }),
+    sort("refused, nothing unread", 5, |_, a| {
+        a.reading.number != 0 && a.unread.is_empty()
+    }),
+    sort("unread: 1 to 2,048 bytes", 5000, |_, a| {
+        (1..=2048).contains(&a.unread.len())
+    }),
+    sort("unread: above 2,048 bytes", 80, |_, a| {
+        a.unread.len() > 2048
+    }),
+    sort("unread part tells its place", 5000, |f, a| {
+        shows_its_place(&f.input, a.reading.offset)
     }),
 ];
 

@@ -38,6 +38,7 @@ use whole::counts::WholeCounts;
 
 const USAGE: &str = "usage: second answer | second generate SEED COUNT | second counts, \
                      or machine-, question- or whole- in front of the mode, or second question-runs, \
+                     or second machine-judged, \
                      or second text-generate SEED COUNT FOLDER | second text-counts FOLDER | \
                      second text-frames FOLDER BUDGET | second text-judge-frames FOLDER";
 
@@ -65,6 +66,7 @@ fn of_streams(words: &[&str]) -> io::Result<()> {
         ["machine-answer"] | ["whole-answer"] => {
             answer_all(Trial::read_from, |one| trial::answer::answer(one).line())
         }
+        ["machine-judged"] => answer_all(Trial::read_from, trial::answer::judged_line),
         ["machine-counts"] => count(Trial::read_from, TrialCounts::new()),
         ["machine-generate", seed, count] => {
             generate(trial::generate::frames, Trial::write_to, seed, count)

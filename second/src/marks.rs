@@ -16,7 +16,7 @@ const fn family(name: &'static str, least: u64) -> Family {
 }
 
 /// The number in a name is the expected one; of two it is the first.
-pub const FAMILIES: [Family; 32] = [
+pub const FAMILIES: [Family; 33] = [
     family("fault 1 (head)", 100),
     family("fault 1 (payload)", 100),
     family("fault 2", 100),
@@ -49,6 +49,7 @@ pub const FAMILIES: [Family; 32] = [
     family("boundary accepted", 100),
     family("boundary refused", 100),
     family("fault behind 1,328 valid bytes", 100),
+    family("any bytes behind a valid file", 100),
 ];
 
 /// What a marked frame must be answered.

@@ -165,5 +165,29 @@ fn frames_come_back_from_their_stream() {
     assert_eq!(answer(&frame).changed.threads, 2);
     assert!(answer(&frame)
         .line()
-        .starts_with("0 50 0 0 50 0400010001000202"));
+        .starts_with("0 50 0 - 0 50 0400010001000202"));
+}
+
+/// What was not read is told as the input has it, from the faulty record to its last byte.
+#[test]
+fn the_unread_part_starts_at_the_faulty_record() {
+    let line = |input: &[u8]| {
+        let frame = Frame {
+            input: input.to_vec(),
+            field: 0,
+            value: 0,
+            room: 0,
+        };
+        answer(&frame).line()
+    };
+    assert_eq!(line(&ROW), "0 50 0 - 31 0 -\n");
+    assert_eq!(line(&[]), "1 0 0 - 31 0 -\n");
+    assert_eq!(line(&[4, 0, 1]), "1 0 3 040001 31 0 -\n");
+    // The last record, a want, lacks its last byte.
+    assert_eq!(line(&ROW[..49]), "1 41 8 0500040001010000 31 0 -\n");
+    let behind = [&ROW[..], &[0, 0, 7, 0, 255]].concat();
+    assert_eq!(line(&behind), "2 50 5 00000700ff 31 0 -\n");
+    let many = [&ROW[..], &[0x5C; 65486]].concat();
+    let told = format!("2 50 65486 {} 31 0 -\n", "5c".repeat(65486));
+    assert_eq!(line(&many), told);
 }

@@ -1,6 +1,6 @@
 // Answers a stream of frames from standard input, a line each: how the frame's bytes read, and how the case
-// that comes of them is written; how its run is judged, or a single step ruled; or what its question is
-// answered. second/README.md has the frames and the lines; the second judge answers the same stream.
+// that comes of them is written; how its run is judged, a single step ruled, or where it starts; or what its
+// question is answered. second/README.md has the frames and the lines; the second judge answers the same stream.
 use crate::print::ROOM;
 use cases::reader;
 use cases::writer;
@@ -26,7 +26,7 @@ const INPUT: usize = 65536;
 // A frame of the machine begins with this number and its job; the other frames begin with a length.
 const MACHINE: u32 = 2147483648;
 
-// The job that asks the question; those before it judge.
+// The job that asks the question; the others are the machine's.
 const QUESTION: u32 = 3;
 
 fn number_at(head: [u8; HEAD], at: usize) -> u32
@@ -44,6 +44,7 @@ fn answer(bytes: &[u8], field: usize, value: u32, room: usize)
     print::number(reader::number(a) as usize);
     print::number(reader::offset(a));
     print::number(rest.len());
+    print::part(rest);
     let c = r.case;
     let mut lent = [0xA5u8; ROOM];
     let w = cases::write(change::changed(c, field, value), &mut lent[..room]);

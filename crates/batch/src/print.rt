@@ -1,6 +1,7 @@
 // What the answers are made of: numbers, and bytes in hex.
 use libc::STDOUT_FILENO;
 ghost use Prim.Native.Nat.{_≤_, _<_};
+ghost use lib.ListN.{length};
 ghost use Rattle.batch.specs.Sizes.{mostRoom};
 
 // The most bytes that are printed at once.
@@ -15,14 +16,15 @@ fn glyph(digit: u8) -> u8
     if digit < 10 { 48 + digit } else { 87 + digit }
 }
 
-// The first `count` bytes in hex, two digits each.
-fn bytes(lent: [u8; ROOM], count: usize)
-    requires { ⌜ count ≤ mostRoom ⌝ }
+// Bytes in hex, two digits each.
+fn bytes(part: &[u8])
+    requires { ⌜ length (now part) ≤ mostRoom ⌝ }
 {
+    let count = part.len();
     let mut text = [0u8; TEXT];
     let mut i = 0;
     while i < count {
-        let b = lent[i];
+        let b = part[i];
         text[2 * i] = glyph(b / 16 % 16);
         text[2 * i + 1] = glyph(b % 16);
         i = i + 1;
@@ -30,14 +32,40 @@ fn bytes(lent: [u8; ROOM], count: usize)
     io::write_all(STDOUT_FILENO, &text[..2 * count]);
 }
 
-// Ends a line with those bytes, or with `-` where there are none.
+// How many of the bytes that are left are printed next.
+fn at_once(left: usize) -> usize
+    requires { ⌜ 0 < left ⌝ }
+    ensures { λ r. ⌜ (0 < r) × (r ≤ left) × (r ≤ mostRoom) ⌝ }
+{
+    if ROOM < left {
+        return ROOM;
+    }
+    left
+}
+
+// A part of a line: any number of bytes, or `-` where there are none.
+pub(crate) fn part(rest: &[u8]) {
+    let count = rest.len();
+    if count == 0 {
+        io::write_all(STDOUT_FILENO, b"-");
+    }
+    let mut at = 0;
+    while at < count {
+        let end = at + at_once(count - at);
+        bytes(&rest[at..end]);
+        at = end;
+    }
+    io::write_all(STDOUT_FILENO, b" ");
+}
+
+// Ends a line with the first `count` bytes, or with `-` where there are none.
 pub(crate) fn buffer(lent: [u8; ROOM], count: usize)
     requires { ⌜ count ≤ mostRoom ⌝ }
 {
     if count == 0 {
         io::write_all(STDOUT_FILENO, b"-");
     }
-    bytes(lent, count);
+    bytes(&lent[..count]);
     io::write_all(STDOUT_FILENO, b"\n");
 }
 

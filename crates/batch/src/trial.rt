@@ -1,4 +1,4 @@
-// Frames of the machine: a run judged, or a single step given with a state in memory.
+// Frames of the machine: a run judged, a single step given with a state in memory, or a case's start.
 use crate::INPUT;
 use crate::change;
 use crate::print;
@@ -18,6 +18,9 @@ use machine::work;
 use machine::work::Weighed;
 ghost use Prim.Native.Nat.{_≤_};
 ghost use Rattle.batch.specs.Sizes.{mostInput};
+
+// The job that asks for a start; the question's comes before it.
+const START: u32 = 4;
 
 fn print_weight(w: Weighed) {
     let refused = work::weighed_number(w);
@@ -67,6 +70,13 @@ fn judge_case(c: Case) {
     );
 }
 
+// Asks where a case in memory starts.
+fn start_case(c: Case) {
+    let r = machine::start(c);
+    let ruling = r.ruling;
+    print_line(steps::ruling_number(ruling), 0, c, r.state, r.state);
+}
+
 // Takes a single step in a state in memory; false where the stream ends before it.
 fn take_step(c: Case) -> bool {
     let mut fields = [0u8; 4];
@@ -102,6 +112,10 @@ pub(crate) fn answer(job: u32, input: [u8; INPUT], n: usize, field: usize, value
     let c = change::changed(r.case, field, value);
     if job == 1 {
         judge_case(c);
+        return true;
+    }
+    if job == START {
+        start_case(c);
         return true;
     }
     take_step(c)

@@ -166,6 +166,45 @@ pub fn long(random: &mut Random) -> Vec<Frame> {
     frames
 }
 
+/// Valid files, the longest and none at all too, with any bytes behind them: as many as a power
+/// of two, one less, one more, or any number, up to the longest input.
+pub fn followed(random: &mut Random) -> Vec<Frame> {
+    let powers = (0..=16).map(|power| 1 << power);
+    let mut lengths: Vec<usize> = powers.flat_map(|n| [n - 1, n, n + 1]).collect();
+    lengths.extend((0..60).map(|_| 1 + random.below(65535)));
+    lengths.extend((0..60).map(|_| 1 + random.below(4096)));
+    lengths.retain(|&length| (1..=65536).contains(&length));
+    let starts = [
+        Vec::new(),
+        ROW.to_vec(),
+        Sketch::lively(random).bytes(),
+        Sketch::longest(random).bytes(),
+    ];
+    let mut frames = Vec::new();
+    for length in lengths {
+        let fitting = starts
+            .iter()
+            .filter(|start| start.len() + length <= 65536)
+            .collect::<Vec<_>>();
+        let start = random.pick(&fitting);
+        frames.push(behind(random, start, length));
+    }
+    frames
+}
+
+/// A record of no kind there is and more behind it, or fewer than 4 bytes.
+fn behind(random: &mut Random, file: &[u8], length: usize) -> Frame {
+    let mut tail = random.bytes(length);
+    let number = if length < 4 { 1 } else { 2 };
+    if number == 2 {
+        tail[2] = random.between(7, 255);
+    }
+    let input = [file, &tail].concat();
+    let room = random.pick(&[0, 8, 16]);
+    let name = "any bytes behind a valid file";
+    marked(name, number, file.len(), input, room)
+}
+
 /// A faulty record right behind 1,328 valid bytes: nothing more can be accepted there.
 fn behind_longest(random: &mut Random) -> Frame {
     let sketch = Sketch::longest(random);

@@ -22,7 +22,7 @@ pub type Part<F> = fn(&mut Random) -> Vec<F>;
 pub type Take<'a, F> = &'a mut dyn FnMut(Vec<F>) -> io::Result<()>;
 
 /// Made once, whatever the number of frames asked for.
-const ONCE: [Part<Frame>; 12] = [
+const ONCE: [Part<Frame>; 13] = [
     valid::all,
     damage::truncated,
     damage::flipped,
@@ -30,6 +30,7 @@ const ONCE: [Part<Frame>; 12] = [
     damage::tailed,
     damage::large,
     damage::long,
+    damage::followed,
     faults::all,
     boundaries::all,
     changes::telling,

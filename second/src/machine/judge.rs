@@ -1,4 +1,4 @@
-//! Judging a run, and a single step given with a state.
+//! Judging a run, and a single step given with a state; the start.
 
 use super::effects::advance;
 use super::fit;
@@ -32,10 +32,11 @@ pub fn judge_bytes(bytes: &[u8]) -> Verdict {
 
 /// 32 first.
 pub fn judge(case: &Case) -> Verdict {
-    if !form::fits(case) {
-        return stopped(READS_FROM_NO_BYTES, 0);
+    let begun = start(case);
+    if begun.number != LEGAL {
+        return begun;
     }
-    let mut state = State::start(case);
+    let mut state = begun.state;
     let steps = &case.steps[..usize::from(case.count)];
     for (place, step) in steps.iter().enumerate() {
         if let Err(number) = check(case, &state, step) {
@@ -51,6 +52,18 @@ pub fn judge(case: &Case) -> Verdict {
         number: LEGAL,
         place: steps.len(),
         state,
+    }
+}
+
+/// The state before a case's first step, for a case that bytes can bring about; else 32.
+pub fn start(case: &Case) -> Verdict {
+    if !form::fits(case) {
+        return stopped(READS_FROM_NO_BYTES, 0);
+    }
+    Verdict {
+        number: LEGAL,
+        place: 0,
+        state: State::start(case),
     }
 }
 

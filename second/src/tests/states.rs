@@ -215,8 +215,60 @@ fn frames_of_the_machine_come_back_from_their_stream() {
     assert_eq!(Trial::read_from(&mut rest).ok(), Some(Some(trial)));
     assert_eq!(Trial::read_from(&mut rest).ok(), Some(None));
     assert!(Trial::read_from(&mut &stream[..stream.len() - 1]).is_err());
-    stream[0] = 3;
-    assert!(Trial::read_from(&mut &stream[..]).is_err());
+    for job in [3, 5] {
+        stream[0] = job;
+        assert!(Trial::read_from(&mut &stream[..]).is_err());
+    }
+    stream[0] = 4;
+    stream.truncate(16 + 50);
+    let start = Trial {
+        job: Job::Start,
+        ..first_issue()
+    };
+    let mut rest = &stream[..];
+    assert_eq!(Trial::read_from(&mut rest).ok(), Some(Some(start.clone())));
+    assert_eq!(Trial::read_from(&mut rest).ok(), Some(None));
+    let mut again = Vec::new();
+    assert!(start.write_to(&mut again).is_ok() && again == stream);
+}
+
+/// The start of the row's case with a field changed: first contents of its two locations and of one
+/// more, and the number of locations.
+#[test]
+fn lines_of_a_start() {
+    let line = |input: &[u8], field, value| {
+        let trial = Trial {
+            job: Job::Start,
+            input: input.to_vec(),
+            field,
+            value,
+        };
+        answer(&trial).line()
+    };
+    let nothing = "00".repeat(STATE_BYTES);
+    assert_eq!(line(&ROW, 0, 0), format!("103 0 6 6 {nothing}\n"));
+    let word = |at: usize| {
+        let mut bytes = nothing.clone();
+        bytes.replace_range(8 * at..8 * at + 8, "04030201");
+        bytes
+    };
+    let first = format!("103 0 6 6 {}\n", word(0));
+    assert_eq!(line(&ROW, 3, 0x0102_0304), first);
+    let second = format!("103 0 6 6 {}\n", word(1));
+    assert_eq!(line(&ROW, 4, 0x0102_0304), second);
+    let refused = format!("32 0 r32 r32 {nothing}\n");
+    assert_eq!(line(&ROW, 5, 0x0102_0304), refused);
+    assert_eq!(line(&ROW, 2, 9), refused);
+    // A file with a first content, and nine locations: the empty case's start.
+    let filled = [&ROW[..8], &[5, 0, 2, 0, 1, 4, 3, 2, 1]].concat();
+    let start = format!("103 0 0 0 {}\n", word(1));
+    assert_eq!(line(&filled, 0, 0), start);
+    assert_eq!(line(&filled, 2, 9), refused);
+    // Bytes that do not read: the empty case, of one thread and one location.
+    assert_eq!(line(&[7], 0, 0), format!("103 0 0 0 {nothing}\n"));
+    let first = format!("103 0 0 0 {}\n", word(0));
+    assert_eq!(line(&[7], 3, 0x0102_0304), first);
+    assert_eq!(line(&[7], 4, 0x0102_0304), refused);
 }
 
 #[test]

@@ -5,7 +5,7 @@ use super::raw;
 use crate::answer::push_hex;
 use crate::case::Case;
 use crate::frame::slot;
-use crate::machine::judge::{judge, judge_bytes, single_step, Verdict};
+use crate::machine::judge::{judge, judge_bytes, single_step, start, Verdict};
 use crate::machine::state::State;
 use crate::machine::work::{full_length, work_left};
 use crate::reading::read;
@@ -34,6 +34,7 @@ pub fn answer(trial: &Trial) -> Answer {
     let verdict = match (&trial.job, &given) {
         (Job::Step(step, _), Some(state)) => single_step(&case, state.clone(), step),
         (Job::Bytes, _) => judge_bytes(&trial.input),
+        (Job::Start, _) => start(&case),
         _ => judge(&case),
     };
     Answer {
@@ -61,4 +62,13 @@ impl Answer {
         line.push('\n');
         line
     }
+}
+
+/// Number and place of job 0; of another job nothing.
+pub fn judged_line(trial: &Trial) -> String {
+    if trial.job != Job::Bytes {
+        return String::new();
+    }
+    let Verdict { number, place, .. } = judge_bytes(&trial.input);
+    format!("{number} {place}\n")
 }

@@ -3,6 +3,7 @@
 use super::answer::{answer, Answer};
 use super::frame::{Job, Trial};
 use super::marks::{mark_of, FAMILIES};
+use super::raw;
 use super::sorts::SORTS;
 use crate::case::MOST_STEPS;
 use crate::form;
@@ -65,12 +66,15 @@ impl TrialCounts {
         }
     }
 
-    fn take_number(&mut self, answer: &Answer) {
+    fn take_number(&mut self, trial: &Trial, answer: &Answer) {
         let (number, place) = (answer.verdict.number, answer.verdict.place);
         let counts = &mut self.numbers[usize::from(number)];
         counts[0] += 1;
         if answer.given.is_some() {
             counts[2] += 1;
+            return;
+        }
+        if trial.job == Job::Start {
             return;
         }
         counts[1] += 1;
@@ -93,7 +97,7 @@ impl TrialCounts {
     }
 
     /// A marked frame has one right answer, or must fit. A refusal leaves the state as it was; a
-    /// legal step uses up one of the work left, and a legal run its length.
+    /// legal step uses up one of the work left, and a legal run its length; a start has it all.
     fn check(&mut self, trial: &Trial, answer: &Answer) {
         let (frame, verdict) = (self.frames, &answer.verdict);
         let legal = verdict.number == LEGAL;
@@ -122,6 +126,9 @@ impl TrialCounts {
                 self.faults.push(format!("frame {frame}: the work left"));
             }
         }
+        if trial.job == Job::Start && !is_start(answer) {
+            self.faults.push(format!("frame {frame}: the start"));
+        }
         if trial.job == Job::Bytes && answer.work.is_err() {
             self.faults
                 .push(format!("frame {frame}: no work for a case as read"));
@@ -133,7 +140,7 @@ impl Counts<Trial> for TrialCounts {
     fn take(&mut self, trial: &Trial) {
         let answer = answer(trial);
         self.frames += 1;
-        self.take_number(&answer);
+        self.take_number(trial, &answer);
         self.take_clause(&answer);
         for (sort, count) in SORTS.iter().zip(&mut self.sorts) {
             *count += u64::from((sort.told)(trial, &answer));
@@ -175,6 +182,17 @@ impl Counts<Trial> for TrialCounts {
     fn wrong(&self) -> Vec<String> {
         self.faults.clone()
     }
+}
+
+/// The first contents of the case, none where 32 stops it, and nothing else.
+fn is_start(answer: &Answer) -> bool {
+    let first = match answer.verdict.number {
+        LEGAL => answer.case.first,
+        _ => [0; 8],
+    };
+    let words: Vec<u8> = first.iter().flat_map(|word| word.to_le_bytes()).collect();
+    let bytes = raw::encode(&answer.verdict.state);
+    bytes[..32] == words[..] && bytes[32..].iter().all(|&byte| byte == 0)
 }
 
 /// Whether the frame changes a field of its case.

@@ -9,6 +9,8 @@ pub const MOST_INPUT: u32 = 2048;
 /// What a frame's first number has above its job: no frame of the other stream begins with so high a number.
 pub const MACHINE: u32 = 1 << 31;
 
+const START: u32 = 4;
+
 #[derive(Clone, Debug, PartialEq, Eq)]
 pub enum Job {
     /// Job 0: judge the input bytes.
@@ -17,6 +19,8 @@ pub enum Job {
     Case,
     /// Job 2: a single step, given with the bytes of a state.
     Step(Step, Vec<u8>),
+    /// Job 4: the start of the case in memory. Job 3 is the question's stream.
+    Start,
 }
 
 #[derive(Clone, Debug, PartialEq, Eq)]
@@ -33,6 +37,7 @@ impl Trial {
             Job::Bytes => 0,
             Job::Case => 1,
             Job::Step(..) => 2,
+            Job::Start => START,
         };
         let length = self.input.len() as u32;
         for number in [MACHINE + job, length, self.field, self.value] {
@@ -52,23 +57,16 @@ impl Trial {
             Some(head) => head,
             None => return Ok(None),
         };
-        if first < MACHINE || first > MACHINE + 2 || length > MOST_INPUT {
+        if length > MOST_INPUT {
             return Err(bad_frame());
         }
         let input = read_part(stream, length as usize)?;
-        let job = match first - MACHINE {
-            0 => Job::Bytes,
-            1 => Job::Case,
-            _ => {
-                let fields = read_part(stream, 4)?;
-                let step = Step {
-                    thread: fields[0],
-                    code: fields[1],
-                    position: fields[2],
-                    location: fields[3],
-                };
-                Job::Step(step, read_part(stream, STATE_BYTES)?)
-            }
+        let job = match first.checked_sub(MACHINE) {
+            Some(0) => Job::Bytes,
+            Some(1) => Job::Case,
+            Some(2) => read_step(stream)?,
+            Some(START) => Job::Start,
+            _ => return Err(bad_frame()),
         };
         Ok(Some(Trial {
             job,
@@ -77,4 +75,16 @@ impl Trial {
             value,
         }))
     }
+}
+
+/// What stands behind the input of a frame of job 2.
+fn read_step(stream: &mut impl Read) -> io::Result<Job> {
+    let fields = read_part(stream, 4)?;
+    let step = Step {
+        thread: fields[0],
+        code: fields[1],
+        position: fields[2],
+        location: fields[3],
+    };
+    Ok(Job::Step(step, read_part(stream, STATE_BYTES)?))
 }

@@ -16,8 +16,8 @@ const fn family(name: &'static str, least: u64) -> Family {
     Family { name, least }
 }
 
-/// Of two numbers the first is the expected one; `script` and `step` are by construction.
-pub const FAMILIES: [Family; 86] = [
+/// Of two numbers the first is the expected one; `script`, `step` and `start` are by construction.
+pub const FAMILIES: [Family; 88] = [
     family("legal run", 1500),
     family("run: rule 21", 150),
     family("run: rule 22", 150),
@@ -103,6 +103,8 @@ pub const FAMILIES: [Family; 86] = [
     family("5+rule", 100),
     family("8+rule", 100),
     family("33: any bytes", 100),
+    family("start: case as read", 300),
+    family("start: reading refused", 100),
     family("32: a count out of range", 500),
 ];
 

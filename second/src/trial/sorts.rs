@@ -9,10 +9,11 @@ use crate::machine::judge::LEGAL;
 use crate::machine::state::State;
 use crate::tally::{sort, Sort};
 
-pub const SORTS: [Sort<fn(&Trial, &Answer) -> bool>; 32] = [
+pub const SORTS: [Sort<fn(&Trial, &Answer) -> bool>; 38] = [
     sort("job 0", 3000, |t, _| t.job == Job::Bytes),
     sort("job 1", 2000, |t, _| t.job == Job::Case),
     sort("job 2", 6000, |_, a| a.given.is_some()),
+    sort("job 4", 1500, |t, _| t.job == Job::Start),
     sort("input empty", 20, |t, _| t.input.is_empty()),
     sort("input of 1,328 bytes", 50, |t, _| t.input.len() == 1328),
     sort("input of 2,048 bytes", 20, |t, _| t.input.len() == 2048),
@@ -48,6 +49,22 @@ pub const SORTS: [Sort<fn(&Trial, &Answer) -> bool>; 32] = [
     }),
     sort("case changed, run refused: 32", 300, |t, a| {
         t.job == Job::Case && changes(t) && a.verdict.number == 32
+    }),
+    sort("case changed, start handed out", 300, |t, a| {
+        t.job == Job::Start && changes(t) && a.verdict.number == LEGAL
+    }),
+    sort("case changed, start refused: 32", 300, |t, a| {
+        t.job == Job::Start && changes(t) && a.verdict.number == 32
+    }),
+    sort("start with first contents", 600, |t, a| {
+        t.job == Job::Start && a.verdict.number == LEGAL && a.case.first != [0; 8]
+    }),
+    sort("start, a first content changed", 100, |t, a| {
+        let of_first = t.job == Job::Start && (3..11).contains(&t.field);
+        of_first && a.verdict.number == LEGAL && t.value != 0
+    }),
+    sort("start: 32 despite first contents", 200, |t, a| {
+        t.job == Job::Start && a.verdict.number == 32 && a.case.first != [0; 8]
     }),
     sort("case changed, step judged", 100, |t, a| {
         a.given.is_some() && changes(t) && a.verdict.number != 32

@@ -29,6 +29,9 @@ number-requires-3 c κs = search needs
 number-requires-4 : tie.Need-number-requires-4
 number-requires-4 c κs = search needs
 
+part-requires : tie.Need-part-requires
+part-requires c κs = search needs
+
 changed-requires : tie.Need-changed-requires
 changed-requires c κs = search needs
 
@@ -74,6 +77,7 @@ answer-spec =
     offset-requires
     number-requires-3
     number-requires-4
+    part-requires
     changed-requires
     array-borrow-prefix-lent
     slice-aggregate-write

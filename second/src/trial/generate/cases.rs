@@ -123,7 +123,7 @@ pub fn some(random: &mut Random) -> Vec<Trial> {
     trials
 }
 
-fn run_to_change(random: &mut Random) -> Trial {
+pub fn run_to_change(random: &mut Random) -> Trial {
     let mut case = any(random);
     dress(random, &mut case);
     let length = random.below(97);
@@ -138,8 +138,13 @@ fn run_to_change(random: &mut Random) -> Trial {
 }
 
 /// The many steps must not crowd out the other fields.
-fn change(random: &mut Random, trial: &mut Trial) {
+pub fn change(random: &mut Random, trial: &mut Trial) {
     let (first, end) = random.pick(&[(0, 15), (15, 143), (15, 143), (143, 164), (164, FIELDS_END)]);
+    change_in(random, trial, first, end);
+}
+
+/// One of the fields from the first on, the end left out.
+pub fn change_in(random: &mut Random, trial: &mut Trial, first: u32, end: u32) {
     trial.field = first + random.below((end - first) as usize) as u32;
     let held = slot(&mut read(&trial.input).case, trial.field).map_or(0, |slot| slot.get());
     let any = word(random);

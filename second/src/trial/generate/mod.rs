@@ -10,6 +10,7 @@ pub mod runs;
 mod scene;
 mod script;
 mod scripts;
+mod starts;
 mod steps;
 
 use super::frame::Trial;
@@ -18,7 +19,7 @@ use crate::generate::{hand_out, Part, Take};
 use std::io;
 
 /// Made once, whatever the number of frames asked for.
-const ONCE: [Part<Trial>; 12] = [
+const ONCE: [Part<Trial>; 13] = [
     runs::every_length,
     runs::filled,
     runs::ended_by_each_rule,
@@ -26,6 +27,7 @@ const ONCE: [Part<Trial>; 12] = [
     cases::refused,
     cases::longest,
     cases::changed,
+    starts::all,
     steps::all,
     steps::everywhere,
     misfits::all,
@@ -34,10 +36,11 @@ const ONCE: [Part<Trial>; 12] = [
 ];
 
 /// Made in turn until there are enough frames.
-const AGAIN: [Part<Trial>; 8] = [
+const AGAIN: [Part<Trial>; 9] = [
     runs::some,
     scripts::some,
     cases::some,
+    starts::some,
     steps::some,
     steps::anywhere,
     misfits::some,

@@ -1,4 +1,5 @@
--- `bytes` is safe and ends. The loop's invariant: the text keeps its length. Assumes nothing.
+-- `bytes` is safe and ends. The loop's invariant: the count is that of the bytes, and the text keeps its
+-- length. Assumes nothing.
 use Prim.Native.Nat.{_*_, _≤_, _-_}
 use mathlib.Core.Path.{_≡_, sym}
 use lib.ListN.{length}
@@ -9,16 +10,17 @@ use Rattle.batch.proofs.print.bytes.Statement.{statement}
 use Rattle.batch.proofs.print.bytes.Tie as tie
 
 abbrev Inv-loop : tie.InvT-loop
-Inv-loop count lent text₀ i₀ text i = (i ≤ count) × (count ≤ mostRoom) × (length text ≡ 2 * mostRoom)
+Inv-loop part count text₀ i₀ text i =
+    (i ≤ count) × (count ≡ length part) × (count ≤ mostRoom) × (length text ≡ 2 * mostRoom)
 
 abbrev μ-loop : tie.MeasureT-loop
-μ-loop count lent text₀ i₀ text i = count - i
+μ-loop part count text₀ i₀ text i = count - i
 
 loop-holds : tie.Need-loop-holds Inv-loop μ-loop
 loop-holds c = search needs
 
-array-read-b : tie.Need-array-read-b Inv-loop μ-loop
-array-read-b c = search needs
+shared-slice-read-b : tie.Need-shared-slice-read-b Inv-loop μ-loop
+shared-slice-read-b c = search needs
 
 glyph-requires : tie.Need-glyph-requires Inv-loop μ-loop
 glyph-requires c κs = search needs
@@ -72,7 +74,7 @@ bytes-spec =
     Inv-loop
     μ-loop
     loop-holds
-    array-read-b
+    shared-slice-read-b
     glyph-requires
     mul-text
     array-write-text

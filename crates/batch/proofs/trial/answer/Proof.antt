@@ -35,11 +35,17 @@ judge-case-requires c κs = search needs
 returns-2 : tie.Need-returns-2
 returns-2 c = search needs
 
-take-step-requires : tie.Need-take-step-requires
-take-step-requires c κs = search needs
+start-case-requires : tie.Need-start-case-requires
+start-case-requires c κs = search needs
 
 returns-3 : tie.Need-returns-3
 returns-3 c = search needs
+
+take-step-requires : tie.Need-take-step-requires
+take-step-requires c κs = search needs
+
+returns-4 : tie.Need-returns-4
+returns-4 c = search needs
 
 pub answer-spec : {M : Type 1} → statement M
 answer-spec =
@@ -55,5 +61,7 @@ answer-spec =
     changed-requires
     judge-case-requires
     returns-2
+    start-case-requires
+    returns-3
     take-step-requires
-    returns-3)
+    returns-4)
