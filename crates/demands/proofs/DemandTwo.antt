@@ -138,7 +138,7 @@ pub written-reads-back : (c : Case) (out : List ℕ) (n : ℕ)
     → readOf (take n (writtenOf c out)) ≡ record { answer = Whole n; case = c }
 written-reads-back = Cases.written-reads
 
--- "and the same bytes.": of any bytes that read, the writer stores the case wherever they fit, and it stores them
+-- "and the same bytes.": the case that bytes read as is stored wherever they fit, as these very bytes
 pub read-writes-back : (s : List ℕ) → IsBytes s
     → numberOf (readOf s .answer) ≡ 0
     → (out : List ℕ) → length s ≤ length out
