@@ -239,7 +239,13 @@ fn raw_one(programs: &Programs, options: &Options, given: &Given) -> Result<u8, 
             output::print(format!("{line}\n").as_bytes())
         },
     )?;
-    Ok(status)
+    match is_first {
+        true => Err(Trouble::ProgramEnded(
+            program.to_string(),
+            "it printed nothing".to_string(),
+        )),
+        false => Ok(status),
+    }
 }
 
 fn raw_status(line: &str) -> u8 {

@@ -1,16 +1,17 @@
 // Answers a stream of frames from standard input, a line each: how the frame's bytes read, and how the case
 // that comes of them is written; how its run is judged, a single step ruled, or where it starts; or what its
 // question is answered. second/README.md has the frames and the lines; the second judge answers the same stream.
+// Where standard input cannot be read the stream ends, and standard error says why.
 use crate::print::ROOM;
 use cases::reader;
 use cases::writer;
-use libc::STDIN_FILENO;
 
 mod asked;
 mod change;
 mod numbers;
 mod print;
 mod state;
+mod stream;
 mod trial;
 
 ghost use Prim.Native.Nat.{_+_, _≤_};
@@ -72,7 +73,7 @@ fn case_frame(head: [u8; HEAD]) -> bool {
         return false;
     }
     let mut input = io::large_buffer();
-    if io::read_full(STDIN_FILENO, &mut input[..n]) < n {
+    if !stream::fills(&mut input[..n]) {
         return false;
     }
     answer_first(
@@ -92,7 +93,7 @@ fn machine_frame(head: [u8; HEAD], job: u32) -> bool {
         return false;
     }
     let mut input = io::large_buffer();
-    if io::read_full(STDIN_FILENO, &mut input[..n]) < n {
+    if !stream::fills(&mut input[..n]) {
         return false;
     }
     let third = number_at(head, 8) as usize;
@@ -106,7 +107,7 @@ fn machine_frame(head: [u8; HEAD], job: u32) -> bool {
 // Answers one frame; false where the stream has ended.
 fn frame() -> bool {
     let mut head = [0u8; HEAD];
-    if io::read_full(STDIN_FILENO, &mut head) < HEAD {
+    if !stream::fills(&mut head) {
         return false;
     }
     let first = number_at(head, 0);

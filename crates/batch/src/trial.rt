@@ -5,11 +5,11 @@ use crate::print;
 use crate::print::ROOM;
 use crate::state;
 use crate::state::STATE_BYTES;
+use crate::stream;
 use cases::case::Case;
 use cases::case::Location;
 use cases::case::Step;
 use cases::case::Thread;
-use libc::STDIN_FILENO;
 use libc::STDOUT_FILENO;
 use machine::cells::State;
 use machine::runs;
@@ -80,11 +80,11 @@ fn start_case(c: Case) {
 // Takes a single step in a state in memory; false where the stream ends before it.
 fn take_step(c: Case) -> bool {
     let mut fields = [0u8; 4];
-    if io::read_full(STDIN_FILENO, &mut fields) < 4 {
+    if !stream::fills(&mut fields) {
         return false;
     }
     let mut raw = [0u8; ROOM];
-    if io::read_full(STDIN_FILENO, &mut raw[..STATE_BYTES]) < STATE_BYTES {
+    if !stream::fills(&mut raw[..STATE_BYTES]) {
         return false;
     }
     let k = Step {

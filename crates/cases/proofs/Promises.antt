@@ -11,6 +11,7 @@ use native.Mathlib.Omega.{arith}
 use Rattle.cases.specs.declared.case.Step.{Step}
 use Rattle.cases.specs.declared.case.Case.{Case}
 use Rattle.cases.specs.declared.draft.Draft.{Draft}
+use Rattle.cases.specs.declared.record.Record.{Record}
 use Rattle.cases.specs.declared.reader.Answer.the-variants.{Whole}
 use Rattle.cases.specs.declared.writer.Wrote.the-variants.{Stored, Untouched}
 use Rattle.cases.specs.Sizes.{mostSteps, longest, longestRecord, stepSize}
@@ -31,7 +32,7 @@ use Rattle.cases.proofs.BytewiseLaws.{sound-bytes}
 use Rattle.cases.proofs.RangeLaws.{sound-ranged}
 use Rattle.cases.proofs.RunLaws.{steps-length, file-more}
 use Rattle.cases.proofs.RerunLaws.{run-steps, other-readable}
-use Rattle.cases.proofs.WriteLaws.{stored-is, untouched-is}
+use Rattle.cases.proofs.WriteLaws.{stored-as, stored-is, untouched-is}
 use Rattle.cases.proofs.SameLaws.{case-is, case-self}
 
 -- Reading any bytes at all
@@ -91,6 +92,18 @@ module _ (n : ℕ) (d : Draft) (at : ℕ) (s : List ℕ) (some : length s ≢ 0)
       ≡ readFrom n (addOf d (recordOf (half s 2) s)) (at + sizeOf s) (drop (sizeOf s) s)
   sound-goes-on = ReadLaws.sound-goes-on n d at s some
 
+-- "Records run to the end of the input." Where it ends before any record it is refused, since one must start
+-- there; where it ends behind one, reading succeeds with its length and the case so far
+pub nothing-given-refused : readOf [] ≡ refusedOf 1 0
+nothing-given-refused = ReadLaws.nothing-given-refused
+
+pub end-behind-a-record-succeeds : (n : ℕ) (d : Draft) (at : ℕ) → d .kind ≢ 0
+    → readFrom (suc n) d at [] ≡ record { answer = Whole at; case = d .case }
+end-behind-a-record-succeeds = ReadLaws.end-behind-a-record-succeeds
+
+pub record-is-behind : (d : Draft) (r : Record) → addOf d r .kind ≢ 0
+record-is-behind = ReadLaws.record-is-behind
+
 -- "A case written and read back is the same case, and the same bytes."
 -- any bytes that read give, written, the same bytes
 pub write-after-read : (s : List ℕ) → IsBytes s → numberOf (readOf s .answer) ≡ 0
@@ -102,6 +115,13 @@ pub read-reads-back : (s : List ℕ) → IsBytes s → numberOf (readOf s .answe
     → readsBack (readOf s .case) ≡ true
 unfolding readsBack readsAs both
 read-reads-back s b h = rw (write-after-read s b h, eq-eqb _ 0 h) (case-self (readOf s .case))
+
+-- so the writer does not refuse it, and stores those very bytes, wherever they fit
+pub read-writes : (s : List ℕ) → IsBytes s → numberOf (readOf s .answer) ≡ 0
+    → (out : List ℕ) → length s ≤ length out
+    → (wroteOf (readOf s .case) out ≡ Stored (length s))
+    × (writtenOf (readOf s .case) out ≡ s ++ drop (length s) out)
+read-writes s b h out room = stored-as (readOf s .case) out (read-reads-back s b h) s (write-after-read s b h) room
 
 -- a case that is handed out with 0 has every number in range
 pub read-ranged : (s : List ℕ) → numberOf (readOf s .answer) ≡ 0 → Ranged (readOf s .case)

@@ -1,21 +1,26 @@
--- Laws of `readFrom`: one law for all that a turn of reading may come to, and which record decides.
+-- Laws of `readFrom`: one law for all that a turn of reading may come to, which record decides, and what the end
+-- of the input does.
 --   asRecord t   the record that t starts with
 --   behind t     what stands behind that record
 -- Assumes nothing.
 use Prim.Native.Nat.{ℕ, zero, suc, _+_}
 use mathlib.Core.Path.{_≡_, refl, sym, ap}
 use mathlib.Core.Logic.{_≢_}
-use mathlib.Core.List.{List}
+use mathlib.Core.List.{List, []}
 use lib.ListN.{length, drop}
+use borrow.Author.Tests.{ne-eqb}
 use native.Mathlib.Omega.{arith}
 use Rattle.cases.specs.declared.draft.Draft.{Draft}
 use Rattle.cases.specs.declared.record.Record.{Record}
+use Rattle.cases.specs.declared.record.Record.the-variants.{Declare, First, Instruct, Want, Passed, Take}
+use Rattle.cases.specs.declared.reader.Answer.the-variants.{Whole}
 use Rattle.cases.specs.declared.reader.Reading.{Reading}
+use Rattle.cases.specs.Choice.{pick}
 use Rattle.cases.specs.Bytes.{half}
 use Rattle.cases.specs.Record.{recordOf, openNo, sizeOf}
 use Rattle.cases.specs.Checks.{faultOf}
-use Rattle.cases.specs.Draft.{addOf}
-use Rattle.cases.specs.Reading.{refusedOf, endedOf, readFrom}
+use Rattle.cases.specs.Draft.{blankDraft, addOf}
+use Rattle.cases.specs.Reading.{refusedOf, endedOf, readFrom, readOf}
 
 abbrev pub asRecord : List ℕ → Record
 asRecord t = recordOf (half t 2) t
@@ -83,3 +88,22 @@ module _ (n : ℕ) (d : Draft) (at : ℕ) (t : List ℕ) (some : length t ≢ 0)
         (λ m h o. absurd (let z = opens in omega arith))
         (λ m h o f. absurd (let z = sound in omega arith))
         (λ h o f. refl)
+
+-- the input ends: nothing was given; a record came before; and a record that was added is one that came before
+pub nothing-given-refused : readOf [] ≡ refusedOf 1 0
+unfolding readOf readFrom endedOf blankDraft pick
+nothing-given-refused = refl
+
+pub end-behind-a-record-succeeds : (n : ℕ) (d : Draft) (at : ℕ) → d .kind ≢ 0
+    → readFrom (suc n) d at [] ≡ record { answer = Whole at; case = d .case }
+unfolding readFrom endedOf pick
+end-behind-a-record-succeeds n d at came = rw (ne-eqb (d .kind) 0 came)
+
+pub record-is-behind : (d : Draft) (r : Record) → addOf d r .kind ≢ 0
+unfolding addOf
+record-is-behind d (Declare h) e = omega arith
+record-is-behind d (First w) e = omega arith
+record-is-behind d (Instruct t x) e = omega arith
+record-is-behind d (Want w) e = omega arith
+record-is-behind d (Passed t n) e = omega arith
+record-is-behind d (Take k) e = omega arith

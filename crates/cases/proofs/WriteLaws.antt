@@ -89,6 +89,13 @@ module _ (c : Case) (out : List ℕ) where
       rw (readable, le-ltb (length out) (length (encodeOf c)) (omega arith)) e,
     )
 
+  -- a readable case whose file is known, into bytes that it fits into
+  pub stored-as : readsBack c ≡ true → (s : List ℕ) → encodeOf c ≡ s → length s ≤ length out
+      → (wroteOf c out ≡ Stored (length s)) × (writtenOf c out ≡ s ++ drop (length s) out)
+  stored-as readable s file h =
+      let w = write-whole readable (length s) (ap length (sym file)) h _ refl in
+      (sym (w .0), sym (w .1) ∙ ap (λ (t : List ℕ). t ++ drop (length t) out) file)
+
   -- back from the answer: what was stored
   abbrev WasStored : ℕ → Type 0
   WasStored n =

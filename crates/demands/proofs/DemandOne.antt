@@ -4,7 +4,7 @@ use Prim.Native.Nat.{ℕ, suc, _+_, _-_, _*_, _≤_}
 use mathlib.Core.Path.{_≡_, refl}
 use mathlib.Core.Logic.{_⊎_, _≢_, _↔_}
 use mathlib.Core.Bool.{true, false, not}
-use mathlib.Core.List.{List}
+use mathlib.Core.List.{List, []}
 use lib.ListN.{length, drop}
 use lib.Dec.{eqb, ltb}
 use Rattle.cases.specs.declared.case.Step.{Step}
@@ -12,6 +12,7 @@ use Rattle.cases.specs.declared.case.Case.{Case}
 use Rattle.cases.specs.declared.draft.Draft.{Draft}
 use Rattle.cases.specs.declared.record.Record.{Record}
 use Rattle.cases.specs.declared.record.Record.the-variants.{Declare, First, Instruct, Want, Passed, Take}
+use Rattle.cases.specs.declared.reader.Answer.the-variants.{Whole}
 use Rattle.cases.specs.declared.writer.Wrote.the-variants.{Stored, Untouched}
 use Rattle.cases.specs.Choice.{pick, refuse}
 use Rattle.cases.specs.Bytes.{IsBytes, half}
@@ -77,6 +78,19 @@ module _ (n : ℕ) (d : Draft) (at : ℕ) (s : List ℕ) (some : length s ≢ 0)
       → readFrom (suc n) d at s
       ≡ readFrom n (addOf d (recordOf (half s 2) s)) (at + sizeOf s) (drop (sizeOf s) s)
   sound-record-passes = Cases.sound-goes-on n d at s some
+
+-- and where the input ends: before any record it is refused, by 1 at its start; behind a record, and so behind
+-- every one that was added, reading succeeds with the length and the case so far
+pub nothing-given-refused : readOf [] ≡ refusedOf 1 0
+nothing-given-refused = Cases.nothing-given-refused
+
+pub end-behind-a-record-succeeds : (n : ℕ) (d : Draft) (at : ℕ)
+    → d .kind ≢ 0
+    → readFrom (suc n) d at [] ≡ record { answer = Whole at; case = d .case }
+end-behind-a-record-succeeds = Cases.end-behind-a-record-succeeds
+
+pub record-is-behind : (d : Draft) (r : Record) → addOf d r .kind ≢ 0
+record-is-behind = Cases.record-is-behind
 
 -- a record opens, 1 (head), 2, 3, 1 (payload)
 pub order-of-opening : (s : List ℕ)

@@ -138,8 +138,10 @@ pub written-reads-back : (c : Case) (out : List ℕ) (n : ℕ)
     → readOf (take n (writtenOf c out)) ≡ record { answer = Whole n; case = c }
 written-reads-back = Cases.written-reads
 
--- "and the same bytes."
+-- "and the same bytes.": the case that bytes read as is stored wherever they fit, as these very bytes
 pub read-writes-back : (s : List ℕ) → IsBytes s
     → numberOf (readOf s .answer) ≡ 0
-    → encodeOf (readOf s .case) ≡ s
-read-writes-back = Cases.write-after-read
+    → (out : List ℕ) → length s ≤ length out
+    → (wroteOf (readOf s .case) out ≡ Stored (length s))
+    × (writtenOf (readOf s .case) out ≡ s ++ drop (length s) out)
+read-writes-back = Cases.read-writes

@@ -12,6 +12,7 @@ use Rattle.cases.specs.declared.case.Program.{Program}
 use Rattle.cases.specs.declared.case.Ask.{Ask}
 use Rattle.cases.specs.declared.case.Case.{Case}
 use Rattle.cases.specs.declared.reader.Reading.{Reading}
+use Rattle.cases.specs.declared.writer.Wrote.the-variants.{Untouched}
 use Rattle.cases.specs.Sizes.{mostSteps, stepSize}
 use Rattle.cases.specs.Choice.{pick, refuse}
 use Rattle.cases.specs.Bytes.{IsBytes, half}
@@ -19,7 +20,7 @@ use Rattle.cases.specs.Record.{payloadOf, openNo}
 use Rattle.cases.specs.Draft.{noStep, runWith, withRun}
 use Rattle.cases.specs.Reading.{numberOf, refusedOf, readFrom, readOf}
 use Rattle.cases.specs.Seats.{encodeOf}
-use Rattle.cases.specs.Writing.{readsBack, writtenOf}
+use Rattle.cases.specs.Writing.{readsBack, wroteOf, writtenOf}
 use Rattle.cases.proofs.Promises.{read-after-write}
 use Rattle.machine.specs.declared.cells.State.{State}
 use Rattle.machine.specs.declared.runs.Verdict.the-variants.{Legal, Illegal}
@@ -116,3 +117,12 @@ not-nothing-written e =
     = ap (λ (x : List ℕ). numberOf (readOf (take 44 x) .answer)) (sym e)
     ∙ ap (λ (r : Reading). numberOf (r .answer)) back in
     absurd (omega arith)
+
+-- and one that always refuses: a case that was read is not refused where its bytes fit
+pub not-refused-where-it-fits : (s : List ℕ) → IsBytes s → numberOf (readOf s .answer) ≡ 0
+    → (out : List ℕ) → length s ≤ length out
+    → (m : ℕ) → wroteOf (readOf s .case) out ≢ Untouched m
+not-refused-where-it-fits s bytes read out room m e =
+    let w = sym (DemandTwo.read-writes-back s bytes read out room .0) ∙ e in
+    let z : _≡_ {A = ℕ} 0 1 = cc in
+    omega arith

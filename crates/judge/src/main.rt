@@ -1,7 +1,8 @@
 // Judges the run of a case from standard input, of any length: LEGAL and the number of steps, then a line
 // `location word` for each location of the program; ILLEGAL, the index and the rule; or REFUSED, the number and
-// the offset.
+// the offset. Where standard input cannot be read it says so on standard error, and nothing else.
 use cases::sizes::LOCATIONS;
+use input::Filled;
 use libc::STDIN_FILENO;
 use libc::STDOUT_FILENO;
 use machine::cells::State;
@@ -28,23 +29,30 @@ fn say_words(s: State, locations: u8) {
     }
 }
 
-fn main() {
-    // Reading looks at no byte behind 1,340, so that a fixed buffer answers for an input of any length.
-    let mut input = io::large_buffer();
-    let n = io::read_full(STDIN_FILENO, &mut input);
-    let judged = machine::judge_bytes(&input[..n]);
+fn answer(bytes: &[u8]) {
+    let judged = machine::judge_bytes(bytes);
     let verdict = judged.verdict;
     match verdict {
         Verdict::Legal(steps) => {
             io::write_all(STDOUT_FILENO, b"LEGAL ");
             io::print_decimal(STDOUT_FILENO, steps as u64);
             io::write_all(STDOUT_FILENO, b"\n");
-            let reading = cases::read(&input[..n]);
+            let reading = cases::read(bytes);
             let case = reading.case;
             let program = case.program;
             say_words(judged.state, program.locations);
         }
         Verdict::Illegal(rule, index) => say(b"ILLEGAL ", index, rule as usize),
         Verdict::Refused(number, offset) => say(b"REFUSED ", number as usize, offset),
+    }
+}
+
+fn main() {
+    // Reading looks at no byte behind 1,340, so that a fixed buffer answers for an input of any length.
+    let mut lent = io::large_buffer();
+    let filled = input::fill(STDIN_FILENO, &mut lent);
+    match filled {
+        Filled::Bytes(n) => answer(&lent[..n]),
+        Filled::Failed => input::say_failed(b"judge"),
     }
 }

@@ -1,10 +1,12 @@
 // Asks the question of a case from standard input, of any length: REACHED and the number of steps, then the run
-// that reaches, a step a line; UNREACHABLE; UNDECIDED; or REFUSED, the number and the offset.
+// that reaches, a step a line; UNREACHABLE; UNDECIDED; or REFUSED, the number and the offset. Where standard
+// input cannot be read it says so on standard error, and nothing else.
 use cases::operations::ISSUE;
 use cases::operations::MOVE;
 use cases::operations::PERSIST;
 use cases::sizes::STEP_SIZE;
 use cases::sizes::STEPS;
+use input::Filled;
 use libc::STDIN_FILENO;
 use libc::STDOUT_FILENO;
 use search::ask::Outcome;
@@ -49,12 +51,9 @@ fn say_run(run: [u8; ROOM], count: usize) {
     }
 }
 
-fn main() {
-    // Reading looks at no byte behind 1,340, so that a fixed buffer answers for an input of any length.
-    let mut input = io::large_buffer();
-    let n = io::read_full(STDIN_FILENO, &mut input);
+fn answer(bytes: &[u8]) {
     let mut run = [0u8; ROOM];
-    let outcome = search::question(&input[..n], &mut run, BUDGET);
+    let outcome = search::question(bytes, &mut run, BUDGET);
     match outcome {
         Outcome::Reached(count) => {
             say(b"REACHED ", count as u64);
@@ -72,5 +71,15 @@ fn main() {
             say(b" ", offset as u64);
             io::write_all(STDOUT_FILENO, b"\n");
         }
+    }
+}
+
+fn main() {
+    // Reading looks at no byte behind 1,340, so that a fixed buffer answers for an input of any length.
+    let mut lent = io::large_buffer();
+    let filled = input::fill(STDIN_FILENO, &mut lent);
+    match filled {
+        Filled::Bytes(n) => answer(&lent[..n]),
+        Filled::Failed => input::say_failed(b"question"),
     }
 }

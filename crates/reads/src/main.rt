@@ -1,14 +1,12 @@
 // Reads a case from standard input, of any length, and says what it is: READ and its length, or REFUSED, the
-// number and the offset.
+// number and the offset. Where standard input cannot be read it says so on standard error, and nothing else.
 use cases::reader::Answer;
+use input::Filled;
 use libc::STDIN_FILENO;
 use libc::STDOUT_FILENO;
 
-fn main() {
-    // Reading looks at no byte behind 1,340, so that a fixed buffer answers for an input of any length.
-    let mut input = io::large_buffer();
-    let n = io::read_full(STDIN_FILENO, &mut input);
-    let r = cases::read(&input[..n]);
+fn answer(bytes: &[u8]) {
+    let r = cases::read(bytes);
     let answer = r.answer;
     match answer {
         Answer::Whole(length) => {
@@ -23,4 +21,14 @@ fn main() {
         }
     }
     io::write_all(STDOUT_FILENO, b"\n");
+}
+
+fn main() {
+    // Reading looks at no byte behind 1,340, so that a fixed buffer answers for an input of any length.
+    let mut lent = io::large_buffer();
+    let filled = input::fill(STDIN_FILENO, &mut lent);
+    match filled {
+        Filled::Bytes(n) => answer(&lent[..n]),
+        Filled::Failed => input::say_failed(b"reads"),
+    }
 }

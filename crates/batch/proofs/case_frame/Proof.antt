@@ -29,11 +29,11 @@ large-buffer-requires c κs = search needs
 array-borrow-prefix-input : tie.Need-array-borrow-prefix-input
 array-borrow-prefix-input c = search needs
 
-slice-aggregate-read-full : tie.Need-slice-aggregate-read-full
-slice-aggregate-read-full c = sym (length-take-le _ _ (search needs))
+slice-aggregate-fills : tie.Need-slice-aggregate-fills
+slice-aggregate-fills c = sym (length-take-le _ _ (search needs))
 
-read-full-requires : tie.Need-read-full-requires
-read-full-requires c κs = search needs
+fills-requires : tie.Need-fills-requires
+fills-requires c κs = search needs
 
 returns-3 : tie.Need-returns-3
 returns-3 c = search needs
@@ -65,8 +65,8 @@ case-frame-spec =
     returns-2
     large-buffer-requires
     array-borrow-prefix-input
-    slice-aggregate-read-full
-    read-full-requires
+    slice-aggregate-fills
+    fills-requires
     returns-3
     number-at-requires-3
     cast-answer-first

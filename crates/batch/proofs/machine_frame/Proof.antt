@@ -20,11 +20,11 @@ large-buffer-requires c κs = search needs
 array-borrow-prefix-input : tie.Need-array-borrow-prefix-input
 array-borrow-prefix-input c = search needs
 
-slice-aggregate-read-full : tie.Need-slice-aggregate-read-full
-slice-aggregate-read-full c = sym (length-take-le _ _ (search needs))
+slice-aggregate-fills : tie.Need-slice-aggregate-fills
+slice-aggregate-fills c = sym (length-take-le _ _ (search needs))
 
-read-full-requires : tie.Need-read-full-requires
-read-full-requires c κs = search needs
+fills-requires : tie.Need-fills-requires
+fills-requires c κs = search needs
 
 returns-2 : tie.Need-returns-2
 returns-2 c = search needs
@@ -59,8 +59,8 @@ machine-frame-spec =
     returns
     large-buffer-requires
     array-borrow-prefix-input
-    slice-aggregate-read-full
-    read-full-requires
+    slice-aggregate-fills
+    fills-requires
     returns-2
     number-at-requires-2
     cast-third

@@ -1,0 +1,2 @@
+-- What the contracts of input name.
+pub mod Filled
