@@ -74,22 +74,6 @@ module _ (s : State) (z : Sized s) (l : ℕ) where
   unfolding queueIn marksIn
   marks-are = marks-slots _ _ alike
 
--- a state is its arrays
-abbrev stateOf : (words held marks lengths : List ℕ) (buffers : List Waiting)
-    (waiting registers issued : List ℕ)
-    → State
-stateOf words held marks lengths buffers waiting registers issued =
-    record {
-      words = words;
-      held = held;
-      marks = marks;
-      lengths = lengths;
-      buffers = buffers;
-      waiting = waiting;
-      registers = registers;
-      issued = issued;
-    }
-
 module _ (s u : State) (z : Sized s) (y : Sized u) (f : BlankBehind s) (g : BlankBehind u)
     (e : SameEntries s u) where
   same-length : (l : ℕ) → queueLen s l ≡ queueLen u l
@@ -126,19 +110,13 @@ module _ (s u : State) (z : Sized s) (y : Sized u) (f : BlankBehind s) (g : Blan
 
   pub blank-same : s ≡ u
   blank-same =
-      ap (λ x. stateOf x (s .held) (s .marks) (s .lengths) (s .buffers) (s .waiting) (s .registers)
-      (s .issued)) (e .same-words)
-      ∙ ap (λ x. stateOf (u .words) x (s .marks) (s .lengths) (s .buffers) (s .waiting) (s .registers)
-      (s .issued)) held-same
-      ∙ ap (λ x. stateOf (u .words) (u .held) x (s .lengths) (s .buffers) (s .waiting) (s .registers)
-      (s .issued)) marks-same
-      ∙ ap (λ x. stateOf (u .words) (u .held) (u .marks) x (s .buffers) (s .waiting) (s .registers)
-      (s .issued)) (e .same-lengths)
-      ∙ ap (λ x. stateOf (u .words) (u .held) (u .marks) (u .lengths) x (s .waiting) (s .registers)
-      (s .issued)) buffers-same
-      ∙ ap (λ x. stateOf (u .words) (u .held) (u .marks) (u .lengths) (u .buffers) x (s .registers)
-      (s .issued)) (e .same-waiting)
-      ∙ ap (λ x. stateOf (u .words) (u .held) (u .marks) (u .lengths) (u .buffers) (u .waiting) x (s .issued))
-      (e .same-registers)
-      ∙ ap (stateOf (u .words) (u .held) (u .marks) (u .lengths) (u .buffers) (u .waiting) (u .registers))
-      (e .same-issued)
+      λ i. record {
+        words = e .same-words i;
+        held = held-same i;
+        marks = marks-same i;
+        lengths = e .same-lengths i;
+        buffers = buffers-same i;
+        waiting = e .same-waiting i;
+        registers = e .same-registers i;
+        issued = e .same-issued i;
+      }
