@@ -6,7 +6,7 @@ use lib.ListN.{length}
 use lib.Seq.{length-take-le}
 use Rattle.io.specs.Counts.{Counts}
 use Rattle.input.specs.declared.Filled.{Filled}
-use Rattle.input.specs.declared.Filled.the-variants.{Bytes, Failed}
+use Rattle.input.specs.declared.Filled.the-variants.{Bytes}
 use Rattle.input.specs.Filled.{Within}
 
 -- a bound makes a count; a count that was told has it

@@ -1,8 +1,9 @@
 -- What reading answers.
---   Within f xs   where f is a number of bytes, so many stand at the front of xs
+--   Within f xs   a number of bytes is at most the length of xs, so that so many stand at its front; of a read
+--                 that failed nothing is said
 -- Assumes nothing.
-use mathlib.Core.List.{List}
 use Prim.Native.Nat.{ℕ}
+use mathlib.Core.List.{List}
 use Rattle.io.specs.Counts.{Counts}
 use Rattle.input.specs.declared.Filled.{Filled}
 use Rattle.input.specs.declared.Filled.the-variants.{Bytes, Failed}

@@ -17,10 +17,13 @@ enum-known-filled : tie.Need-enum-known-filled
 enum-known-filled c = search needs
 
 array-share-prefix-lent : tie.Need-array-share-prefix-lent
-array-share-prefix-lent c = within-bytes _ _ _ (c .before .filled .given .1) (c .before .before .before .before .fill .ensures) .0
+array-share-prefix-lent c =
+    within-bytes _ _ _ (c .before .filled .given .1) (c .before .before .before .before .fill .ensures) .0
 
 slice-aggregate-answer : tie.Need-slice-aggregate-answer
-slice-aggregate-answer c = within-bytes _ _ _ (c .before .before .filled .given .1) (c .before .before .before .before .before .fill .ensures) .1
+slice-aggregate-answer c =
+    within-bytes _ _ _ (c .before .before .filled .given .1)
+    (c .before .before .before .before .before .fill .ensures) .1
 
 answer-requires : tie.Need-answer-requires
 answer-requires c κs = search needs
