@@ -4,8 +4,8 @@
 --   stateBytes   a state: words, held, marks, lengths, buffers, waiting, registers, issued
 -- Assumes nothing.
 use Prim.Native.Nat.{ℕ, _+_, _*_}
-use Rattle.cases.specs.Sizes.{mostThreads, mostLocations, mostCode}
-use Rattle.machine.specs.Sizes.{mostSlots, allRegisters}
+use Rattle.cases.specs.Sizes.{mostThreads, mostLocations, allCode}
+use Rattle.machine.specs.Sizes.{allSlots, allRegisters}
 
 abbrev pub mostInput : ℕ
 mostInput = 65536
@@ -15,5 +15,5 @@ mostRoom = 2048
 
 abbrev pub stateBytes : ℕ
 stateBytes =
-    4 * mostLocations + 4 * mostSlots + mostSlots + mostLocations + 6 * mostCode
+    4 * mostLocations + 4 * allSlots + allSlots + mostLocations + 6 * allCode
     + mostThreads + 4 * allRegisters + mostThreads

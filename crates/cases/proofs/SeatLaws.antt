@@ -6,7 +6,7 @@ use borrow.Author.Tests.{lt-ltb, le-ltb, ltb-true, ltb-false}
 use native.Mathlib.Omega.{arith}
 use Rattle.cases.specs.declared.case.Case.{Case}
 use Rattle.cases.specs.declared.seats.Seat.{Seat}
-use Rattle.cases.specs.Sizes.{mostThreads, mostLocations, mostCode}
+use Rattle.cases.specs.Sizes.{mostThreads, mostLocations, allCode}
 use Rattle.cases.specs.Choice.{pick}
 use Rattle.cases.specs.Seats.{fromFirsts, fromCode, fromWants, fromPassed, fromSteps, seatOf}
 use Rattle.cases.specs.Seats.{headerSeat, firstSeat, instructionSeat, wantSeat, passedSeat}
@@ -26,7 +26,7 @@ module _ (c : Case) (k : ℕ) where
         let at : k - fromFirsts ≡ i = omega arith in
         rw (le-ltb k fromFirsts (omega arith), lt-ltb k fromCode (omega arith), at)
 
-    pub seat-code : k ≡ fromCode + i → i < mostCode → seatOf c k ≡ instructionSeat (c .program) i
+    pub seat-code : k ≡ fromCode + i → i < allCode → seatOf c k ≡ instructionSeat (c .program) i
     unfolding seatOf pick
     seat-code e h =
         let at : k - fromCode ≡ i = omega arith in
@@ -79,7 +79,7 @@ module _ (c : Case) (k : ℕ) where
 pub seat-cases {ℓ} : (P : Seat → Type ℓ) (c : Case) (j : ℕ)
     → (j ≡ 0 → P (headerSeat (c .program)))
     → ((l : ℕ) → j ≡ fromFirsts + l → l < mostLocations → P (firstSeat (c .program) l))
-    → ((m : ℕ) → j ≡ fromCode + m → m < mostCode → P (instructionSeat (c .program) m))
+    → ((m : ℕ) → j ≡ fromCode + m → m < allCode → P (instructionSeat (c .program) m))
     → ((l : ℕ) → j ≡ fromWants + l → l < mostLocations → P (wantSeat (c .ask) l))
     → ((t : ℕ) → j ≡ fromPassed + t → t < mostThreads → P (passedSeat (c .ask) t))
     → ((k : ℕ) → j ≡ fromSteps + k → P (stepSeat (c .run) k))

@@ -17,7 +17,7 @@ use Rattle.cases.specs.declared.draft.Draft.{Draft}
 use Rattle.cases.specs.declared.record.Record.{Record}
 use Rattle.cases.specs.declared.seats.Seat.{Seat}
 use Rattle.cases.specs.declared.seats.Seat.the-variants.{Holds, Empty}
-use Rattle.cases.specs.Sizes.{mostThreads, mostInstructions, mostLocations, mostSteps, mostCode}
+use Rattle.cases.specs.Sizes.{mostThreads, mostInstructions, mostLocations, mostSteps, allCode}
 use Rattle.cases.specs.Record.{recordBytes}
 use Rattle.cases.specs.Draft.{addOf}
 use Rattle.cases.specs.Seats.{fromFirsts, fromCode, fromWants, fromPassed, fromSteps}
@@ -29,7 +29,7 @@ use Rattle.cases.proofs.FitLaws.{RecordFits, SeatFits, Grown, record-gr
 pub record ProgramSized (p : Program) : Type 0 where
   pub first-long : length (p .first) ≡ mostLocations
   pub counts-long : length (p .counts) ≡ mostThreads
-  pub code-long : length (p .code) ≡ mostCode
+  pub code-long : length (p .code) ≡ allCode
   pub some-threads : 1 ≤ p .threads
   pub few-threads : p .threads ≤ mostThreads
   pub some-locations : 1 ≤ p .locations

@@ -25,7 +25,7 @@ use Rattle.cases.specs.declared.draft.Draft.{Draft}
 use Rattle.cases.specs.declared.record.Header.{Header}
 use Rattle.cases.specs.declared.record.Record.{Record}
 use Rattle.cases.specs.declared.record.Record.the-variants.{Declare, First, Instruct, Want, Passed, Take}
-use Rattle.cases.specs.Sizes.{mostThreads, mostInstructions, mostLocations, mostSteps, mostCode}
+use Rattle.cases.specs.Sizes.{mostThreads, mostInstructions, mostLocations, mostSteps, allCode}
 use Rattle.cases.specs.Checks.{countAt}
 
 abbrev pub noInstruction : Instruction
@@ -42,7 +42,7 @@ emptyCase =
         locations = 1;
         first = replicate mostLocations 0;
         counts = replicate mostThreads 0;
-        code = replicate mostCode noInstruction;
+        code = replicate allCode noInstruction;
       };
       ask = record {
         wanted = replicate mostLocations false;

@@ -4,7 +4,7 @@
 -- (thread, position 0 to 7); 2 persist (location)." Their numbers stand here and nowhere else of the
 -- definitions; src/operations.rt has the same for the code.
 --   storeWord, storeRegister, load, exchange, flush, flushOpt, sfence, mfence
---                           the operations; lastOperation: there is none behind it
+--                           the operations; firstOperation, lastOperation: there is none before, none behind it
 --   issue, move, persist    the step codes; lastCode: there is none behind it
 -- Assumes nothing.
 use Prim.Native.Nat.{ℕ}
@@ -32,6 +32,9 @@ sfence = 7
 
 abbrev pub mfence : ℕ
 mfence = 8
+
+abbrev pub firstOperation : ℕ
+firstOperation = storeWord
 
 abbrev pub lastOperation : ℕ
 lastOperation = mfence

@@ -11,13 +11,13 @@ use Rattle.cases.specs.declared.case.Case.{Case}
 use Rattle.cases.specs.declared.case.Program.{Program}
 use Rattle.cases.specs.declared.case.Instruction.{Instruction}
 use Rattle.cases.specs.Sizes.{mostThreads, mostInstructions, mostLocations}
-use Rattle.cases.specs.Sizes.{mostRegisters, mostSteps, mostCode}
-use Rattle.cases.specs.Operations.{lastOperation}
+use Rattle.cases.specs.Sizes.{mostRegisters, mostSteps, allCode}
+use Rattle.cases.specs.Operations.{firstOperation, lastOperation}
 use Rattle.cases.specs.Checks.{countAt, stepFault}
 use Rattle.cases.specs.Draft.{noInstruction, noStep}
 
 pub record InstructionFits (p : Program) (x : Instruction) : Type 0 where
-  pub some-operation : 1 ≤ x .operation
+  pub some-operation : firstOperation ≤ x .operation
   pub low-operation : x .operation ≤ lastOperation
   pub low-location : x .location .0 < p .locations
   pub low-register : x .register .0 < mostRegisters
@@ -26,7 +26,7 @@ pub record InstructionFits (p : Program) (x : Instruction) : Type 0 where
 pub record Ranged (c : Case) : Type 0 where
   pub first-long : length (c .program .first) ≡ mostLocations
   pub counts-long : length (c .program .counts) ≡ mostThreads
-  pub code-long : length (c .program .code) ≡ mostCode
+  pub code-long : length (c .program .code) ≡ allCode
   pub wanted-long : length (c .ask .wanted) ≡ mostLocations
   pub want-long : length (c .ask .want) ≡ mostLocations
   pub passed-long : length (c .ask .passed) ≡ mostThreads

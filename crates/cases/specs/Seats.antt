@@ -24,7 +24,7 @@ use Rattle.cases.specs.declared.case.Case.{Case}
 use Rattle.cases.specs.declared.record.Record.the-variants.{Declare, First, Instruct, Want, Passed, Take}
 use Rattle.cases.specs.declared.seats.Seat.{Seat}
 use Rattle.cases.specs.declared.seats.Seat.the-variants.{Holds, Empty}
-use Rattle.cases.specs.Sizes.{mostThreads, mostInstructions, mostLocations, mostSteps, mostCode}
+use Rattle.cases.specs.Sizes.{mostThreads, mostInstructions, mostLocations, mostSteps, allCode}
 use Rattle.cases.specs.Choice.{pick}
 use Rattle.cases.specs.Record.{recordBytes}
 use Rattle.cases.specs.Checks.{countAt}
@@ -37,7 +37,7 @@ abbrev pub fromCode : ℕ
 fromCode = fromFirsts + mostLocations
 
 abbrev pub fromWants : ℕ
-fromWants = fromCode + mostCode
+fromWants = fromCode + allCode
 
 abbrev pub fromPassed : ℕ
 fromPassed = fromWants + mostLocations

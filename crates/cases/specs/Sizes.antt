@@ -23,8 +23,8 @@ abbrev pub mostSteps : ℕ
 mostSteps = 96
 
 -- all threads' instructions, one thread's behind the other's
-abbrev pub mostCode : ℕ
-mostCode = mostThreads * mostInstructions
+abbrev pub allCode : ℕ
+allCode = mostThreads * mostInstructions
 
 abbrev pub longest : ℕ
 longest = 1328

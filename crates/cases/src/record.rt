@@ -1,4 +1,4 @@
-// A record of a case: opened from bytes, and padded into bytes.
+// A record of a case: opened from bytes, and laid out as bytes.
 use crate::bytes::byte_at;
 use crate::bytes::half_at;
 use crate::bytes::word_at;
@@ -9,6 +9,8 @@ use crate::case::Register;
 use crate::case::Step;
 use crate::case::Thread;
 use crate::case::Write;
+use crate::sizes::LONGEST_RECORD;
+use crate::sizes::STEP_SIZE;
 ghost use mathlib.Core.Path.{_≡_};
 ghost use mathlib.Core.List.{_∷_};
 ghost use Prim.Native.Nat.{_+_, _≤_};
@@ -55,7 +57,7 @@ pub enum Opened {
 // A record's bytes, 0 behind them.
 pub struct Padded {
     pub length: usize,
-    pub bytes: [u8; 12],
+    pub bytes: [u8; LONGEST_RECORD],
 }
 
 // How long the payload of a kind is; 0 where there is no such kind.
@@ -214,7 +216,7 @@ fn padded_instruction(t: Thread, x: Instruction) -> Padded
 {
     let b = word_bytes(x.word);
     Padded {
-        length: 12,
+        length: LONGEST_RECORD,
         bytes: [
             8,
             0,
@@ -245,7 +247,7 @@ fn padded_step(k: Step) -> Padded
     ensures { λ r. ⌜ r ≡ paddedOf (recordBytes (Take k)) ⌝ }
 {
     Padded {
-        length: 8,
+        length: STEP_SIZE,
         bytes: [
             4,
             0,

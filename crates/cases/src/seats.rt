@@ -18,7 +18,7 @@ ghost use mathlib.Core.Path.{_≡_};
 ghost use mathlib.Core.List.{_++_};
 ghost use Prim.Native.Nat.{_<_, _≤_};
 ghost use lib.ListN.{length, drop};
-ghost use Rattle.cases.specs.Sizes.{mostThreads, mostLocations, mostSteps, mostCode};
+ghost use Rattle.cases.specs.Sizes.{mostThreads, mostLocations, mostSteps, allCode};
 ghost use Rattle.cases.specs.Seats.{
   headerSeat,
   firstSeat,
@@ -75,7 +75,7 @@ fn first_seat(p: Program, l: usize) -> Seat
 }
 
 fn instruction_seat(p: Program, m: usize) -> Seat
-    requires { ⌜ m < mostCode ⌝ }
+    requires { ⌜ m < allCode ⌝ }
     ensures { λ r. ⌜ r ≡ instructionSeat p m ⌝ }
 {
     let counts = p.counts;

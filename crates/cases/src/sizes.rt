@@ -16,5 +16,8 @@ pub const CODE: usize = THREADS * INSTRUCTIONS;
 // The longest file, in bytes.
 pub const LONGEST: usize = 1328;
 
+// The longest record, in bytes.
+pub const LONGEST_RECORD: usize = 12;
+
 // A step's record, in bytes.
 pub const STEP_SIZE: usize = 8;

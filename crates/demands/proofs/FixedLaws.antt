@@ -11,6 +11,7 @@ use Rattle.cases.specs.declared.case.Step.{Step}
 use Rattle.cases.specs.declared.case.Program.{Program}
 use Rattle.cases.specs.Checks.{stepFault}
 use Rattle.cases.proofs.ChoiceLaws.{pick-false}
+use Rattle.cases.specs.Operations.{storeRegister}
 use Rattle.machine.specs.declared.cells.State.{State}
 use Rattle.machine.specs.View.{issuedOf}
 use Rattle.machine.specs.Rules.{instructionAt, ruleOf, nextOf}
@@ -125,7 +126,7 @@ module _ (p : Program) where
   -- an instruction other than a store of a register, once issued, has fixed its own word
   pub fixed-word : (s : State) (ks : List Step) (u : State) (t i : ℕ) → Fits p s → Faultless p ks
       → Leads p s ks u
-      → issuedOf s t ≤ i → i < issuedOf u t → instructionAt p t i .operation ≢ 2
+      → issuedOf s t ≤ i → i < issuedOf u t → instructionAt p t i .operation ≢ storeRegister
       → fixedFrom p s ks t i ≡ instructionAt p t i .word
   unfolding Faultless Leads fixedBy
   fixed-word s [] u t i f r h n c w = let e : issuedOf s t ≡ issuedOf u t = rw h refl in absurd (omega arith)

@@ -29,7 +29,7 @@ use Rattle.machine.proofs.Promises.{rule-in-table}
 use Rattle.search.specs.declared.ask.Outcome.{Outcome}
 use Rattle.search.specs.declared.ask.Outcome.the-variants.{Refused}
 use Rattle.search.specs.Question.{Decided, reached, unreachable, undecided, toldOf, outcomeNo, askOf, short}
-use Rattle.search.specs.Question.{answerOf, questionOf}
+use Rattle.search.specs.Question.{answerFor, questionOf}
 
 -- a verdict's number: 103, 21 to 29, or 1 to 9
 unfoldable Told : ℕ → Type 0
@@ -93,7 +93,7 @@ pub question-table : (s : List ℕ) (room b : ℕ)
     → ((100 ≤ outcomeNo (questionOf s room b)) × (outcomeNo (questionOf s room b) ≤ 102))
     ⊎ (outcomeNo (questionOf s room b) ≡ 31)
     ⊎ ((1 ≤ outcomeNo (questionOf s room b)) × (outcomeNo (questionOf s room b) ≤ 9))
-unfolding Answered questionOf answerOf
+unfolding Answered questionOf answerFor
 question-table s room b =
     pick-cases Answered _ _ _
     (λ e. pick-cases Answered _ _ _ (λ k. inr (inl refl)) (λ k. decided-table _))
@@ -105,7 +105,7 @@ pub asking-order : (s : List ℕ) (room b : ℕ)
     (Refused (numberOf (readOf s .answer)) (offsetOf (readOf s .answer)))
     (pick (ltb room (stepSize * fullLength (readOf s .case .program))) (Refused 31 0)
     (toldOf (askOf (readOf s .case .program) (readOf s .case .ask) b)))
-unfolding questionOf answerOf short pick
+unfolding questionOf answerFor short pick
 asking-order s room b = swapped (eqb (numberOf (readOf s .answer)) 0) _ _
   where
     swapped : (t : Bool) (x y : Outcome) → pick t x y ≡ pick (not t) y x

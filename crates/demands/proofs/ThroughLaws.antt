@@ -16,7 +16,7 @@ use Rattle.cases.specs.declared.case.Program.{Program}
 use Rattle.cases.specs.Choice.{pick, both, either}
 use Rattle.cases.specs.Checks.{stepFault}
 use Rattle.cases.proofs.ChoiceLaws.{pick-true, pick-false}
-use Rattle.cases.specs.Operations.{lastOperation}
+use Rattle.cases.specs.Operations.{lastOperation, firstOperation}
 use Rattle.machine.specs.declared.cells.State.{State}
 use Rattle.machine.specs.declared.cells.Entry.{Entry}
 use Rattle.machine.specs.View.{Slot, writeSlot, markerSlot, without, queue, buffer, issuedOf}
@@ -175,7 +175,7 @@ module _ (p : Program) (registers : List ℕ) (t : ℕ) (low : t < p .threads) (
   quiet b q = record { fit = fit; buffers = empty b; queues = q }
 
   -- store word, store register, load, exchange, flush, flush-opt, sfence, mfence
-  pub behind : (op : ℕ) → 1 ≤ op → op ≤ lastOperation → Behind op
+  pub behind : (op : ℕ) → firstOperation ≤ op → op ≤ lastOperation → Behind op
   unfolding carried joins exchanges enters isBarrier entryOf both either pick
   behind =
       each-operation Behind

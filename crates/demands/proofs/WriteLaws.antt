@@ -14,7 +14,7 @@ use Rattle.cases.specs.declared.case.Location.{Location}
 use Rattle.cases.specs.declared.case.Register.{Register}
 use Rattle.cases.specs.declared.case.Program.{Program}
 use Rattle.cases.specs.Choice.{pick, both, either}
-use Rattle.cases.specs.Operations.{lastOperation}
+use Rattle.cases.specs.Operations.{lastOperation, firstOperation, exchange}
 use Rattle.machine.specs.declared.cells.State.{State}
 use Rattle.machine.specs.declared.cells.Waiting.{Waiting}
 use Rattle.machine.specs.declared.cells.Entry.{Entry}
@@ -111,7 +111,7 @@ module _ (s : State) (t l : ℕ) (m : Location) (r : Register) (w : ℕ) where
   swapped true = refl
   swapped false = refl
 
-  pub splits : (op : ℕ) → 1 ≤ op → op ≤ lastOperation → Splits op
+  pub splits : (op : ℕ) → firstOperation ≤ op → op ≤ lastOperation → Splits op
   unfolding writes isWrite both either fixedBy joins isBarrier exchanges entryOf storesOf storeOf writesOf
       onlyIf pick
   splits =
@@ -128,10 +128,10 @@ module _ (s : State) (t l : ℕ) (m : Location) (r : Register) (w : ℕ) where
   -- an exchange puts nothing into the buffer, every other instruction nothing into the queue
   abbrev Apart : ℕ → Type 0
   Apart op =
-      ((op ≡ 4) × (joins (s .registers) t (of op m r w) ≡ []))
+      ((op ≡ exchange) × (joins (s .registers) t (of op m r w) ≡ []))
       ⊎ (exchanges l (of op m r w) ≡ [])
 
-  pub apart : (op : ℕ) → 1 ≤ op → op ≤ lastOperation → Apart op
+  pub apart : (op : ℕ) → firstOperation ≤ op → op ≤ lastOperation → Apart op
   unfolding joins isBarrier exchanges both either pick
   apart =
       each-operation Apart (inr refl) (inr refl) (inr refl) (inl (refl, refl)) (inr refl) (inr refl) (inr refl)

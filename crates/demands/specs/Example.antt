@@ -11,7 +11,7 @@ use mathlib.Core.List.{List, [], _∷_, _++_}
 use lib.ListN.{replicate}
 use Rattle.cases.specs.declared.case.Instruction.{Instruction}
 use Rattle.cases.specs.declared.case.Case.{Case}
-use Rattle.cases.specs.Sizes.{mostThreads, mostInstructions, mostLocations, mostCode}
+use Rattle.cases.specs.Sizes.{mostThreads, mostInstructions, mostLocations, allCode}
 use Rattle.cases.specs.Operations.{storeWord}
 use Rattle.cases.specs.Draft.{noInstruction, emptyCase}
 
@@ -30,7 +30,7 @@ example =
         first = replicate mostLocations 0;
         counts = 2 ∷ 1 ∷ replicate (mostThreads - 2) 0;
         code = storing 0 500 ∷ storing 1 1 ∷ replicate (mostInstructions - 2) noInstruction
-            ++ storing 0 7 ∷ replicate (mostCode - mostInstructions - 1) noInstruction;
+            ++ storing 0 7 ∷ replicate (allCode - mostInstructions - 1) noInstruction;
       };
       ask = emptyCase .ask;
       run = emptyCase .run;

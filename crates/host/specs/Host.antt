@@ -1,6 +1,7 @@
 -- Document 01, "The build host": "It gets one 32-bit number: the answer plus 256 times its place".
 --   packedOf number place     an answer's number and its place, as one number
---   unpackedNo n, unpackedPlace n     the number and the place that are packed in n
+--   unpackedNo n              the number that is packed in n
+--   unpackedPlace n           and the place
 --   judgePacked s             what the judge's call gets for the bytes s
 --   questionPacked s room b   what the question's call gets for the bytes s, `room` lent bytes, a budget b
 -- Assumes nothing.

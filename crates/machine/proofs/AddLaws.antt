@@ -14,7 +14,7 @@ use Rattle.cases.specs.declared.case.Register.{Register}
 use Rattle.cases.specs.declared.case.Program.{Program}
 use Rattle.cases.specs.Choice.{pick, both, either}
 use Rattle.cases.specs.Sizes.{mostThreads, mostInstructions, mostLocations}
-use Rattle.cases.specs.Operations.{lastOperation}
+use Rattle.cases.specs.Operations.{lastOperation, firstOperation}
 use Rattle.machine.specs.declared.cells.State.{State}
 use Rattle.machine.specs.declared.cells.Waiting.{Waiting}
 use Rattle.machine.specs.declared.cells.Entry.{Entry}
@@ -116,7 +116,7 @@ module _ (p : Program) (s : State) (t : ℕ) (o : Spare p s t) where
 -- an instruction that is counted already; an entry that is out of its buffer
 module _ (p : Program) (s : State) (t : ℕ) (o : Spare p s t) (low : t < p .threads) where
   pub performed-adds : (l : Location) (r : Register) (w : ℕ) → l .0 < p .locations
-      → (op : ℕ) → 1 ≤ op → op ≤ lastOperation
+      → (op : ℕ) → firstOperation ≤ op → op ≤ lastOperation
       → Adds s (performed s t (of op l r w)) t (joins (s .registers) t (of op l r w))
       (λ m. exchanges m (of op l r w))
   unfolding performed pick both either isBarrier entryOf loaded exchanged joins exchanges

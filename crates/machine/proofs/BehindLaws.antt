@@ -11,7 +11,7 @@ use lib.Seq.{sets, sets-eq, getD-append-add, getD-drop, length-take-le}
 use Rattle.cases.specs.Sizes.{mostThreads, mostInstructions, mostLocations}
 use Rattle.machine.specs.declared.cells.State.{State}
 use Rattle.machine.specs.declared.cells.Waiting.{Waiting}
-use Rattle.machine.specs.Sizes.{room, mostSlots}
+use Rattle.machine.specs.Sizes.{room, allSlots}
 use Rattle.machine.specs.View.{Slot, wordsOf, marksOf, put, queueLen, withQueue, blankWaiting, bufferLen}
 use Rattle.machine.specs.View.{withBuffer, withWord, withRegister, withIssued}
 use Rattle.machine.specs.Behind.{BlankFrom, BlankBehind}
@@ -74,7 +74,7 @@ module _ (s : State) (z : Sized s) (o : BlankBehind s) where
   module _ (l : ℕ) (low : l < mostLocations) (n : queueLen s l ≤ room) (q : List Slot)
       (m : length q ≤ room) where
     -- a row of one of the two arrays: that queue's, another's
-    row-blank : (xs vs : List ℕ) → length xs ≡ mostSlots → length vs ≡ length q
+    row-blank : (xs vs : List ℕ) → length xs ≡ allSlots → length vs ≡ length q
         → ((k : ℕ) → k < mostLocations → BlankFrom 0 (k * room) (queueLen s k) room xs)
         → (k : ℕ) → k < mostLocations → Dec (k ≡ l)
         → BlankFrom 0 (k * room) (queueLen (withQueue s l q) k) room (put 0 (l * room) (queueLen s l) vs xs)

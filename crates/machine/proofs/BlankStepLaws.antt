@@ -11,12 +11,13 @@ use Rattle.cases.specs.declared.case.Instruction.{Instruction}
 use Rattle.cases.specs.declared.case.Step.{Step}
 use Rattle.cases.specs.declared.case.Program.{Program}
 use Rattle.cases.specs.Choice.{pick}
-use Rattle.cases.specs.Sizes.{mostInstructions, mostCode}
+use Rattle.cases.specs.Sizes.{mostInstructions, allCode}
 use Rattle.cases.proofs.ArrayLaws.{getD-blank}
+use Rattle.cases.specs.Operations.{firstOperation, lastOperation}
 use Rattle.machine.specs.declared.cells.State.{State}
 use Rattle.machine.specs.declared.cells.Entry.{Entry}
 use Rattle.machine.specs.declared.cells.Entry.the-variants.{Store, Flush, FlushOpt, Sfence}
-use Rattle.machine.specs.Sizes.{room, mostSlots}
+use Rattle.machine.specs.Sizes.{room, allSlots}
 use Rattle.machine.specs.View.{Slot, writeSlot, markerSlot, without, queue, queueLen, withWord}
 use Rattle.machine.specs.View.{blankWaiting, buffer, wordOf, issuedOf}
 use Rattle.machine.specs.Behind.{BlankBehind}
@@ -43,9 +44,9 @@ pub start-blank : (p : Program) → BlankBehind (startOf p)
 unfolding startOf
 start-blank p =
     record {
-      words-blank = λ l h i a b. getD-blank {A = ℕ} mostSlots (l * room + i) 0;
-      marks-blank = λ l h i a b. getD-blank {A = ℕ} mostSlots (l * room + i) 0;
-      entries-blank = λ t h i a b. getD-blank mostCode (t * mostInstructions + i) blankWaiting;
+      words-blank = λ l h i a b. getD-blank {A = ℕ} allSlots (l * room + i) 0;
+      marks-blank = λ l h i a b. getD-blank {A = ℕ} allSlots (l * room + i) 0;
+      entries-blank = λ t h i a b. getD-blank allCode (t * mostInstructions + i) blankWaiting;
     }
 
 -- one more at a queue's end, at a buffer's end
@@ -75,7 +76,7 @@ module _ (p : Program) (s : State) (t : ℕ) (o : Spare p s t) (blank : BlankBeh
 module _ (p : Program) (s : State) (t : ℕ) (o : Spare p s t) (blank : BlankBehind s)
     (low : t < p .threads) where
   performed-blank : (l : Location) (r : Register) (w : ℕ) → l .0 < p .locations
-      → (op : ℕ) → 1 ≤ op → op ≤ 8 → BlankBehind (performed s t (of op l r w))
+      → (op : ℕ) → firstOperation ≤ op → op ≤ lastOperation → BlankBehind (performed s t (of op l r w))
   unfolding performed pick entryOf loaded exchanged
   performed-blank l r w there =
       each-operation (λ op. BlankBehind (performed s t (of op l r w)))

@@ -6,11 +6,11 @@ use mathlib.Core.List.{List, [], _∷_, _++_}
 use native.Mathlib.Omega.{arith}
 use native.Mathlib.Nat.{add-zero}
 use lib.ListN.{length, getD, set, drop, length-append, length-drop}
-use Rattle.cases.specs.Sizes.{mostThreads, mostInstructions, mostLocations, mostCode}
+use Rattle.cases.specs.Sizes.{mostThreads, mostInstructions, mostLocations, allCode}
 use Rattle.machine.specs.declared.cells.State.{State}
 use Rattle.machine.specs.declared.cells.Waiting.{Waiting}
 use Rattle.machine.specs.declared.cells.Entry.{Entry}
-use Rattle.machine.specs.Sizes.{room, mostSlots}
+use Rattle.machine.specs.Sizes.{room, allSlots}
 use Rattle.machine.specs.View.{Slot, wordsOf, marksOf, part, put, shift, closeGap, without}
 use Rattle.machine.specs.View.{marksIn, queueIn, queueLen, queue, withQueue}
 use Rattle.machine.specs.View.{blankWaiting, bufferIn, bufferLen, buffer, withBuffer}
@@ -108,7 +108,7 @@ module _ (held marks lengths : List ℕ) (l : ℕ) (h : l * room + getD lengths 
   length-pop = rw (length-drop, length-queue held marks lengths l h k)
 
 -- what the code makes of the state as it changes a queue
-module _ (s : State) (l : ℕ) (h : length (s .held) ≡ mostSlots) (k : length (s .marks) ≡ mostSlots)
+module _ (s : State) (l : ℕ) (h : length (s .held) ≡ allSlots) (k : length (s .marks) ≡ allSlots)
     (low : l < mostLocations) where
   pub enqueue-is : (x : Slot) → queueLen s l < room
       → record {
@@ -155,7 +155,7 @@ module _ (s : State) (l : ℕ) (h : length (s .held) ≡ mostSlots) (k : length 
       refl
 
 -- and as it changes a buffer
-module _ (s : State) (t : ℕ) (h : length (s .buffers) ≡ mostCode) (low : t < mostThreads) where
+module _ (s : State) (t : ℕ) (h : length (s .buffers) ≡ allCode) (low : t < mostThreads) where
   pub await-is : (e : Entry) → bufferLen s t < mostInstructions
       → record {
         words = s .words;

@@ -10,7 +10,7 @@ use Rattle.machine.specs.Rules.{loaded, exchanged, performed, issueOf, e
 use Rattle.machine.specs.Rules.{moveRule, moveOf, persistRule, persistFirst, persistOf, ruleIn, ruleOf}
 use Rattle.machine.specs.Rules.{nextOf, startOf}
 use Rattle.machine.specs.Fit.{sumTo, unissued}
-use Rattle.machine.specs.Work.{unissuedWeight, waitingWeight, weighCode, weighBuffer, codeLeft}
+use Rattle.machine.specs.Work.{unissuedWeight, waitingWeight, weighCode, weighBuffer, unissuedCode}
 use Rattle.machine.specs.Work.{threadWork, work, fullLength}
 use Rattle.machine.specs.Judge.{judged, judgeFrom, judgeRun, judgeBytes}
 use Rattle.machine.specs.Next.{issuesFrom, movesAt, movesFrom, persistsFrom, candidates, allowed}
@@ -27,7 +27,7 @@ steps-compute = 0
 
 -- work and fullLength
 unfoldable pub work-computes : ℕ
-unfolding part bufferIn sumTo unissued unissuedWeight waitingWeight weighCode weighBuffer codeLeft threadWork
+unfolding part bufferIn sumTo unissued unissuedWeight waitingWeight weighCode weighBuffer unissuedCode threadWork
     work startOf fullLength
 work-computes = 0
 

@@ -71,7 +71,7 @@ module _ (t : ℕ) where
 
   -- the n queues from l on
   module _ (marks lengths : List ℕ) where
-    -- x is the first marker of those below `end`, of which none below `from` is asked
+    -- x is the first marker of the queues `from` to `end`, `end` left out
     record FirstFrom (from end : ℕ) (x : Found) : Type 0 where
       queue : ℕ
       position : ℕ

@@ -11,7 +11,7 @@ use Rattle.cases.specs.Choice.{pick}
 use Rattle.cases.specs.Ranges.{InstructionFits}
 use Rattle.cases.proofs.ChoiceLaws.{refuse-none}
 use Rattle.cases.specs.Checks.{countAt}
-use Rattle.cases.specs.Operations.{lastOperation}
+use Rattle.cases.specs.Operations.{lastOperation, firstOperation}
 use Rattle.machine.specs.declared.cells.State.{State}
 use Rattle.machine.specs.declared.cells.Entry.the-variants.{Flush, FlushOpt, Sfence}
 use Rattle.machine.specs.Sizes.{room}
@@ -30,7 +30,7 @@ use Rattle.machine.proofs.WorkLaws.{work-enqueue, work-await, work-coun
 -- What an instruction does, where it is counted already
 module _ (p : Program) (s : State) (t : ℕ) (o : Spare p s t) (low : t < p .threads)
     (l : Location) (r : Register) (w : ℕ) (there : l .0 < p .locations) where
-  performed-fits : (op : ℕ) → 1 ≤ op → op ≤ lastOperation → Fits p (performed s t (of op l r w))
+  performed-fits : (op : ℕ) → firstOperation ≤ op → op ≤ lastOperation → Fits p (performed s t (of op l r w))
   unfolding performed pick entryOf Named loaded exchanged
   performed-fits =
       each-operation (λ op. Fits p (performed s t (of op l r w)))
@@ -43,7 +43,7 @@ module _ (p : Program) (s : State) (t : ℕ) (o : Spare p s t) (low : t < p .thr
       (await-fits p s t o low Sfence tt)
       (o .fit)
 
-  performed-work : (op : ℕ) → 1 ≤ op → op ≤ lastOperation
+  performed-work : (op : ℕ) → firstOperation ≤ op → op ≤ lastOperation
       → work p (performed s t (of op l r w)) + 1 ≡ work p s + unissuedWeight op
   unfolding performed pick entryOf loaded exchanged unissuedWeight waitingWeight
   performed-work =

@@ -14,7 +14,7 @@ use Rattle.cases.specs.Choice.{pick}
 use Rattle.cases.specs.Sizes.{mostLocations}
 use Rattle.machine.specs.declared.look.Found.{Found}
 use Rattle.machine.specs.declared.look.Found.the-variants.{At, Nothing}
-use Rattle.machine.specs.Sizes.{room, mostSlots}
+use Rattle.machine.specs.Sizes.{room, allSlots}
 use Rattle.machine.specs.View.{marksIn}
 use Rattle.machine.specs.Fit.{Shallow}
 use Rattle.machine.specs.Look.{markerAmong, markerFrom, markerOf}
@@ -22,7 +22,7 @@ use Rattle.machine.proofs.PartLaws.{part-next, part-end}
 
 -- markerOf, from queue to queue: the queues from l on say what all of them say
 pub record QueuesSoFar (marks lengths : List ℕ) (mark l : ℕ) (found : Found) : Type 0 where
-  pub long : length marks ≡ mostSlots
+  pub long : length marks ≡ allSlots
   pub shallow : Shallow lengths
   pub within : l ≤ mostLocations
   pub none : found ≡ Nothing
@@ -31,7 +31,7 @@ pub record QueuesSoFar (marks lengths : List ℕ) (mark l : ℕ) (found : Found)
 
 -- and within queue l: its marks from position i on, and the queues behind it, say what all queues say
 pub record MarksSoFar (marks lengths : List ℕ) (mark l n i : ℕ) (found : Found) : Type 0 where
-  pub long : length marks ≡ mostSlots
+  pub long : length marks ≡ allSlots
   pub shallow : Shallow lengths
   pub low : l < mostLocations
   pub few : n ≤ room
@@ -42,7 +42,7 @@ pub record MarksSoFar (marks lengths : List ℕ) (mark l n i : ℕ) (found : Fou
       (markerFrom marks lengths t (mostLocations - (l + 1)) (l + 1))
       ≡ markerOf marks lengths t
 
-pub queues-start : (marks lengths : List ℕ) (mark : ℕ) → length marks ≡ mostSlots → Shallow lengths
+pub queues-start : (marks lengths : List ℕ) (mark : ℕ) → length marks ≡ allSlots → Shallow lengths
     → QueuesSoFar marks lengths mark 0 Nothing
 unfolding markerOf
 queues-start marks lengths mark h k =

@@ -15,7 +15,7 @@ use Rattle.machine.specs.declared.cells.State.{State}
 use Rattle.machine.specs.declared.cells.Waiting.{Waiting}
 use Rattle.machine.specs.declared.cells.Entry.{Entry}
 use Rattle.machine.specs.declared.cells.Entry.the-variants.{Store, Flush, FlushOpt}
-use Rattle.machine.specs.Sizes.{room, mostSlots}
+use Rattle.machine.specs.Sizes.{room, allSlots}
 use Rattle.machine.specs.View.{without, marksIn, queueIn, queue, queueLen, withQueue, wordOf, withWord}
 use Rattle.machine.specs.View.{blankWaiting, bufferIn, buffer, bufferLen, withBuffer}
 use Rattle.machine.specs.Look.{wordOr}
@@ -97,7 +97,7 @@ move-taken s t i u r h e f = f ∙ rw (e, entry-is (s .buffers) (s .waiting) t i
 
 -- persistOf: the oldest entry is taken out, then its word is written
 module _ (s : State) (l : ℕ) (low : l < mostLocations) (some : 0 < queueLen s l) (fits : queueLen s l ≤ room)
-    (held-long : length (s .held) ≡ mostSlots) (marks-long : length (s .marks) ≡ mostSlots) where
+    (held-long : length (s .held) ≡ allSlots) (marks-long : length (s .marks) ≡ allSlots) where
   oldest : queue s l
       ≡ record { word = getD (s .held) (l * room) 0; mark = getD (s .marks) (l * room) 0 }
       ∷ drop 1 (queue s l)

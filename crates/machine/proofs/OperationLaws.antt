@@ -5,12 +5,12 @@ use Rattle.cases.specs.declared.case.Location.{Location}
 use Rattle.cases.specs.declared.case.Register.{Register}
 use Rattle.cases.specs.declared.case.Instruction.{Instruction}
 use Rattle.cases.specs.Operations.{storeWord, storeRegister, load, exchange, flush, flushOpt, sfence, mfence}
-use Rattle.cases.specs.Operations.{lastOperation}
+use Rattle.cases.specs.Operations.{lastOperation, firstOperation}
 
 -- an operation is one of eight
 pub each-operation {ℓ} : (P : ℕ → Type ℓ)
     → P storeWord → P storeRegister → P load → P exchange → P flush → P flushOpt → P sfence → P mfence
-    → (op : ℕ) → 1 ≤ op → op ≤ lastOperation → P op
+    → (op : ℕ) → firstOperation ≤ op → op ≤ lastOperation → P op
 each-operation P a b c d e f g i zero h k = absurd (omega arith)
 each-operation P a b c d e f g i (suc zero) h k = a
 each-operation P a b c d e f g i (suc (suc zero)) h k = b

@@ -9,7 +9,7 @@ use lib.Dec.{eqb}
 use Rattle.cases.specs.declared.case.Step.{Step}
 use Rattle.cases.specs.declared.case.Program.{Program}
 use Rattle.cases.specs.Choice.{pick}
-use Rattle.cases.specs.Sizes.{mostInstructions, mostLocations, mostCode}
+use Rattle.cases.specs.Sizes.{mostInstructions, mostLocations, allCode}
 use Rattle.machine.specs.declared.cells.State.{State}
 use Rattle.machine.specs.Rules.{ruleOf}
 use Rattle.machine.specs.Fit.{ProgramFits}
@@ -49,11 +49,11 @@ issue-rank : (t : ℕ) → rankOf (issueStep t) ≡ t * mostInstructions
 unfolding rankOf
 issue-rank t = omega arith
 
-move-rank : (t i : ℕ) → rankOf (moveStep t i) ≡ mostCode + mostLocations + t * mostInstructions + i
+move-rank : (t i : ℕ) → rankOf (moveStep t i) ≡ allCode + mostLocations + t * mostInstructions + i
 unfolding rankOf
 move-rank t i = omega arith
 
-persist-rank : (l : ℕ) → rankOf (persistStep l) ≡ 2 * (mostCode + mostLocations) + l
+persist-rank : (l : ℕ) → rankOf (persistStep l) ≡ 2 * (allCode + mostLocations) + l
 unfolding rankOf
 persist-rank l = omega arith
 
@@ -69,8 +69,8 @@ rising-issues t (suc m) n rest h r =
       rising-issues (suc t) m _ rest (omega arith) (rising-low _ _ rest (omega arith) r),
     )
 
-rising-positions : (t i m n : ℕ) (rest : List Step) → n ≤ mostCode + mostLocations + t * mostInstructions + i
-    → Rising (mostCode + mostLocations + t * mostInstructions + i + m) rest
+rising-positions : (t i m n : ℕ) (rest : List Step) → n ≤ allCode + mostLocations + t * mostInstructions + i
+    → Rising (allCode + mostLocations + t * mostInstructions + i + m) rest
     → Rising n (movesAt t i m ++ rest)
 unfolding movesAt Rising
 rising-positions t i zero n rest h r = rising-low n _ rest (omega arith) r
@@ -80,8 +80,8 @@ rising-positions t i (suc m) n rest h r =
       rising-positions t (suc i) m _ rest (omega arith) (rising-low _ _ rest (omega arith) r),
     )
 
-rising-moves : (t m n : ℕ) (rest : List Step) → n ≤ mostCode + mostLocations + t * mostInstructions
-    → Rising (mostCode + mostLocations + (t + m) * mostInstructions) rest
+rising-moves : (t m n : ℕ) (rest : List Step) → n ≤ allCode + mostLocations + t * mostInstructions
+    → Rising (allCode + mostLocations + (t + m) * mostInstructions) rest
     → Rising n (movesFrom t m ++ rest)
 unfolding movesFrom
 rising-moves t zero n rest h r = rising-low n _ rest (omega arith) r
@@ -90,7 +90,7 @@ rising-moves t (suc m) n rest h r =
     (rising-positions t 0 mostInstructions n _ (omega arith)
     (rising-moves (suc t) m _ rest (omega arith) (rising-low _ _ rest (omega arith) r)))
 
-rising-persists : (l m n : ℕ) → n ≤ 2 * (mostCode + mostLocations) + l → Rising n (persistsFrom l m)
+rising-persists : (l m n : ℕ) → n ≤ 2 * (allCode + mostLocations) + l → Rising n (persistsFrom l m)
 unfolding persistsFrom Rising
 rising-persists l zero n h = tt
 rising-persists l (suc m) n h =

@@ -25,7 +25,7 @@ use Rattle.machine.specs.Look.{markerAmong, markerFrom, markerOf, marked
 use Rattle.machine.specs.Rules.{barrierRule, operationRule, issueRule, effectRule, moveRule}
 use Rattle.machine.specs.Rules.{persistRule, ruleIn, ruleOf}
 use Rattle.machine.specs.Fit.{unissued, Fits, Named}
-use Rattle.machine.specs.Work.{weighCode, weighBuffer, codeLeft, threadWork, work, Unfinished}
+use Rattle.machine.specs.Work.{weighCode, weighBuffer, unissuedCode, threadWork, work, Unfinished}
 use Rattle.machine.specs.Next.{issueStep, moveStep, persistStep}
 use Rattle.machine.specs.Offer.{Movable}
 use Rattle.machine.proofs.SumLaws.{sum-none, some-or-none}
@@ -37,14 +37,14 @@ use Rattle.machine.proofs.CandidateLaws.{issue-fault, move-fault, persi
 -- Where no queue holds anything: no marker is found, every entry may take effect, every operation may be issued
 -- with an empty buffer
 module _ (marks lengths : List ℕ) (none : (l : ℕ) → l < mostLocations → getD lengths l 0 ≡ 0) (t : ℕ) where
-  marker-none : (k l : ℕ) → l + k ≤ mostLocations → markerFrom marks lengths t k l ≡ Nothing
+  empty-none : (k l : ℕ) → l + k ≤ mostLocations → markerFrom marks lengths t k l ≡ Nothing
   unfolding markerFrom markerAmong marksIn part
-  marker-none zero l h = refl
-  marker-none (suc k) l h = rw (none l (omega arith)) (marker-none k (suc l) (omega arith))
+  empty-none zero l h = refl
+  empty-none (suc k) l h = rw (none l (omega arith)) (empty-none k (suc l) (omega arith))
 
   marked-none : marked marks lengths t ≡ false
   unfolding marked markerOf
-  marked-none = rw (marker-none mostLocations 0 (omega arith))
+  marked-none = rw (empty-none mostLocations 0 (omega arith))
 
   effect-none : (e : Entry) → Named mostLocations e → effectRule marks lengths t e ≡ 0
   unfolding effectRule refuse Named
@@ -74,7 +74,7 @@ work-none : (p : Program) (s : State) → ((l : ℕ) → l < mostLocations → q
     → ((t : ℕ) → t < mostThreads → bufferLen s t ≡ 0)
     → ((t : ℕ) → t < mostThreads → unissued p s t ≡ 0)
     → work p s ≡ 0
-unfolding work threadWork codeLeft weighCode weighBuffer bufferIn part
+unfolding work threadWork unissuedCode weighCode weighBuffer bufferIn part
 work-none p s queues buffers code =
     let a = sum-none mostThreads (threadWork p s) (λ t h. rw (buffers t h, code t h)) in
     let b = sum-none mostLocations (queueLen s) queues in

@@ -34,7 +34,7 @@ use Rattle.machine.specs.Judge.{judgeBytes}
 use Rattle.machine.specs.Next.{issueStep, moveStep, persistStep, legalSteps, rankOf, stepAt, nextSteps}
 use Rattle.machine.specs.Next.{Listed, Ascending}
 use Rattle.machine.specs.Offer.{Movable}
-use Rattle.machine.specs.Sizes.{mostSlots, mostCandidates}
+use Rattle.machine.specs.Sizes.{allSlots, mostCandidates}
 use Rattle.machine.proofs.StartLaws as StartLaws
 use Rattle.machine.proofs.RangeLaws.{fault-none}
 use Rattle.machine.proofs.StepLaws as StepLaws
@@ -276,7 +276,7 @@ module _ (p : Program) (s : State) (fit : Fits p s) where
 
   -- and what the code that lists them asks for
   pub next-asks : ProgramFits p × Movable (s .buffers) (s .waiting) × Shallow (s .lengths)
-      × (length (s .marks) ≡ mostSlots)
+      × (length (s .marks) ≡ allSlots)
   next-asks = (fit .program, ReadyLaws.movable p s fit, ReadyLaws.shallow p s fit, fit .sized .marks-long)
 
 -- the test for 33 and the facts that proofs use are one: of a state whose arrays are as long as their types say

@@ -17,7 +17,7 @@ use Rattle.machine.specs.declared.cells.State.{State}
 use Rattle.machine.specs.declared.cells.Waiting.{Waiting}
 use Rattle.machine.specs.declared.cells.Entry.{Entry}
 use Rattle.machine.specs.declared.cells.Entry.the-variants.{Store, Flush, FlushOpt, Sfence}
-use Rattle.machine.specs.Sizes.{room, mostSlots}
+use Rattle.machine.specs.Sizes.{room, allSlots}
 use Rattle.machine.specs.View.{queueLen, buffer, bufferIn, bufferLen, issuedOf}
 use Rattle.machine.specs.Rules.{instructionAt, issueRule, moveRule, persistRule, ruleIn}
 use Rattle.machine.specs.Rules.{ruleOf}
@@ -60,16 +60,16 @@ module _ (p : Program) (g : ProgramFits p) (k : Step) (faultless : stepFault p k
       let b = g .few-locations in
       omega arith
 
-  module _ (marks lengths : List ℕ) (deep : Shallow lengths) (long : length marks ≡ mostSlots) where
+  module _ (marks lengths : List ℕ) (deep : Shallow lengths) (long : length marks ≡ allSlots) where
     pub issue-rule-ready : k .code ≡ issue
         → (k .thread .0 < mostThreads) × (countAt p (k .thread .0) ≤ mostInstructions) × Shallow lengths
-        × (length marks ≡ mostSlots)
+        × (length marks ≡ allSlots)
     issue-rule-ready h = (thread-low (omega arith), g .few-instructions (k .thread .0), deep, long)
 
     pub move-rule-ready : (buffers : List Waiting) (waiting : List ℕ) → Movable buffers waiting → k .code ≡ move
         → (k .thread .0 < mostThreads) × (getD waiting (k .thread .0) 0 ≤ mostInstructions)
         × Named mostLocations (entryAt (bufferIn buffers waiting (k .thread .0)) 0) × Shallow lengths
-        × (length marks ≡ mostSlots)
+        × (length marks ≡ allSlots)
     unfolding Movable
     move-rule-ready buffers waiting m h =
         let low = thread-low (omega arith) in
@@ -107,7 +107,7 @@ module _ (p : Program) (s : State) (f : Fits p s) where
   module _ (k : Step) (faultless : stepFault p k ≡ 0) where
     -- what `rule` asks for
     pub rule-ready : ProgramFits p × Movable (s .buffers) (s .waiting) × Shallow (s .lengths)
-        × (length (s .marks) ≡ mostSlots) × (stepFault p k ≡ 0)
+        × (length (s .marks) ≡ allSlots) × (stepFault p k ≡ 0)
     rule-ready = (f .program, movable, shallow, f .sized .marks-long, faultless)
 
     -- the three steps, where they are legal
@@ -143,7 +143,7 @@ module _ (p : Program) (s : State) (f : Fits p s) where
           let fits = f .program .instructions (k .thread .0) (issuedOf s (k .thread .0)) left .1 in
           let some : 0 < unissued p s (k .thread .0) = unfold unissued in omega arith in
           let wait = f .few-waiting (k .thread .0) low in
-          let place = f .program .few-locations in
+          let most = f .program .few-locations in
           let named = fits .low-location in
           let reg = fits .low-register in
           let l : instructionAt p (k .thread .0) (issuedOf s (k .thread .0)) .location .0 < mostLocations

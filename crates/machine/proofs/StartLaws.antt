@@ -9,17 +9,17 @@ use lib.ListN.{length, getD, length-replicate}
 use Rattle.cases.specs.declared.case.Instruction.{Instruction}
 use Rattle.cases.specs.declared.case.Program.{Program}
 use Rattle.cases.specs.declared.case.Case.{Case}
-use Rattle.cases.specs.Sizes.{mostThreads, mostInstructions, mostLocations, mostSteps, mostCode}
+use Rattle.cases.specs.Sizes.{mostThreads, mostInstructions, mostLocations, mostSteps, allCode}
 use Rattle.cases.specs.Ranges.{Ranged}
 use Rattle.cases.proofs.ChoiceLaws.{pick-cases}
 use Rattle.cases.proofs.ArrayLaws.{getD-blank}
 use Rattle.cases.specs.Checks.{countAt}
-use Rattle.machine.specs.Sizes.{room, mostSlots, allRegisters}
+use Rattle.machine.specs.Sizes.{room, allSlots, allRegisters}
 use Rattle.machine.specs.View.{part, slots, marksIn, queue, queueIn, queueLen, buffer, bufferIn}
 use Rattle.machine.specs.View.{bufferLen, blankWaiting, issuedOf, wordOf}
 use Rattle.machine.specs.Rules.{startOf}
 use Rattle.machine.specs.Fit.{sumTo, unissued, due, Sized, ProgramFits, Fits, AllNamed, AllBorne}
-use Rattle.machine.specs.Work.{unissuedWeight, weighCode, weighBuffer, codeLeft, threadWork, work}
+use Rattle.machine.specs.Work.{unissuedWeight, weighCode, weighBuffer, unissuedCode, threadWork, work}
 use Rattle.machine.specs.Work.{fullLength, programWeight}
 use Rattle.machine.proofs.PartLaws.{length-part, part-none}
 use Rattle.machine.proofs.SumLaws.{sum-same, sum-none, sum-most}
@@ -80,10 +80,10 @@ module _ (p : Program) (g : ProgramFits p) where
   start-sized =
       record {
         words-long = g .first-long;
-        held-long = length-replicate {A = ℕ} mostSlots 0;
-        marks-long = length-replicate {A = ℕ} mostSlots 0;
+        held-long = length-replicate {A = ℕ} allSlots 0;
+        marks-long = length-replicate {A = ℕ} allSlots 0;
         lengths-long = length-replicate {A = ℕ} mostLocations 0;
-        buffers-long = length-replicate mostCode blankWaiting;
+        buffers-long = length-replicate allCode blankWaiting;
         waiting-long = length-replicate {A = ℕ} mostThreads 0;
         registers-long = length-replicate {A = ℕ} allRegisters 0;
         issued-long = length-replicate {A = ℕ} mostThreads 0;
@@ -132,7 +132,7 @@ code-most (x ∷ xs) = let a = weight-most (x .operation) in let b = code-most x
 -- "The sum at the start is the program's full length, at most 96."
 module _ (p : Program) (g : ProgramFits p) where
   start-thread : (t : ℕ) → t < mostThreads → threadWork p (startOf p) t ≤ 3 * mostInstructions
-  unfolding threadWork codeLeft
+  unfolding threadWork unissuedCode
   start-thread t h =
       let c = g .code-long in
       let n = g .few-instructions t in
@@ -155,7 +155,7 @@ module _ (p : Program) (g : ProgramFits p) where
 -- the full length is what the program's instructions weigh, and nothing else
 module _ (p : Program) where
   start-weight : (t : ℕ) → threadWork p (startOf p) t ≡ programWeight p t
-  unfolding threadWork codeLeft programWeight weighBuffer
+  unfolding threadWork unissuedCode programWeight weighBuffer
   start-weight t = rw (start-issued p t, unissued-all p t, start-buffer p t, add-zero, add-zero)
 
   pub full-weighs : fullLength p ≡ sumTo mostThreads (programWeight p)

@@ -10,7 +10,7 @@ use lib.ListN.{length, getD, drop}
 use Rattle.cases.specs.declared.case.Instruction.{Instruction}
 use Rattle.cases.specs.declared.case.Case.{Case}
 use Rattle.cases.specs.Choice.{pick}
-use Rattle.cases.specs.Sizes.{mostThreads, mostInstructions, mostCode}
+use Rattle.cases.specs.Sizes.{mostThreads, mostInstructions, allCode}
 use Rattle.cases.specs.Draft.{noInstruction}
 use Rattle.cases.specs.Writing.{readsBack}
 use Rattle.machine.specs.declared.cells.State.{State}
@@ -30,7 +30,7 @@ part-cons base n xs d h k = part-next base n 0 xs d h k ∙ rw (drop-part 1 base
 
 -- a thread's part of an array that has so many for each thread
 pub record Row {A : Type 0} (xs : List A) (t end : ℕ) : Type 0 where
-  pub sized : length xs ≡ mostCode
+  pub sized : length xs ≡ allCode
   pub low : t < mostThreads
   pub few : end ≤ mostInstructions
 
@@ -42,7 +42,7 @@ pub record CodeSoFar (code : List Instruction) (t end first weight i : ℕ) : Ty
   pub rest : weight + weighCode (part (t * mostInstructions + i) (end - i) code)
       ≡ weighCode (part (t * mostInstructions + first) (end - first) code)
 
-pub code-start : (code : List Instruction) (t end first : ℕ) → length code ≡ mostCode → t < mostThreads
+pub code-start : (code : List Instruction) (t end first : ℕ) → length code ≡ allCode → t < mostThreads
     → end ≤ mostInstructions
     → first ≤ end
     → CodeSoFar code t end first 0 first
@@ -100,7 +100,7 @@ pub record BufferSoFar (buffers : List Waiting) (t n weight i : ℕ) : Type 0 wh
   pub rest : weight + weighBuffer (drop i (part (t * mostInstructions) n buffers))
       ≡ weighBuffer (part (t * mostInstructions) n buffers)
 
-pub weigh-start : (buffers : List Waiting) (t n : ℕ) → length buffers ≡ mostCode → t < mostThreads
+pub weigh-start : (buffers : List Waiting) (t n : ℕ) → length buffers ≡ allCode → t < mostThreads
     → n ≤ mostInstructions
     → BufferSoFar buffers t n 0 0
 weigh-start buffers t n s l f =

@@ -21,7 +21,7 @@ use Rattle.machine.specs.View.{buffer, bufferLen, withBuffer, withWord, 
 use Rattle.machine.specs.View.{withIssued}
 use Rattle.machine.specs.Rules.{instructionAt, enqueue, await}
 use Rattle.machine.specs.Fit.{sumTo, unissued, Fits}
-use Rattle.machine.specs.Work.{unissuedWeight, waitingWeight, weighCode, weighBuffer, codeLeft}
+use Rattle.machine.specs.Work.{unissuedWeight, waitingWeight, weighCode, weighBuffer, unissuedCode}
 use Rattle.machine.specs.Work.{threadWork, work}
 use Rattle.machine.proofs.SumLaws.{sum-change}
 use Rattle.machine.proofs.PartLaws.{part-next, drop-part}
@@ -62,7 +62,7 @@ module _ (p : Program) (s : State) (f : Fits p s) where
         (λ k a e. queueLen-other s (f .sized) l low n q m k e) in
         let e = queueLen-same s (f .sized) l low n q m in
         let b : sumTo mostThreads (threadWork p (withQueue s l q)) ≡ sumTo mostThreads (threadWork p s)
-        = unfold withQueue threadWork codeLeft unissued in refl in
+        = unfold withQueue threadWork unissuedCode unissued in refl in
         omega arith
 
   -- one more at a queue's end
@@ -88,8 +88,8 @@ module _ (p : Program) (s : State) (f : Fits p s) where
         = unfold withBuffer in refl in
         omega arith
       where
-        code : (k : ℕ) → codeLeft p (withBuffer s t b) k ≡ codeLeft p s k
-        code k = unfold withBuffer codeLeft unissued in refl
+        code : (k : ℕ) → unissuedCode p (withBuffer s t b) k ≡ unissuedCode p s k
+        code k = unfold withBuffer unissuedCode unissued in refl
 
         other : (k : ℕ) → k < mostThreads → k ≢ t → threadWork p (withBuffer s t b) k ≡ threadWork p s k
         other k a e = unfold threadWork in
@@ -132,9 +132,9 @@ module _ (p : Program) (s : State) (f : Fits p s) where
     in-range : t < mostThreads
     in-range = let w = f .program .few-threads in omega arith
 
-    code-next : codeLeft p s t
-        ≡ instructionAt p t (issuedOf s t) ∷ codeLeft p (withIssued s t (issuedOf s t + 1)) t
-    unfolding codeLeft
+    code-next : unissuedCode p s t
+        ≡ instructionAt p t (issuedOf s t) ∷ unissuedCode p (withIssued s t (issuedOf s t + 1)) t
+    unfolding unissuedCode
     code-next =
         let c = f .program .code-long in
         let m = f .program .few-instructions t in
@@ -157,7 +157,7 @@ module _ (p : Program) (s : State) (f : Fits p s) where
 
     other-work : (k : ℕ) → k < mostThreads → k ≢ t
         → threadWork p (withIssued s t (issuedOf s t + 1)) k ≡ threadWork p s k
-    unfolding threadWork codeLeft withIssued
+    unfolding threadWork unissuedCode withIssued
     other-work k a e =
         rw (unissued-other p s f t low left k e, issued-other s (f .sized) t (issuedOf s t + 1) k e)
 
@@ -165,9 +165,9 @@ module _ (p : Program) (s : State) (f : Fits p s) where
         + unissuedWeight (instructionAt p t (issuedOf s t) .operation) ≡ threadWork p s t
     unfolding threadWork
     here-work =
-        let w : weighCode (codeLeft p s t)
+        let w : weighCode (unissuedCode p s t)
         ≡ unissuedWeight (instructionAt p t (issuedOf s t) .operation)
-        + weighCode (codeLeft p (withIssued s t (issuedOf s t + 1)) t)
+        + weighCode (unissuedCode p (withIssued s t (issuedOf s t + 1)) t)
         = ap weighCode code-next ∙ weigh-cons _ _ in
         let b : weighBuffer (buffer (withIssued s t (issuedOf s t + 1)) t) ≡ weighBuffer (buffer s t)
         = unfold withIssued in refl in
@@ -188,7 +188,7 @@ module _ (p : Program) (s : State) (f : Fits p s) where
 
   -- a word, a register
   pub work-word : (l w : ℕ) → work p (withWord s l w) ≡ work p s
-  work-word l w = unfold withWord work threadWork codeLeft unissued in refl
+  work-word l w = unfold withWord work threadWork unissuedCode unissued in refl
 
   pub work-register : (t r w : ℕ) → work p (withRegister s t r w) ≡ work p s
-  work-register t r w = unfold withRegister work threadWork codeLeft unissued in refl
+  work-register t r w = unfold withRegister work threadWork unissuedCode unissued in refl

@@ -1,11 +1,12 @@
 -- Document 01, refusal 33: "a machine state in memory that doesn't fit its case". The test is the one truth;
 -- the record of facts is what proofs use of it (`fits-exactly` in proofs/Promises.antt ties the two).
---   sumTo n f, anyFrom i n f   the sum of f below n; f is true of one of the n numbers from i on
---   strays, anyStrays          an entry, or one of a buffer's, names a location that the program lacks
---   anyForeign                 one of a queue's markers names a thread that it lacks
+--   sumTo n f        the sum of f below n
+--   anyFrom i n f    f is true of one of the n numbers from i on
+--   strays, anyStrays   an entry, or one of a buffer's, names a location that the program lacks
+--   anyForeign       one of a queue's markers names a thread that it lacks
 --   misfits p s      the test: 33 where it is true
 --   Fits p s         the facts: the program's numbers are in range, and the state fits it
---   Named, AllNamed, AllBorne  the same of entries and of markers
+--   Named, AllNamed, AllBorne   entries name locations, and markers bear threads, that the program has
 -- Assumes nothing.
 use Prim.Native.Nat.{ℕ, zero, suc, _+_, _-_, _<_, _≤_}
 use mathlib.Core.Path.{_≡_}
@@ -15,14 +16,14 @@ use lib.ListN.{length, getD}
 use lib.Dec.{leb, ltb}
 use Rattle.cases.specs.declared.case.Program.{Program}
 use Rattle.cases.specs.Choice.{both, either}
-use Rattle.cases.specs.Sizes.{mostThreads, mostInstructions, mostLocations, mostCode}
+use Rattle.cases.specs.Sizes.{mostThreads, mostInstructions, mostLocations, allCode}
 use Rattle.cases.specs.Ranges.{InstructionFits}
 use Rattle.cases.specs.Checks.{countAt}
 use Rattle.machine.specs.declared.cells.State.{State}
 use Rattle.machine.specs.declared.cells.Waiting.{Waiting}
 use Rattle.machine.specs.declared.cells.Entry.{Entry}
 use Rattle.machine.specs.declared.cells.Entry.the-variants.{Store, Flush, FlushOpt, Sfence}
-use Rattle.machine.specs.Sizes.{room, mostSlots, allRegisters}
+use Rattle.machine.specs.Sizes.{room, allSlots, allRegisters}
 use Rattle.machine.specs.View.{queueLen, marksIn, buffer, bufferLen, issuedOf}
 use Rattle.machine.specs.Rules.{instructionAt}
 
@@ -83,10 +84,10 @@ misfits p s =
 -- The same as facts. The arrays are as long as their types say, which a list alone doesn't.
 pub record Sized (s : State) : Type 0 where
   pub words-long : length (s .words) ≡ mostLocations
-  pub held-long : length (s .held) ≡ mostSlots
-  pub marks-long : length (s .marks) ≡ mostSlots
+  pub held-long : length (s .held) ≡ allSlots
+  pub marks-long : length (s .marks) ≡ allSlots
   pub lengths-long : length (s .lengths) ≡ mostLocations
-  pub buffers-long : length (s .buffers) ≡ mostCode
+  pub buffers-long : length (s .buffers) ≡ allCode
   pub waiting-long : length (s .waiting) ≡ mostThreads
   pub registers-long : length (s .registers) ≡ allRegisters
   pub issued-long : length (s .issued) ≡ mostThreads
@@ -95,7 +96,7 @@ pub record Sized (s : State) : Type 0 where
 pub record ProgramFits (p : Program) : Type 0 where
   pub first-long : length (p .first) ≡ mostLocations
   pub counts-long : length (p .counts) ≡ mostThreads
-  pub code-long : length (p .code) ≡ mostCode
+  pub code-long : length (p .code) ≡ allCode
   pub few-threads : p .threads ≤ mostThreads
   pub few-locations : p .locations ≤ mostLocations
   pub few-instructions : (t : ℕ) → countAt p t ≤ mostInstructions

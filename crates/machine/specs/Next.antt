@@ -9,7 +9,7 @@
 --   legalSteps p s   those that are legal in s
 --   rankOf, stepAt   a step's rank in that order, and the step of a rank
 --   listed ks        the steps ks, as an array of their ranks with its count
---   nextIn, nextSteps   the legal ones so, over the parts of a state that the rules look at, and of a state
+--   nextIn, nextSteps   `listed` of the legal ones: over the parts that the rules look at; of a state
 --   Listed, Ascending   how the theorems say "on the list" and "in that order, once"
 -- Assumes nothing.
 use Prim.Native.Nat.{ℕ, zero, suc, _+_, _*_, _-_, _/_, _%_, _<_}

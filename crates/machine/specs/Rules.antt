@@ -23,7 +23,7 @@ use Rattle.cases.specs.declared.case.Instruction.{Instruction}
 use Rattle.cases.specs.declared.case.Step.{Step}
 use Rattle.cases.specs.declared.case.Program.{Program}
 use Rattle.cases.specs.Choice.{pick, either, refuse}
-use Rattle.cases.specs.Sizes.{mostThreads, mostInstructions, mostLocations, mostCode}
+use Rattle.cases.specs.Sizes.{mostThreads, mostInstructions, mostLocations, allCode}
 use Rattle.cases.specs.Operations.{storeWord, storeRegister, load, exchange, flush, flushOpt, mfence}
 use Rattle.cases.specs.Operations.{issue, move}
 use Rattle.cases.specs.Checks.{countAt}
@@ -32,7 +32,7 @@ use Rattle.machine.specs.declared.cells.State.{State}
 use Rattle.machine.specs.declared.cells.Waiting.{Waiting}
 use Rattle.machine.specs.declared.cells.Entry.{Entry}
 use Rattle.machine.specs.declared.cells.Entry.the-variants.{Store, Flush, FlushOpt, Sfence}
-use Rattle.machine.specs.Sizes.{mostSlots, allRegisters}
+use Rattle.machine.specs.Sizes.{allSlots, allRegisters}
 use Rattle.machine.specs.View.{Slot, queueOf, writeSlot, markerSlot}
 use Rattle.machine.specs.View.{without, queue, withQueue, blankWaiting}
 use Rattle.machine.specs.View.{bufferIn, buffer, withBuffer, wordOf, withWord}
@@ -170,10 +170,10 @@ unfoldable pub startOf : Program → State
 startOf p =
     record {
       words = p .first;
-      held = replicate mostSlots 0;
-      marks = replicate mostSlots 0;
+      held = replicate allSlots 0;
+      marks = replicate allSlots 0;
       lengths = replicate mostLocations 0;
-      buffers = replicate mostCode blankWaiting;
+      buffers = replicate allCode blankWaiting;
       waiting = replicate mostThreads 0;
       registers = replicate allRegisters 0;
       issued = replicate mostThreads 0;

@@ -7,7 +7,7 @@
 --   programWeight p t   thread t's part of it, from the program alone
 --   cost                what a legal step uses up of it
 --   workOf, fullOf      what is told of a case and a state in memory
---   weighedNo, weighedWork   its number, and the work
+--   weighedNo, weighedWork   of such an answer: 01's number, and the work left
 -- Assumes nothing.
 use Prim.Native.Nat.{ℕ, _+_, _*_, _<_}
 use mathlib.Core.Logic.{_⊎_, _≢_}
@@ -61,11 +61,11 @@ weighBuffer [] = 0
 weighBuffer (w ∷ b) = waitingWeight (w .entry) + weighBuffer b
 
 -- the instructions of thread t that are not issued yet, in their order
-unfoldable pub codeLeft : Program → State → ℕ → List Instruction
-codeLeft p s t = part (t * mostInstructions + issuedOf s t) (unissued p s t) (p .code)
+unfoldable pub unissuedCode : Program → State → ℕ → List Instruction
+unissuedCode p s t = part (t * mostInstructions + issuedOf s t) (unissued p s t) (p .code)
 
 unfoldable pub threadWork : Program → State → ℕ → ℕ
-threadWork p s t = weighCode (codeLeft p s t) + weighBuffer (buffer s t)
+threadWork p s t = weighCode (unissuedCode p s t) + weighBuffer (buffer s t)
 
 -- "Each queue entry 1."
 unfoldable pub work : Program → State → ℕ

@@ -10,8 +10,8 @@ use cases::sizes::CODE;
 ghost use mathlib.Core.Path.{_≡_};
 ghost use Prim.Native.Nat.{_<_, _≤_};
 ghost use lib.ListN.{length};
-ghost use Rattle.cases.specs.Sizes.{mostLocations, mostCode};
-ghost use Rattle.machine.specs.Sizes.{room, mostSlots};
+ghost use Rattle.cases.specs.Sizes.{mostLocations, allCode};
+ghost use Rattle.machine.specs.Sizes.{room, allSlots};
 ghost use Rattle.machine.specs.View.{closeGap, queueLen};
 ghost use Rattle.machine.specs.View.{blankWaiting};
 ghost use Rattle.machine.specs.Rules as rules;
@@ -33,7 +33,7 @@ pub(crate) fn enqueue(s: State, l: Location, word: u32, mark: u8) -> State
 
 // The words behind `from`, up to `end`, each one down, and the last of them 0.
 pub(crate) fn close_words(held: &mut [u32; SLOTS], from: usize, end: usize)
-    requires { ⌜ (from < end) × (end ≤ mostSlots) × (length (now held) ≡ mostSlots) ⌝ }
+    requires { ⌜ (from < end) × (end ≤ allSlots) × (length (now held) ≡ allSlots) ⌝ }
     ensures { λ r. ⌜ now (held .exit) ≡ closeGap 0 from end (now (held .entry)) ⌝ }
 {
     let mut i = from + 1;
@@ -46,7 +46,7 @@ pub(crate) fn close_words(held: &mut [u32; SLOTS], from: usize, end: usize)
 
 // The same of marks.
 pub(crate) fn close_marks(marks: &mut [u8; SLOTS], from: usize, end: usize)
-    requires { ⌜ (from < end) × (end ≤ mostSlots) × (length (now marks) ≡ mostSlots) ⌝ }
+    requires { ⌜ (from < end) × (end ≤ allSlots) × (length (now marks) ≡ allSlots) ⌝ }
     ensures { λ r. ⌜ now (marks .exit) ≡ closeGap 0 from end (now (marks .entry)) ⌝ }
 {
     let mut i = from + 1;
@@ -60,7 +60,7 @@ pub(crate) fn close_marks(marks: &mut [u8; SLOTS], from: usize, end: usize)
 // The entries behind `from`, up to `end`, each one down, and the last of them blank. By value: an array of
 // structs can't be lent.
 pub(crate) fn close_entries(buffers: [Waiting; CODE], from: usize, end: usize) -> [Waiting; CODE]
-    requires { ⌜ (from < end) × (end ≤ mostCode) ⌝ }
+    requires { ⌜ (from < end) × (end ≤ allCode) ⌝ }
     ensures { λ r. ⌜ r ≡ closeGap blankWaiting from end buffers ⌝ }
 {
     let mut b = buffers;

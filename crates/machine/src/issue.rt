@@ -26,7 +26,7 @@ ghost use Prim.Native.Nat.{_+_, _<_, _≤_};
 ghost use lib.ListN.{length};
 ghost use Rattle.cases.specs.Sizes.{mostThreads, mostInstructions, mostLocations, mostRegisters};
 ghost use Rattle.cases.specs.Checks.{countAt};
-ghost use Rattle.machine.specs.Sizes.{room, mostSlots};
+ghost use Rattle.machine.specs.Sizes.{room, allSlots};
 ghost use Rattle.machine.specs.View.{queueLen, bufferLen, issuedOf};
 ghost use Rattle.machine.specs.Rules.{instructionAt, isBarrier, barrierRule, operationRule};
 ghost use Rattle.machine.specs.Rules.{issueRule, entryOf, loaded, exchanged, performed, issueOf, await};
@@ -48,7 +48,7 @@ fn barrier_rule<'a>(
     lengths: &'a [u8; LOCATIONS],
     t: Thread,
 ) -> u8
-    requires { ⌜ (t .0 < mostThreads) × Shallow (now lengths) × (length (now marks) ≡ mostSlots) ⌝ }
+    requires { ⌜ (t .0 < mostThreads) × Shallow (now lengths) × (length (now marks) ≡ allSlots) ⌝ }
     ensures { λ r. ⌜ r
         ≡ barrierRule (now (waiting .entry)) (now (marks .entry)) (now (lengths .entry)) (t .0) ⌝ }
 {
@@ -68,7 +68,7 @@ pub(crate) fn operation_rule<'a>(
     lengths: &'a [u8; LOCATIONS],
     t: Thread,
 ) -> u8
-    requires { ⌜ (t .0 < mostThreads) × Shallow (now lengths) × (length (now marks) ≡ mostSlots) ⌝ }
+    requires { ⌜ (t .0 < mostThreads) × Shallow (now lengths) × (length (now marks) ≡ allSlots) ⌝ }
     ensures { λ r. ⌜ r
         ≡ operationRule op (now (waiting .entry)) (now (marks .entry)) (now (lengths .entry)) (t .0) ⌝ }
 {
@@ -88,7 +88,7 @@ pub(crate) fn issue_rule<'a>(
     t: Thread,
 ) -> u8
     requires { ⌜ (t .0 < mostThreads) × (countAt p (t .0) ≤ mostInstructions) × Shallow (now lengths)
-        × (length (now marks) ≡ mostSlots) ⌝ }
+        × (length (now marks) ≡ allSlots) ⌝ }
     ensures { λ r. ⌜ r
         ≡ issueRule p (now (issued .entry)) (now (waiting .entry)) (now (marks .entry)) (now (lengths .entry))
         (t .0) ⌝ }

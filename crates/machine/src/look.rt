@@ -14,7 +14,7 @@ ghost use mathlib.Core.Path.{_≡_};
 ghost use Prim.Native.Nat.{_<_, _≤_};
 ghost use lib.ListN.{length, getD, take};
 ghost use Rattle.cases.specs.Sizes.{mostThreads, mostInstructions, mostLocations};
-ghost use Rattle.machine.specs.Sizes.{room, mostSlots};
+ghost use Rattle.machine.specs.Sizes.{room, allSlots};
 ghost use Rattle.machine.specs.View.{queueIn, bufferIn};
 ghost use Rattle.machine.specs.Fit.{Shallow};
 ghost use Rattle.machine.specs.Look.{wordOr, newestWrite, storedOr, newestStore, markerOf, marked, bars};
@@ -42,7 +42,7 @@ pub(crate) fn newest_write<'a>(
     other: u32,
 ) -> u32
     requires { ⌜ (l .0 < mostLocations) × (getD (now lengths) (l .0) 0 ≤ room)
-        × (length (now held) ≡ mostSlots) × (length (now marks) ≡ mostSlots) ⌝ }
+        × (length (now held) ≡ allSlots) × (length (now marks) ≡ allSlots) ⌝ }
     ensures { λ r. ⌜ r
         ≡ newestWrite (queueIn (now (held .entry)) (now (marks .entry)) (now (lengths .entry)) (l .0)) other ⌝ }
 {
@@ -96,7 +96,7 @@ pub(crate) fn newest_store<'a>(
 
 // The first marker of a thread, by queue and then by position.
 pub(crate) fn marker<'a>(marks: &'a [u8; SLOTS], lengths: &'a [u8; LOCATIONS], t: Thread) -> Found
-    requires { ⌜ (t .0 < mostThreads) × Shallow (now lengths) × (length (now marks) ≡ mostSlots) ⌝ }
+    requires { ⌜ (t .0 < mostThreads) × Shallow (now lengths) × (length (now marks) ≡ allSlots) ⌝ }
     ensures { λ r. ⌜ r ≡ markerOf (now (marks .entry)) (now (lengths .entry)) (t .0) ⌝ }
 {
     let mark = t.0 + 1;
@@ -119,7 +119,7 @@ pub(crate) fn marker<'a>(marks: &'a [u8; SLOTS], lengths: &'a [u8; LOCATIONS], t
 
 // Does some queue hold a marker of the thread?
 pub(crate) fn is_marked<'a>(marks: &'a [u8; SLOTS], lengths: &'a [u8; LOCATIONS], t: Thread) -> bool
-    requires { ⌜ (t .0 < mostThreads) × Shallow (now lengths) × (length (now marks) ≡ mostSlots) ⌝ }
+    requires { ⌜ (t .0 < mostThreads) × Shallow (now lengths) × (length (now marks) ≡ allSlots) ⌝ }
     ensures { λ r. ⌜ r ≡ marked (now (marks .entry)) (now (lengths .entry)) (t .0) ⌝ }
 {
     match marker(marks, lengths, t) {

@@ -16,7 +16,7 @@ ghost use mathlib.Core.Path.{_≡_};
 ghost use Prim.Native.Nat.{_<_, _≤_};
 ghost use lib.ListN.{length, getD};
 ghost use Rattle.cases.specs.Sizes.{mostThreads, mostInstructions, mostLocations};
-ghost use Rattle.machine.specs.Sizes.{room, mostSlots};
+ghost use Rattle.machine.specs.Sizes.{room, allSlots};
 ghost use Rattle.machine.specs.View.{queueLen, bufferIn, buffer, bufferLen};
 ghost use Rattle.machine.specs.Rules.{effectRule, effectOf, passRule, entryAt, moveRule, moveOf};
 ghost use Rattle.machine.specs.Rules.{persistRule, persistOf};
@@ -25,7 +25,7 @@ ghost use Rattle.machine.specs.Fit.{Named, Shallow, Roomy};
 // The rule that an entry's effect breaks; 0 where it is legal.
 fn effect_rule<'a>(marks: &'a [u8; SLOTS], lengths: &'a [u8; LOCATIONS], t: Thread, e: Entry) -> u8
     requires { ⌜ (t .0 < mostThreads) × Named mostLocations e × Shallow (now lengths)
-        × (length (now marks) ≡ mostSlots) ⌝ }
+        × (length (now marks) ≡ allSlots) ⌝ }
     ensures { λ r. ⌜ r ≡ effectRule (now (marks .entry)) (now (lengths .entry)) (t .0) e ⌝ }
 {
     match e {
@@ -79,7 +79,7 @@ pub(crate) fn move_rule<'a>(
 ) -> u8
     requires { ⌜ (t .0 < mostThreads) × (getD (now waiting) (t .0) 0 ≤ mostInstructions)
         × Named mostLocations (entryAt (bufferIn buffers (now waiting) (t .0)) 0) × Shallow (now lengths)
-        × (length (now marks) ≡ mostSlots) ⌝ }
+        × (length (now marks) ≡ allSlots) ⌝ }
     ensures { λ r. ⌜ r
         ≡ moveRule buffers (now (waiting .entry)) (now (marks .entry)) (now (lengths .entry)) (t .0) i ⌝ }
 {

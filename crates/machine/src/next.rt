@@ -22,7 +22,7 @@ ghost use mathlib.Core.Path.{_≡_};
 ghost use lib.ListN.{length};
 ghost use Prim.Native.Nat.{_+_, _*_, _<_, _≤_};
 ghost use Rattle.cases.specs.Sizes.{mostThreads, mostInstructions, mostLocations};
-ghost use Rattle.machine.specs.Sizes.{mostSlots, mostCandidates};
+ghost use Rattle.machine.specs.Sizes.{allSlots, mostCandidates};
 ghost use Rattle.machine.specs.Fit.{ProgramFits, Shallow};
 ghost use Rattle.machine.specs.Next.{issuesFrom, movesAt, movesFrom, persistsFrom};
 ghost use Rattle.machine.specs.Next.{rankOf, stepAt, nextIn};
@@ -93,7 +93,7 @@ fn offer_issues<'a>(
     ranks: &mut [u8; CANDIDATES],
     count: u8,
 ) -> u8
-    requires { ⌜ ProgramFits p × Shallow (now lengths) × (length (now marks) ≡ mostSlots)
+    requires { ⌜ ProgramFits p × Shallow (now lengths) × (length (now marks) ≡ allSlots)
         × (count + mostThreads ≤ mostCandidates) ⌝ }
     ensures { λ r. ⌜ nextWith r (now (ranks .exit)) ≡ offeredAll
         (issueRuleAt p (now (issued .entry)) (now (waiting .entry)) (now (marks .entry)) (now (lengths .entry)))
@@ -138,7 +138,7 @@ fn offer_moves_of<'a>(
     count: u8,
 ) -> u8
     requires { ⌜ (t .0 < mostThreads) × Movable buffers (now waiting) × Shallow (now lengths)
-        × (length (now marks) ≡ mostSlots) × (count + mostInstructions ≤ mostCandidates) ⌝ }
+        × (length (now marks) ≡ allSlots) × (count + mostInstructions ≤ mostCandidates) ⌝ }
     ensures { λ r. ⌜ nextWith r (now (ranks .exit)) ≡ offeredAll
         (moveRuleAt buffers (now (waiting .entry)) (now (marks .entry)) (now (lengths .entry)))
         (movesAt (t .0) 0 mostInstructions) (nextWith count (now (ranks .entry))) ⌝ }
@@ -174,7 +174,7 @@ fn offer_moves<'a>(
     count: u8,
 ) -> u8
     requires { ⌜ (threads ≤ mostThreads) × Movable buffers (now waiting) × Shallow (now lengths)
-        × (length (now marks) ≡ mostSlots) × (count + mostThreads * mostInstructions ≤ mostCandidates) ⌝ }
+        × (length (now marks) ≡ allSlots) × (count + mostThreads * mostInstructions ≤ mostCandidates) ⌝ }
     ensures { λ r. ⌜ nextWith r (now (ranks .exit)) ≡ offeredAll
         (moveRuleAt buffers (now (waiting .entry)) (now (marks .entry)) (now (lengths .entry)))
         (movesFrom 0 threads) (nextWith count (now (ranks .entry))) ⌝ }
@@ -229,7 +229,7 @@ pub fn next_steps<'a>(
     lengths: &'a [u8; LOCATIONS],
 ) -> Next
     requires { ⌜ ProgramFits p × Movable buffers (now waiting) × Shallow (now lengths)
-        × (length (now marks) ≡ mostSlots) ⌝ }
+        × (length (now marks) ≡ allSlots) ⌝ }
     ensures { λ r. ⌜ r
         ≡ nextIn p buffers (now (issued .entry)) (now (waiting .entry)) (now (marks .entry))
         (now (lengths .entry)) ⌝ }

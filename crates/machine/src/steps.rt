@@ -21,7 +21,7 @@ use cases::sizes::THREADS;
 ghost use mathlib.Core.Path.{_≡_};
 ghost use lib.ListN.{length};
 ghost use Rattle.cases.specs.Checks.{stepFault};
-ghost use Rattle.machine.specs.Sizes.{mostSlots};
+ghost use Rattle.machine.specs.Sizes.{allSlots};
 ghost use Rattle.machine.specs.Rules.{ruleIn, ruleOf, nextOf, startOf};
 ghost use Rattle.machine.specs.Fit.{Fits, ProgramFits, Shallow};
 ghost use Rattle.machine.specs.Offer.{Movable};
@@ -84,7 +84,7 @@ pub(crate) fn rule<'a>(
     k: Step,
 ) -> u8
     requires { ⌜ ProgramFits p × Movable buffers (now waiting) × Shallow (now lengths)
-        × (length (now marks) ≡ mostSlots) × (stepFault p k ≡ 0) ⌝ }
+        × (length (now marks) ≡ allSlots) × (stepFault p k ≡ 0) ⌝ }
     ensures { λ r. ⌜ r
         ≡ ruleIn p buffers (now (issued .entry)) (now (waiting .entry)) (now (marks .entry))
         (now (lengths .entry)) k ⌝ }

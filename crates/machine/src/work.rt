@@ -21,11 +21,11 @@ use cases::sizes::THREADS;
 ghost use mathlib.Core.Path.{_≡_};
 ghost use Prim.Native.Nat.{_+_, _*_, _<_, _≤_};
 ghost use lib.ListN.{getD};
-ghost use Rattle.cases.specs.Sizes.{mostThreads, mostInstructions, mostLocations, mostCode};
+ghost use Rattle.cases.specs.Sizes.{mostThreads, mostInstructions, mostLocations, allCode};
 ghost use Rattle.cases.specs.Checks.{countAt};
 ghost use Rattle.machine.specs.View.{bufferIn, queueLen, issuedOf};
 ghost use Rattle.machine.specs.Fit.{sumTo, Fits};
-ghost use Rattle.machine.specs.Work.{unissuedWeight, waitingWeight, weighCode, weighBuffer, codeLeft};
+ghost use Rattle.machine.specs.Work.{unissuedWeight, waitingWeight, weighCode, weighBuffer, unissuedCode};
 ghost use Rattle.machine.specs.Work.{threadWork, work, weighedNo, weighedWork, workOf, fullOf};
 
 // The work left, or the number of the refusal.
@@ -98,7 +98,7 @@ fn waiting_weight(w: Waiting) -> usize
 fn weigh_code(p: Program, s: State, t: Thread) -> usize
     requires { ⌜ (t .0 < mostThreads) × (issuedOf s (t .0) ≤ countAt p (t .0))
         × (countAt p (t .0) ≤ mostInstructions) ⌝ }
-    ensures { λ r. ⌜ (r ≡ weighCode (codeLeft p s (t .0))) × (r ≤ 3 * mostInstructions) ⌝ }
+    ensures { λ r. ⌜ (r ≡ weighCode (unissuedCode p s (t .0))) × (r ≤ 3 * mostInstructions) ⌝ }
 {
     let q = p;
     let u = s;
@@ -134,7 +134,7 @@ fn weigh_buffer<'a>(buffers: [Waiting; CODE], waiting: &'a [u8; THREADS], t: Thr
 
 fn threads_work(p: Program, s: State) -> usize
     requires { ⌜ Fits p s ⌝ }
-    ensures { λ r. ⌜ (r ≡ sumTo mostThreads (threadWork p s)) × (r ≤ 5 * mostCode) ⌝ }
+    ensures { λ r. ⌜ (r ≡ sumTo mostThreads (threadWork p s)) × (r ≤ 5 * allCode) ⌝ }
 {
     let u = s;
     let mut total: usize = 0;

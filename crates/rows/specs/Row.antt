@@ -1,4 +1,4 @@
--- A row of document 01 (Row): records, and what must come out of their bytes.
+-- A row of document 01: records, and what must come out of their bytes.
 --   asked rs full b d   a program of the full length `full`, asked with the budget b: the answer d, with the
 --                       walk's first run where it is reached
 --   ruled rs v          a run, judged: legal with its number of steps, or the rule and the index
@@ -24,6 +24,7 @@ use Rattle.machine.specs.Judge.{judgeBytes}
 use Rattle.search.specs.Question.{Decided, askOf, toldOf, questionOf, shownBy, shownOf}
 use Rattle.rows.specs.Words.{bytesOf}
 
+-- a question, a run judged, or bytes read
 pub data Row : Type 0 where
   asked : List Record → ℕ → ℕ → Decided Step → Row
   ruled : List Record → Verdict → Row

@@ -28,7 +28,7 @@ use Rattle.search.specs.declared.walk.Walked.the-variants.{Found, Finish
 use Rattle.search.specs.declared.ask.Outcome.{Outcome}
 use Rattle.search.specs.declared.ask.Outcome.the-variants.{Reached, Unreachable, Undecided, Refused}
 use Rattle.search.specs.Walk.{Visit, walkOf}
-use Rattle.search.specs.Question.{reaches, reached, FirstThat, walkFrom, askOf, toldOf, short, answerOf}
+use Rattle.search.specs.Question.{reaches, reached, FirstThat, walkFrom, askOf, toldOf, short, answerFor}
 use Rattle.search.specs.Question.{questionOf, shownBy, shownFor, shownOf}
 use Rattle.search.specs.Seek.{Sought, hit, done, spent, seek, walkedOf, storedOf}
 use Rattle.machine.proofs.ListLaws.{listed-right}
@@ -76,8 +76,8 @@ module _ (p : Program) (fits : ProgramFits p) (a : Ask) (b : ℕ) where
 
     -- the buffer is too short
     pub answer-short : length out < stepSize * w
-        → (Refused 31 0 ≡ answerOf p a (length out) b) × (out ≡ shownFor p a b out)
-    unfolding answerOf shownFor short
+        → (Refused 31 0 ≡ answerFor p a (length out) b) × (out ≡ shownFor p a b out)
+    unfolding answerFor shownFor short
     answer-short h =
         let e = full-is in
         let t = lt-ltb (length out) (stepSize * fullLength p) (omega arith) in
@@ -91,10 +91,10 @@ module _ (p : Program) (fits : ProgramFits p) (a : Ask) (b : ℕ) where
       sought = seek (reaches a) b (walkOf p s)
 
       abbrev Answers : Outcome → Type 0
-      Answers o = (o ≡ answerOf p a (length out) b) × (last ≡ shownFor p a b out)
+      Answers o = (o ≡ answerFor p a (length out) b) × (last ≡ shownFor p a b out)
 
       answer-as : (o : Outcome) → o ≡ toldOf (askOf p a b) → last ≡ shownBy (askOf p a b) out → Answers o
-      unfolding answerOf shownFor short
+      unfolding answerFor shownFor short
       answer-as o e f =
           let g = full-is in
           let t = le-ltb (length out) (stepSize * fullLength p) (omega arith) in
@@ -157,12 +157,12 @@ module _ (s : List ℕ) (r : Reading) (r-is : r ≡ readOf s) (n : ℕ) (n-is : 
     question-fits = rw r-is (read-fits s (sym number-is ∙ h))
 
     pub question-read : (b : ℕ) (out : List ℕ) (o : Outcome) (last : List ℕ)
-        → (o ≡ answerOf (r .case .program) (r .case .ask) (length out) b)
+        → (o ≡ answerFor (r .case .program) (r .case .ask) (length out) b)
         × (last ≡ shownFor (r .case .program) (r .case .ask) b out)
         → (o ≡ questionOf s (length out) b) × (last ≡ shownOf s b out)
     unfolding questionOf shownOf
     question-read b out o last e =
         let t = eq-eqb (numberOf (readOf s .answer)) 0 (sym number-is ∙ h) in
-        let same = ap (λ (x : Reading). answerOf (x .case .program) (x .case .ask) (length out) b) r-is in
+        let same = ap (λ (x : Reading). answerFor (x .case .program) (x .case .ask) (length out) b) r-is in
         let shown = ap (λ (x : Reading). shownFor (x .case .program) (x .case .ask) b out) r-is in
         (e .0 ∙ same ∙ sym (pick-true _ _ _ t), e .1 ∙ shown ∙ sym (pick-true _ _ _ t))

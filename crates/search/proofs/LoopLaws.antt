@@ -88,7 +88,7 @@ walking-start p a s b next out f n t e =
 
 module _ {p : Program} {a : Ask} {s : State} {b : ℕ} {next : Next} {before out : List ℕ} {left i : ℕ}
     (o : Walking p a s b next before out left i) where
-  -- there are no more next steps than places for them
+  -- there are no more next steps than room for them
   pub walking-few : next .count ≤ mostCandidates
   walking-few = let e = ap (λ (x : Next). x .count) (o .list) in omega (arith, next-steps-few p s (o .fit))
 

@@ -28,7 +28,7 @@ use Rattle.search.specs.declared.ask.Outcome.the-variants.{Reached, Unre
 use Rattle.search.specs.Walk.{Visit, here, InOrder}
 use Rattle.search.specs.Question.{reaches, reached, unreachable, undecided, None, FirstThat, walkFrom}
 use Rattle.search.specs.Question.{askOf, outcomeNo, outcomePlace, toldOf, questionOf, shownOf}
-use Rattle.search.specs.Seek.{seek, walkedOf, walkedNo, walkedPlace, walkedLeft}
+use Rattle.search.specs.Seek.{seek, walkedOf, walkedNo, walkedPlace, walkedRest}
 use Rattle.search.proofs.PtsoLaws as PtsoLaws
 use Rattle.search.proofs.OrderLaws as OrderLaws
 use Rattle.search.proofs.BudgetLaws as BudgetLaws
@@ -125,9 +125,9 @@ module _ (p : Program) (a : Ask) (b : ℕ) where
   walked-told = WalkedLaws.walked-told p a b
 
   -- where no run reaches and the budget covers the walk, it leaves what the walk's runs don't use up
-  pub walked-left : None (reaches a) (walkFrom p) → length (walkFrom p) ≤ b
-      → walkedLeft (walkedOf 0 (seek (reaches a) b (walkFrom p))) + length (walkFrom p) ≡ b
-  walked-left = WalkedLaws.walked-left p a b
+  pub walked-rest : None (reaches a) (walkFrom p) → length (walkFrom p) ≤ b
+      → walkedRest (walkedOf 0 (seek (reaches a) b (walkFrom p))) + length (walkFrom p) ≡ b
+  walked-rest = WalkedLaws.walked-rest p a b
 
 -- a budget of just the runs before the first that reaches decides nothing: one less than where that run stands
 pub one-less-undecided : (p : Program) (a : Ask) (before : List (Visit State Step)) (v : Visit State Step)

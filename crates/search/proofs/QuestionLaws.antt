@@ -24,7 +24,7 @@ use Rattle.search.specs.declared.ask.Outcome.{Outcome}
 use Rattle.search.specs.declared.ask.Outcome.the-variants.{Reached, Unreachable, Undecided, Refused}
 use Rattle.search.specs.Walk.{Visit, here, walk, walkOf}
 use Rattle.search.specs.Question.{Decided, reached, unreachable, undecided, walkFrom, askOf}
-use Rattle.search.specs.Question.{outcomeNo, outcomePlace, toldOf, short, answerOf, questionOf}
+use Rattle.search.specs.Question.{outcomeNo, outcomePlace, toldOf, short, answerFor, questionOf}
 use Rattle.search.specs.Question.{shownBy, shownFor, shownOf}
 use Rattle.search.proofs.PtsoLaws.{walk-short}
 use Rattle.search.proofs.AskLaws.{reached-short}
@@ -67,12 +67,12 @@ module _ (s : List ℕ) (room b : ℕ) where
   module _ (read : numberOf (readOf s .answer) ≡ 0) where
     pub question-short : room < stepSize * fullLength (readOf s .case .program)
         → questionOf s room b ≡ Refused 31 0
-    unfolding questionOf answerOf short
+    unfolding questionOf answerFor short
     question-short h = pick-true _ _ _ (eq-eqb _ _ read) ∙ pick-true _ _ _ (lt-ltb _ _ h)
 
     module _ (h : stepSize * fullLength (readOf s .case .program) ≤ room) where
       told : questionOf s room b ≡ toldOf (askOf (readOf s .case .program) (readOf s .case .ask) b)
-      unfolding questionOf answerOf short
+      unfolding questionOf answerFor short
       told = pick-true _ _ _ (eq-eqb _ _ read) ∙ pick-false _ _ _ (le-ltb _ _ h)
 
       pub question-reached : (n : ℕ)
@@ -122,7 +122,7 @@ told-stores out undecided n = refl
 pub only-reached-stores : (s : List ℕ) (b : ℕ) (out : List ℕ)
     → outcomeNo (questionOf s (length out) b) ≢ 100
     → shownOf s b out ≡ out
-unfolding questionOf answerOf shownOf shownFor Stores
+unfolding questionOf answerFor shownOf shownFor Stores
 only-reached-stores s b out =
     pick-pair (Stores out) (eqb (numberOf (readOf s .answer)) 0) _ _ _ _
     (pick-pair (Stores out) (short (readOf s .case .program) (length out)) _ _ _ _
@@ -141,7 +141,7 @@ unfolding questionOf shownOf
 steps-not-looked-at s t g h p a b out =
     let x = eq-eqb (numberOf (readOf s .answer)) 0 g in
     let y = eq-eqb (numberOf (readOf t .answer)) 0 h in (
-      pick-true _ _ _ x ∙ (λ i. answerOf (p i) (a i) (length out) b) ∙ sym (pick-true _ _ _ y),
+      pick-true _ _ _ x ∙ (λ i. answerFor (p i) (a i) (length out) b) ∙ sym (pick-true _ _ _ y),
       pick-true _ _ _ x ∙ (λ i. shownFor (p i) (a i) b out) ∙ sym (pick-true _ _ _ y),
     )
 
@@ -157,7 +157,7 @@ told-low undecided f = (omega arith, omega arith)
 
 pub question-low : (s : List ℕ) (room b : ℕ)
     → (outcomeNo (questionOf s room b) < 256) × (outcomePlace (questionOf s room b) ≤ longest)
-unfolding questionOf answerOf Low
+unfolding questionOf answerFor Low
 question-low s room b =
     pick-cases Low (eqb (numberOf (readOf s .answer)) 0) _ _
     (λ h.

@@ -14,7 +14,7 @@ use Rattle.machine.specs.Next.{Listed}
 use Rattle.search.specs.Walk.{Visit}
 use Rattle.search.specs.Question.{reaches, None, walkFrom, askOf, outcomeNo, outcomePlace, toldOf}
 use Rattle.search.specs.Seek.{Sought, hit, done, spent, seek, walkedOf, walkedNo, walkedPlace}
-use Rattle.search.specs.Seek.{walkedLeft}
+use Rattle.search.specs.Seek.{walkedRest}
 use Rattle.search.proofs.SeekLaws.{comesTo, seek-decides}
 
 -- each of the three
@@ -43,9 +43,9 @@ seek-none test zero n (v ∷ vs) f e = absurd (omega arith)
 seek-none test (suc b) n (v ∷ vs) f e =
     rw (f v (inl refl), seek) (seek-none test b n vs (λ w h. f w (inr h)) (omega arith))
 
-pub walked-left : (p : Program) (a : Ask) (b : ℕ) → None (reaches a) (walkFrom p) → length (walkFrom p) ≤ b
-    → walkedLeft (walkedOf 0 (seek (reaches a) b (walkFrom p))) + length (walkFrom p) ≡ b
+pub walked-rest : (p : Program) (a : Ask) (b : ℕ) → None (reaches a) (walkFrom p) → length (walkFrom p) ≤ b
+    → walkedRest (walkedOf 0 (seek (reaches a) b (walkFrom p))) + length (walkFrom p) ≡ b
 unfolding walkedOf
-walked-left p a b none covers =
+walked-rest p a b none covers =
     let n : ℕ = b - length (walkFrom p) in
     rw (seek-none (reaches a) b n (walkFrom p) none (omega arith)) (omega arith)

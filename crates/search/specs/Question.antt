@@ -7,8 +7,8 @@
 --   walkFrom p           the walk of a program
 --   askOf p a b          what a budget b says of it
 --   outcomeNo, outcomePlace   01's number of an answer, and its place
---   toldOf d             how that is told
---   answerOf p a room b, shownFor p a b out   the answer for a program, and what the lent bytes hold afterwards
+--   toldOf d             the answer that a caller gets for d
+--   answerFor p a room b, shownFor p a b out   the answer for a program, and what the lent bytes hold afterwards
 --   questionOf s room b  what the question answers for the bytes s, a lent buffer of `room` bytes, a budget b
 --   shownOf s b out      what the lent bytes `out` hold afterwards
 -- Assumes nothing.
@@ -118,13 +118,13 @@ toldOf undecided = Undecided
 unfoldable pub short : Program → ℕ → Bool
 short p room = ltb room (stepSize * fullLength p)
 
-unfoldable pub answerOf : Program → Ask → ℕ → ℕ → Outcome
-answerOf p a room b = pick (short p room) (Refused 31 0) (toldOf (askOf p a b))
+unfoldable pub answerFor : Program → Ask → ℕ → ℕ → Outcome
+answerFor p a room b = pick (short p room) (Refused 31 0) (toldOf (askOf p a b))
 
 unfoldable pub questionOf : List ℕ → ℕ → ℕ → Outcome
 questionOf s room b =
     pick (eqb (numberOf (readOf s .answer)) 0)
-    (answerOf (readOf s .case .program) (readOf s .case .ask) room b)
+    (answerFor (readOf s .case .program) (readOf s .case .ask) room b)
     (Refused (numberOf (readOf s .answer)) (offsetOf (readOf s .answer)))
 
 -- "100 reached (the first such run, as kind 6 records in the lent buffer ..)": from the front, and nothing

@@ -2,7 +2,7 @@
 -- this page.
 --   seek test b vs      the first of the runs vs that passes the test, at a budget b
 --   walkedOf d x        what the walk at depth d answers
---   walkedNo, walkedPlace, walkedLeft   of that answer: 01's number, its place, what is left of the budget
+--   walkedNo, walkedPlace, walkedRest   of that answer: 01's number, its place, what is left of the budget
 --   storedOf d x out    what it leaves in the lent bytes: the run's records behind those of the first d steps
 -- Assumes nothing.
 use Prim.Native.Nat.{ℕ, zero, suc, _+_, _*_}
@@ -45,12 +45,12 @@ walkedPlace (Found n) = n
 walkedPlace (Finished b) = 0
 walkedPlace Stopped = 0
 
--- told only of a walk that ended; a budget that is used up leaves none, and behind a run that reaches none is
--- asked for
-abbrev pub walkedLeft : Walked → ℕ
-walkedLeft (Found n) = 0
-walkedLeft (Finished b) = b
-walkedLeft Stopped = 0
+-- what is left of the budget where the walk came to its end: one that is used up leaves 0, and where a run is
+-- found nobody asks
+abbrev pub walkedRest : Walked → ℕ
+walkedRest (Found n) = 0
+walkedRest (Finished b) = b
+walkedRest Stopped = 0
 
 unfoldable pub storedOf : ℕ → Sought Step → List ℕ → List ℕ
 storedOf d (hit run) out = sets out (stepSize * d) (stepsBytes run)

@@ -6,7 +6,7 @@ use borrow.Author.Needs.{needs}
 use Rattle.batch.proofs.print.part.Statement.{statement}
 use Rattle.batch.proofs.print.part.Tie as tie
 
--- the count is that of the bytes, and the place is at most there
+-- the count is that of the bytes, and `at` is at most that
 abbrev Inv-loop : tie.InvT-loop
 Inv-loop rest count at₀ end at = (at ≤ count) × (count ≡ length rest)
 

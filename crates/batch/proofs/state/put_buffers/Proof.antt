@@ -1,16 +1,16 @@
 -- `put_buffers` is safe and ends: the measure is how many entries are still to come. Assumes nothing.
 use Prim.Native.Nat.{_≤_, _-_}
 use borrow.Author.Needs.{needs}
-use Rattle.cases.specs.Sizes.{mostCode}
+use Rattle.cases.specs.Sizes.{allCode}
 use Rattle.batch.proofs.state.put_buffers.Statement.{statement}
 use Rattle.batch.proofs.state.put_buffers.Tie as tie
 
 -- the index is at most the number of entries
 abbrev Inv-loop : tie.InvT-loop
-Inv-loop raw₀ u i₀ raw i = i ≤ mostCode
+Inv-loop raw₀ u i₀ raw i = i ≤ allCode
 
 abbrev μ-loop : tie.MeasureT-loop
-μ-loop raw₀ u i₀ raw i = mostCode - i
+μ-loop raw₀ u i₀ raw i = allCode - i
 
 loop-holds : tie.Need-loop-holds Inv-loop μ-loop
 loop-holds c = search needs

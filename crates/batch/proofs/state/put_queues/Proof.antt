@@ -1,16 +1,16 @@
 -- `put_queues` is safe and ends: the measure is how many slots are still to come. Assumes nothing.
 use Prim.Native.Nat.{_≤_, _-_}
 use borrow.Author.Needs.{needs}
-use Rattle.machine.specs.Sizes.{mostSlots}
+use Rattle.machine.specs.Sizes.{allSlots}
 use Rattle.batch.proofs.state.put_queues.Statement.{statement}
 use Rattle.batch.proofs.state.put_queues.Tie as tie
 
 -- the index is at most the number of slots
 abbrev Inv-loop : tie.InvT-loop
-Inv-loop raw₀ u i₀ raw i = i ≤ mostSlots
+Inv-loop raw₀ u i₀ raw i = i ≤ allSlots
 
 abbrev μ-loop : tie.MeasureT-loop
-μ-loop raw₀ u i₀ raw i = mostSlots - i
+μ-loop raw₀ u i₀ raw i = allSlots - i
 
 loop-holds : tie.Need-loop-holds Inv-loop μ-loop
 loop-holds c = search needs

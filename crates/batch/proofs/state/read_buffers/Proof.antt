@@ -1,16 +1,16 @@
 -- `read_buffers` is safe and ends: the measure is how many entries are still to come. Assumes nothing.
 use Prim.Native.Nat.{_≤_, _-_}
 use borrow.Author.Needs.{needs}
-use Rattle.cases.specs.Sizes.{mostCode}
+use Rattle.cases.specs.Sizes.{allCode}
 use Rattle.batch.proofs.state.read_buffers.Statement.{statement}
 use Rattle.batch.proofs.state.read_buffers.Tie as tie
 
 -- the index is at most the number of entries
 abbrev Inv-loop : tie.InvT-loop
-Inv-loop raw u₀ i₀ u i = i ≤ mostCode
+Inv-loop raw u₀ i₀ u i = i ≤ allCode
 
 abbrev μ-loop : tie.MeasureT-loop
-μ-loop raw u₀ i₀ u i = mostCode - i
+μ-loop raw u₀ i₀ u i = allCode - i
 
 loop-holds : tie.Need-loop-holds Inv-loop μ-loop
 loop-holds c = search needs

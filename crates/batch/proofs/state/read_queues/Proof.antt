@@ -1,16 +1,16 @@
 -- `read_queues` is safe and ends: the measure is how many slots are still to come. Assumes nothing.
 use Prim.Native.Nat.{_≤_, _-_}
 use borrow.Author.Needs.{needs}
-use Rattle.machine.specs.Sizes.{mostSlots}
+use Rattle.machine.specs.Sizes.{allSlots}
 use Rattle.batch.proofs.state.read_queues.Statement.{statement}
 use Rattle.batch.proofs.state.read_queues.Tie as tie
 
 -- the index is at most the number of slots
 abbrev Inv-loop : tie.InvT-loop
-Inv-loop raw u₀ i₀ u i = i ≤ mostSlots
+Inv-loop raw u₀ i₀ u i = i ≤ allSlots
 
 abbrev μ-loop : tie.MeasureT-loop
-μ-loop raw u₀ i₀ u i = mostSlots - i
+μ-loop raw u₀ i₀ u i = allSlots - i
 
 loop-holds : tie.Need-loop-holds Inv-loop μ-loop
 loop-holds c = search needs

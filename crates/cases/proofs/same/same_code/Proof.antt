@@ -2,7 +2,7 @@
 -- say. Assumes nothing.
 use Prim.Native.Nat.{_-_}
 use native.Mathlib.Omega.{arith}
-use Rattle.cases.specs.Sizes.{mostCode}
+use Rattle.cases.specs.Sizes.{allCode}
 use Rattle.cases.specs.Writing.{sameInstruction}
 use Rattle.cases.specs.Draft.{noInstruction}
 use Rattle.cases.proofs.ChoiceLaws.{told-true, told-false}
@@ -13,10 +13,10 @@ use Rattle.cases.proofs.same.same_code.Statement.{statement}
 use Rattle.cases.proofs.same.same_code.Tie as tie
 
 abbrev Inv-loop : tie.InvT-loop
-Inv-loop a b i₀ i = SameSoFar sameInstruction a b mostCode i
+Inv-loop a b i₀ i = SameSoFar sameInstruction a b allCode i
 
 abbrev μ-loop : tie.MeasureT-loop
-μ-loop a b i₀ i = mostCode - i
+μ-loop a b i₀ i = allCode - i
 
 loop-holds : tie.Need-loop-holds Inv-loop μ-loop
 loop-holds c = same-start _ _ _ _ (search unmapped) (search unmapped)

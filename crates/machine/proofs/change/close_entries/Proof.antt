@@ -1,7 +1,7 @@
 -- `close_entries` meets its contract. Assumes nothing.
 use Prim.Native.Nat.{_-_}
 use native.Mathlib.Omega.{arith}
-use Rattle.cases.specs.Sizes.{mostCode}
+use Rattle.cases.specs.Sizes.{allCode}
 use Rattle.machine.specs.View.{blankWaiting}
 use Rattle.cases.proofs.ArrayLaws.{unmapped}
 use Rattle.machine.proofs.ChangeLaws.{Closing, closing-start, closing-next, closing-end}
@@ -11,7 +11,7 @@ use Rattle.machine.proofs.change.close_entries.Tie as tie
 
 -- the entries are those before the loop, and those behind the gap are one down up to i
 abbrev Inv-loop : tie.InvT-loop
-Inv-loop from end b₀ i₀ b i = Closing from end mostCode b₀ b i
+Inv-loop from end b₀ i₀ b i = Closing from end allCode b₀ b i
 
 abbrev μ-loop : tie.MeasureT-loop
 μ-loop from end b₀ i₀ b i = end - i

@@ -1,7 +1,7 @@
 -- `close_marks` meets its contract. Assumes nothing.
 use Prim.Native.Nat.{_-_}
 use native.Mathlib.Omega.{arith}
-use Rattle.machine.specs.Sizes.{mostSlots}
+use Rattle.machine.specs.Sizes.{allSlots}
 use Rattle.machine.proofs.ChangeLaws.{Closing, closing-start, closing-next, closing-end}
 use borrow.Author.Needs.{needs}
 use Rattle.machine.proofs.change.close_marks.Statement.{statement}
@@ -9,7 +9,7 @@ use Rattle.machine.proofs.change.close_marks.Tie as tie
 
 -- the marks are those before the loop, and those behind the gap are one down up to i
 abbrev Inv-loop : tie.InvT-loop
-Inv-loop marks₀ from end i₀ marks i = Closing from end mostSlots marks₀ marks i
+Inv-loop marks₀ from end i₀ marks i = Closing from end allSlots marks₀ marks i
 
 abbrev μ-loop : tie.MeasureT-loop
 μ-loop marks₀ from end i₀ marks i = end - i

@@ -1,7 +1,7 @@
 -- `close_words` meets its contract. Assumes nothing.
 use Prim.Native.Nat.{_-_}
 use native.Mathlib.Omega.{arith}
-use Rattle.machine.specs.Sizes.{mostSlots}
+use Rattle.machine.specs.Sizes.{allSlots}
 use Rattle.machine.proofs.ChangeLaws.{Closing, closing-start, closing-next, closing-end}
 use borrow.Author.Needs.{needs}
 use Rattle.machine.proofs.change.close_words.Statement.{statement}
@@ -9,7 +9,7 @@ use Rattle.machine.proofs.change.close_words.Tie as tie
 
 -- the words are those before the loop, and those behind the gap are one down up to i
 abbrev Inv-loop : tie.InvT-loop
-Inv-loop held₀ from end i₀ held i = Closing from end mostSlots held₀ held i
+Inv-loop held₀ from end i₀ held i = Closing from end allSlots held₀ held i
 
 abbrev μ-loop : tie.MeasureT-loop
 μ-loop held₀ from end i₀ held i = end - i

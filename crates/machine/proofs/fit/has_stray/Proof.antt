@@ -3,7 +3,7 @@ use mathlib.Core.Path.{_≡_}
 use Prim.Native.Nat.{_-_}
 use native.Mathlib.Omega.{arith}
 use lib.ListN.{length}
-use Rattle.cases.specs.Sizes.{mostCode}
+use Rattle.cases.specs.Sizes.{allCode}
 use Rattle.cases.proofs.ChoiceLaws.{told}
 use Rattle.machine.specs.View.{bufferIn}
 use Rattle.cases.proofs.ArrayLaws.{unmapped}
@@ -36,7 +36,7 @@ cast-n-2 c = search needs
 
 loop-holds : tie.Need-loop-holds Inv-loop μ-loop
 loop-holds c =
-    let k : length (c .before .before .before .args .buffers) ≡ mostCode = search unmapped in
+    let k : length (c .before .before .before .args .buffers) ≡ allCode = search unmapped in
     stray-start _ _ _ _ (omega arith)
 
 add-w : tie.Need-add-w Inv-loop μ-loop

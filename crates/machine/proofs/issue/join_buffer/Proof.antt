@@ -1,7 +1,7 @@
 -- `join_buffer` meets its contract. Assumes nothing.
 use mathlib.Core.Path.{_≡_, ap, _∙_}
 use lib.ListN.{length}
-use Rattle.cases.specs.Sizes.{mostCode}
+use Rattle.cases.specs.Sizes.{allCode}
 use Rattle.machine.specs.Rules.{await}
 use Rattle.cases.proofs.ArrayLaws.{unmapped}
 use Rattle.machine.proofs.ChangeLaws.{await-is}
@@ -39,8 +39,8 @@ add-u c = search needs
 element-write-u : tie.Need-element-write-u
 element-write-u c = search needs
 
--- as many entries as their array has places
-sized : (o : tie.Start) → length (o .args .s .buffers) ≡ mostCode
+-- as many entries as their array is long
+sized : (o : tie.Start) → length (o .args .s .buffers) ≡ allCode
 sized o = search unmapped
 
 returns : tie.Need-returns

@@ -3,7 +3,7 @@ use Prim.Native.Nat.{_-_}
 use mathlib.Core.Path.{_≡_}
 use native.Mathlib.Omega.{arith}
 use lib.ListN.{length}
-use Rattle.cases.specs.Sizes.{mostCode}
+use Rattle.cases.specs.Sizes.{allCode}
 use Rattle.cases.proofs.ChoiceLaws.{told}
 use Rattle.cases.proofs.ArrayLaws.{unmapped}
 use Rattle.machine.proofs.LookLaws.{BarSoFar, bar-start, bar-next, bar-here, bar-end}
@@ -26,7 +26,7 @@ mul-base c = search needs
 
 loop-holds : tie.Need-loop-holds Inv-loop μ-loop
 loop-holds c =
-    let k : length (c .before .args .buffers) ≡ mostCode = search unmapped in
+    let k : length (c .before .args .buffers) ≡ allCode = search unmapped in
     bar-start _ _ _ _ (omega arith)
 
 cast-w : tie.Need-cast-w Inv-loop μ-loop

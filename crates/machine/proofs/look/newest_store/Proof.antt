@@ -3,7 +3,7 @@ use Prim.Native.Nat.{_-_}
 use mathlib.Core.Path.{_≡_}
 use native.Mathlib.Omega.{arith}
 use lib.ListN.{length}
-use Rattle.cases.specs.Sizes.{mostCode}
+use Rattle.cases.specs.Sizes.{allCode}
 use Rattle.cases.proofs.ArrayLaws.{unmapped}
 use Rattle.machine.proofs.LookLaws.{StoreSoFar, store-start, store-next, store-end}
 use borrow.Author.Needs.{needs}
@@ -34,7 +34,7 @@ cast-n-2 c = search needs
 
 loop-holds : tie.Need-loop-holds Inv-loop μ-loop
 loop-holds c =
-    let k : length (c .before .before .before .args .buffers) ≡ mostCode = search unmapped in
+    let k : length (c .before .before .before .args .buffers) ≡ allCode = search unmapped in
     store-start _ _ _ _ _ (omega arith)
 
 add-w : tie.Need-add-w Inv-loop μ-loop

@@ -1,7 +1,7 @@
 -- `move_entry` meets its contract. Assumes nothing.
 use mathlib.Core.Path.{_≡_}
 use lib.ListN.{length}
-use Rattle.cases.specs.Sizes.{mostCode}
+use Rattle.cases.specs.Sizes.{allCode}
 use Rattle.cases.proofs.ArrayLaws.{unmapped}
 use Rattle.machine.proofs.ChangeLaws.{take-out-is}
 use Rattle.machine.proofs.MoveLaws.{entry-named, roomy-buffer, move-taken}
@@ -45,8 +45,8 @@ sub-u c = search needs
 element-write-u : tie.Need-element-write-u
 element-write-u c = search needs
 
--- as many entries as their array has places
-sized : (o : tie.Start) → length (o .args .s .buffers) ≡ mostCode
+-- as many entries as their array is long
+sized : (o : tie.Start) → length (o .args .s .buffers) ≡ allCode
 sized o = search unmapped
 
 take-effect-requires : tie.Need-take-effect-requires

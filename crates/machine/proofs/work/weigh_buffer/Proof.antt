@@ -3,7 +3,7 @@ use Prim.Native.Nat.{_-_}
 use mathlib.Core.Path.{_≡_}
 use native.Mathlib.Omega.{arith}
 use lib.ListN.{length}
-use Rattle.cases.specs.Sizes.{mostCode}
+use Rattle.cases.specs.Sizes.{allCode}
 use Rattle.machine.specs.View.{bufferIn}
 use Rattle.cases.proofs.ArrayLaws.{unmapped}
 use Rattle.machine.proofs.WeighLaws.{BufferSoFar, weigh-start, weigh-next, weigh-end}
@@ -30,7 +30,7 @@ cast-n c = search needs
 loop-holds : tie.Need-loop-holds Inv-loop μ-loop
 loop-holds c =
     let o = c .before .before in
-    let k : length (o .args .buffers) ≡ mostCode = search unmapped in
+    let k : length (o .args .buffers) ≡ allCode = search unmapped in
     weigh-start _ _ _ k (o .pre .0) (o .pre .1)
 
 mul-w : tie.Need-mul-w Inv-loop μ-loop

@@ -3,9 +3,9 @@ use Prim.Native.Nat.{_-_}
 use mathlib.Core.Path.{_≡_}
 use native.Mathlib.Omega.{arith}
 use lib.ListN.{length}
-use Rattle.cases.specs.Sizes.{mostCode}
+use Rattle.cases.specs.Sizes.{allCode}
 use Rattle.machine.specs.Fit.{unissued}
-use Rattle.machine.specs.Work.{codeLeft}
+use Rattle.machine.specs.Work.{unissuedCode}
 use Rattle.cases.proofs.ArrayLaws.{unmapped}
 use Rattle.machine.proofs.WeighLaws.{CodeSoFar, code-start, code-next, code-end}
 use borrow.Author.Needs.{needs}
@@ -37,7 +37,7 @@ cast-i c = search needs
 loop-holds : tie.Need-loop-holds Inv-loop μ-loop
 loop-holds c =
     let o = c .before .before .before in
-    let k : length (o .args .p .code) ≡ mostCode = search unmapped in
+    let k : length (o .args .p .code) ≡ allCode = search unmapped in
     code-start _ _ _ _ k (o .pre .0) (o .pre .2) (o .pre .1)
 
 mul-x : tie.Need-mul-x Inv-loop μ-loop
@@ -72,7 +72,7 @@ loop-again : tie.Need-loop-again Inv-loop μ-loop
 loop-again c = code-next (c .before .before .before .loop .inv) _ (omega arith) (c .unissued-weight .ensures)
 
 returns : tie.Need-returns Inv-loop μ-loop
-unfolding codeLeft unissued
+unfolding unissuedCode unissued
 returns c = code-end (c .before .loop .inv) (omega arith)
 
 pub weigh-code-spec : {M : Type 1} → statement M
