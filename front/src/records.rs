@@ -142,7 +142,8 @@ fn instruction_in(operation: u8, at: u8, register: u8, word: u32) -> Instruction
         5 => Instruction::Flush { at },
         6 => Instruction::FlushOpt { at },
         7 => Instruction::Sfence,
-        _ => Instruction::Mfence,
+        8 => Instruction::Mfence,
+        other => unreachable!("operation {other} was read, and has no instruction"),
     }
 }
 

@@ -63,7 +63,8 @@ pub fn instruction_of(name: &str, found: &[Operand]) -> Instruction {
         "clflush" => Instruction::Flush { at },
         "clflushopt" => Instruction::FlushOpt { at },
         "sfence" => Instruction::Sfence,
-        _ => Instruction::Mfence,
+        "mfence" => Instruction::Mfence,
+        other => unreachable!("{other} is among the statements, and has no instruction"),
     }
 }
 
@@ -75,6 +76,7 @@ pub fn step_of(name: &str, found: &[Operand]) -> Step {
             thread: first,
             position: low(found[1].value),
         },
-        _ => Step::Persist { at: first },
+        "persist" => Step::Persist { at: first },
+        other => unreachable!("{other} is among the steps, and has no code"),
     }
 }

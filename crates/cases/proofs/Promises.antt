@@ -121,7 +121,8 @@ pub read-writes : (s : List ℕ) → IsBytes s → numberOf (readOf s .answer) �
     → (out : List ℕ) → length s ≤ length out
     → (wroteOf (readOf s .case) out ≡ Stored (length s))
     × (writtenOf (readOf s .case) out ≡ s ++ drop (length s) out)
-read-writes s b h out room = stored-as (readOf s .case) out (read-reads-back s b h) s (write-after-read s b h) room
+read-writes s b h out room =
+    stored-as (readOf s .case) out (read-reads-back s b h) s (write-after-read s b h) room
 
 -- a case that is handed out with 0 has every number in range
 pub read-ranged : (s : List ℕ) → numberOf (readOf s .answer) ≡ 0 → Ranged (readOf s .case)

@@ -1,5 +1,5 @@
--- Laws of `readFrom`: one law for all that a turn of reading may come to, which record decides, and what the end
--- of the input does.
+-- Laws of `readFrom`: one law for all that a turn of reading may come to, which record decides, and what the
+-- end of the input does.
 --   asRecord t   the record that t starts with
 --   behind t     what stands behind that record
 -- Assumes nothing.

@@ -19,16 +19,16 @@ use Rattle.machine.specs.Next.{legalSteps}
 -- ruleOf and nextOf
 unfoldable pub steps-compute : ℕ
 unfolding part put without slots wordsOf marksOf marksIn queueIn withQueue bufferIn withBuffer withWord
-    withRegister withIssued wordOr newestWrite storedOr newestStore queuedWord loadOf markerAmong markerFrom markerOf
-    marked bars firstBar enqueue await barrierRule isBarrier operationRule issueRule entryOf loaded exchanged
+    withRegister withIssued wordOr newestWrite storedOr newestStore queuedWord loadOf markerAmong markerFrom
+    markerOf marked bars firstBar enqueue await barrierRule isBarrier operationRule issueRule entryOf loaded exchanged
     performed issueOf effectRule effectOf passRule moveRule moveOf persistRule persistFirst persistOf ruleIn
     ruleOf nextOf startOf
 steps-compute = 0
 
 -- work and fullLength
 unfoldable pub work-computes : ℕ
-unfolding part bufferIn sumTo unissued unissuedWeight waitingWeight weighCode weighBuffer unissuedCode threadWork
-    work startOf fullLength
+unfolding part bufferIn sumTo unissued unissuedWeight waitingWeight weighCode weighBuffer unissuedCode
+    threadWork work startOf fullLength
 work-computes = 0
 
 -- legalSteps

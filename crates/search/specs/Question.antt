@@ -8,7 +8,8 @@
 --   askOf p a b          what a budget b says of it
 --   outcomeNo, outcomePlace   01's number of an answer, and its place
 --   toldOf d             the answer that a caller gets for d
---   answerFor p a room b, shownFor p a b out   the answer for a program, and what the lent bytes hold afterwards
+--   answerFor p a room b   the answer for a program
+--   shownFor p a b out     what the lent bytes hold afterwards
 --   questionOf s room b  what the question answers for the bytes s, a lent buffer of `room` bytes, a budget b
 --   shownOf s b out      what the lent bytes `out` hold afterwards
 -- Assumes nothing.

@@ -10,7 +10,8 @@ use machine::work;
 ghost use mathlib.Core.Path.{_≡_};
 ghost use lib.ListN.{length};
 ghost use Rattle.machine.specs.Fit.{ProgramFits};
-ghost use Rattle.search.specs.Question.{outcomeNo, outcomePlace, answerFor, shownFor, questionOf, shownOf};
+ghost use Rattle.search.specs.Question.{outcomeNo, outcomePlace, answerFor, shownFor, questionOf};
+ghost use Rattle.search.specs.Question.{shownOf};
 
 // Reached with the number of steps of the run that is shown; refused with the number and the offset.
 pub enum Outcome {

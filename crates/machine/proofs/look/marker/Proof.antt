@@ -9,7 +9,7 @@ use borrow.Author.Needs.{needs}
 use Rattle.machine.proofs.look.marker.Statement.{statement}
 use Rattle.machine.proofs.look.marker.Tie as tie
 
--- nothing is found yet; the marks of queue l from position i on, and the queues behind it, say what all queues say
+-- nothing is found yet; the marks of queue l from i on, and the queues behind it, say what all queues say
 abbrev Inv-entries : tie.InvT-entries
 Inv-entries marks lengths mark found₀ l n i₀ found i = MarksSoFar marks lengths mark l n i found
 
