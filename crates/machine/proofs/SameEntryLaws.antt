@@ -10,10 +10,9 @@ use lib.ListN.{length, getD, length-take, length-drop}
 use lib.Seq.{ext-getD}
 use Rattle.cases.specs.Sizes.{mostThreads, mostInstructions, mostLocations}
 use Rattle.machine.specs.declared.cells.State.{State}
-use Rattle.machine.specs.declared.cells.Waiting.{Waiting}
-use Rattle.machine.specs.Sizes.{room}
-use Rattle.machine.specs.View.{wordsOf, marksOf, part, marksIn, queueIn, queue, queueLen, blankWaiting}
-use Rattle.machine.specs.View.{bufferIn, bufferLen}
+use Rattle.machine.specs.Sizes.{room, allSlots}
+use Rattle.machine.specs.View.{Slot, wordsOf, marksOf, part, marksIn, queueIn, queue, queueLen}
+use Rattle.machine.specs.View.{blankWaiting, bufferIn, bufferLen}
 use Rattle.machine.specs.Behind.{BlankFrom, BlankBehind, SameEntries}
 use Rattle.machine.specs.Fit.{Sized}
 use Rattle.machine.proofs.PartLaws.{lt-or-ge, getD-part}
@@ -82,21 +81,29 @@ module _ (s u : State) (z : Sized s) (y : Sized u) (f : BlankBehind s) (g : Blan
   same-count : (t : ℕ) → bufferLen s t ≡ bufferLen u t
   same-count t = ap (λ x. getD x t 0) (e .same-waiting)
 
+  -- one of the two arrays of the queues: `of` tells it from a queue's slots
+  slots-same : (of : List Slot → List ℕ) (xs ys : List ℕ) → length xs ≡ allSlots → length ys ≡ allSlots
+      → ((l : ℕ) → of (queue s l) ≡ part (l * room) (queueLen s l) xs)
+      → ((l : ℕ) → of (queue u l) ≡ part (l * room) (queueLen u l) ys)
+      → ((l : ℕ) → l < mostLocations → BlankFrom 0 (l * room) (queueLen s l) room xs)
+      → ((l : ℕ) → l < mostLocations → BlankFrom 0 (l * room) (queueLen u l) room ys)
+      → xs ≡ ys
+  slots-same of xs ys long same here there first second =
+      array-same 0 room mostLocations (queueLen s) xs ys long same
+      (λ l a. sym (here l) ∙ ap of (e .same-queues l a) ∙ there l
+      ∙ ap (λ n. part (l * room) n ys) (sym (same-length l)))
+      first
+      (λ l a. rw (same-length l) (second l a))
+
   held-same : s .held ≡ u .held
   held-same =
-      array-same 0 room mostLocations (queueLen s) (s .held) (u .held) (z .held-long) (y .held-long)
-      (λ l a. sym (words-are s z l) ∙ ap wordsOf (e .same-queues l a) ∙ words-are u y l
-      ∙ ap (λ n. part (l * room) n (u .held)) (sym (same-length l)))
-      (f .words-blank)
-      (λ l a. rw (same-length l) (g .words-blank l a))
+      slots-same wordsOf (s .held) (u .held) (z .held-long) (y .held-long) (words-are s z) (words-are u y)
+      (f .words-blank) (g .words-blank)
 
   marks-same : s .marks ≡ u .marks
   marks-same =
-      array-same 0 room mostLocations (queueLen s) (s .marks) (u .marks) (z .marks-long) (y .marks-long)
-      (λ l a. sym (marks-are s z l) ∙ ap marksOf (e .same-queues l a) ∙ marks-are u y l
-      ∙ ap (λ n. part (l * room) n (u .marks)) (sym (same-length l)))
-      (f .marks-blank)
-      (λ l a. rw (same-length l) (g .marks-blank l a))
+      slots-same marksOf (s .marks) (u .marks) (z .marks-long) (y .marks-long) (marks-are s z) (marks-are u y)
+      (f .marks-blank) (g .marks-blank)
 
   buffers-same : s .buffers ≡ u .buffers
   unfolding bufferIn
