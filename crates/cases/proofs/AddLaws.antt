@@ -20,7 +20,7 @@ use Rattle.cases.proofs.SeatLaws.{seat-want, seat-passed, seat-step, se
 use Rattle.cases.proofs.WithLaws.{want-same, want-other, passed-same, passed-other, step-same}
 use Rattle.cases.proofs.WithLaws.{step-other}
 use Rattle.cases.proofs.FitLaws.{RecordFits, Grown}
-use Rattle.cases.proofs.DraftLaws.{in-turn, want-seated, passed-seated, step-seated, ordered}
+use Rattle.cases.proofs.DraftLaws.{rank-rises, in-turn, want-seated, passed-seated, step-seated, ordered}
 use Rattle.cases.proofs.SoundLaws.{ProgramSized, Sound, Added, added}
 use Rattle.cases.proofs.AddProgramLaws.{declared-once, add-first, add-instruction}
 
@@ -66,8 +66,8 @@ module _ (d : Draft) (front : ℕ) (s : Sound d front) where
         };
         fronts = record {
           begun = omega arith;
-          to-firsts = λ q n z. absurd (omega arith);
-          to-code = λ q t z. absurd (omega arith);
+          to-firsts = λ q n z. absurd (omega (arith, rank-rises));
+          to-code = λ q t z. absurd (omega (arith, rank-rises));
           to-wants = λ q n z. omega (arith, z refl);
           to-passed = λ q n z. omega arith;
           to-steps = omega arith;
@@ -106,9 +106,9 @@ module _ (d : Draft) (front : ℕ) (s : Sound d front) where
         };
         fronts = record {
           begun = omega arith;
-          to-firsts = λ q m z. absurd (omega arith);
-          to-code = λ q u z. absurd (omega arith);
-          to-wants = λ q m z. absurd (omega arith);
+          to-firsts = λ q m z. absurd (omega (arith, rank-rises));
+          to-code = λ q u z. absurd (omega (arith, rank-rises));
+          to-wants = λ q m z. absurd (omega (arith, rank-rises));
           to-passed = λ q m z. omega (arith, z refl);
           to-steps = omega arith;
         };
@@ -140,10 +140,10 @@ module _ (d : Draft) (front : ℕ) (s : Sound d front) where
         };
         fronts = record {
           begun = omega arith;
-          to-firsts = λ q n z. absurd (omega arith);
-          to-code = λ q t z. absurd (omega arith);
-          to-wants = λ q n z. absurd (omega arith);
-          to-passed = λ q n z. absurd (omega arith);
+          to-firsts = λ q n z. absurd (omega (arith, rank-rises));
+          to-code = λ q t z. absurd (omega (arith, rank-rises));
+          to-wants = λ q n z. absurd (omega (arith, rank-rises));
+          to-passed = λ q n z. absurd (omega (arith, rank-rises));
           to-steps = omega arith;
         };
       })

@@ -21,7 +21,8 @@ use Rattle.cases.proofs.SeatLaws.{seat-first, seat-code, seat-same}
 use Rattle.cases.proofs.WithLaws.{first-same, first-other, instruction-same, instruction-other}
 use Rattle.cases.proofs.CountLaws.{count-more, count-few, count-front}
 use Rattle.cases.proofs.FitLaws.{RecordFits}
-use Rattle.cases.proofs.DraftLaws.{seated-kind, in-turn, first-seated, instruction-seated, ordered}
+use Rattle.cases.proofs.DraftLaws.{rank-rises, seated-kind, in-turn, first-seated}
+use Rattle.cases.proofs.DraftLaws.{instruction-seated, ordered}
 use Rattle.cases.proofs.SoundLaws.{ProgramSized, Sound, Added, added}
 
 -- A faultless record behind a sound draft: that it is added as `Added` says
@@ -114,7 +115,7 @@ module _ (d : Draft) (front : ℕ) (s : Sound d front) where
         };
         fronts = record {
           begun = omega arith;
-          to-firsts = λ q n z. absurd (omega arith);
+          to-firsts = λ q n z. absurd (omega (arith, rank-rises));
           to-code = λ q u z. count-front program t low few u (z refl);
           to-wants = λ q n z. omega (arith, seated .0);
           to-passed = λ q n z. omega (arith, seated .0);

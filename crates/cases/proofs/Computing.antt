@@ -5,9 +5,9 @@ use Rattle.cases.specs.Choice.{pick, both, either, refuse}
 use Rattle.cases.specs.Bytes.{half, wordAt, halfBytes, wordBytes}
 use Rattle.cases.specs.Record.{payloadOf, payloadBytes, recordBytes, asHeader, asWrite, asInstruction}
 use Rattle.cases.specs.Record.{asStep, recordOf, openNo, sizeOf}
-use Rattle.cases.specs.Checks.{misplaced, disordered, outside, beyond, leftOver, headerOut, usesRegister}
-use Rattle.cases.specs.Checks.{usesWord, instructionOut, instructionLeft, passedOut, stepOut, stepLeft}
-use Rattle.cases.specs.Checks.{faultOf}
+use Rattle.cases.specs.Checks.{kindRank, misplaced, disordered, outside, beyond, leftOver, headerOut}
+use Rattle.cases.specs.Checks.{usesRegister, usesWord, instructionOut, instructionLeft, passedOut}
+use Rattle.cases.specs.Checks.{stepOut, stepLeft, faultOf}
 use Rattle.cases.specs.Draft.{emptyCase, withSizes, withFirst, withInstruction, withWant, withPassed}
 use Rattle.cases.specs.Draft.{withStep, withProgram, withAsk, withRun, blankDraft, addOf}
 use Rattle.cases.specs.Reading.{refusedOf, endedOf, readFrom, readOf}
@@ -19,7 +19,7 @@ use Rattle.cases.specs.Writing.{sameCase, readsAs, readsBack}
 -- readOf, and what it takes to know a record's fault
 unfoldable pub reading-computes : ℕ
 unfolding pick both either refuse half wordAt payloadOf asHeader asWrite asInstruction asStep recordOf openNo
-    sizeOf misplaced disordered outside beyond leftOver headerOut usesRegister usesWord instructionOut
+    sizeOf kindRank misplaced disordered outside beyond leftOver headerOut usesRegister usesWord instructionOut
     instructionLeft passedOut stepOut stepLeft faultOf emptyCase withSizes withFirst withInstruction withWant
     withPassed withStep withProgram withAsk withRun blankDraft addOf refusedOf endedOf readFrom readOf
 reading-computes = 0

@@ -3,7 +3,7 @@
 --   Split d e js      the draft d is the draft e, where the steps begin, with the steps js behind it
 --   Cut e c           some bytes lead from the draft e to where the steps of the case c begin
 -- Assumes nothing.
-use Prim.Native.Nat.{ℕ, zero, suc, _+_, _≤_}
+use Prim.Native.Nat.{ℕ, zero, suc, _+_, _<_, _≤_}
 use mathlib.Core.Path.{_≡_, refl, sym, ap, _∙_}
 use mathlib.Core.Logic.{_≢_}
 use mathlib.Core.List.{List, [], _∷_, _++_}
@@ -19,12 +19,12 @@ use Rattle.cases.specs.declared.record.Record.the-variants.{Declare, Fir
 use Rattle.cases.specs.declared.reader.Reading.{Reading}
 use Rattle.cases.specs.Bytes.{IsBytes}
 use Rattle.cases.specs.Record.{kindOf, openNo, sizeOf}
-use Rattle.cases.specs.Checks.{faultOf}
+use Rattle.cases.specs.Checks.{kindRank, faultOf}
 use Rattle.cases.specs.Draft.{runWith, withRun, withStep, addOf}
 use Rattle.cases.specs.Reading.{numberOf, refusedOf, endedOf, readFrom}
 use Rattle.cases.proofs.ChoiceLaws.{pick-cases}
 use Rattle.cases.proofs.BytesLaws.{bytes-drop, bytes-take, bytes-join}
-use Rattle.cases.proofs.DraftLaws.{in-turn, step-behind, add-kind, add-run, step-seated}
+use Rattle.cases.proofs.DraftLaws.{rank-rises, in-turn, step-behind, add-kind, add-run, step-seated}
 use Rattle.cases.proofs.RunLaws.{run-more}
 use Rattle.cases.proofs.ReadLaws.{asRecord, behind, read-cases}
 use Rattle.cases.proofs.PartLaws.{Goes, goes-none, goes-one, goes-both, front-begins}
@@ -32,16 +32,16 @@ use Rattle.cases.proofs.PartLaws.{Goes, goes-none, goes-one, goes-both,
 pub record Stepless (e : Draft) (c : Case) (js : List Step) : Type 0 where
   pub same : c ≡ withRun (e .case) (runWith js)
   pub none : e .case .run ≡ runWith []
-  pub low : e .kind ≤ 6
+  pub low : kindRank (e .kind) ≤ kindRank 6
 
 -- where no step came yet, d is e itself
 pub record Split (d e : Draft) (js : List Step) : Type 0 where
   pub parts : Stepless e (d .case) js
   pub begun : d .kind ≢ 0 → e .kind ≢ 0
-  pub before : d .kind ≤ 5 → e ≡ d
+  pub before : kindRank (d .kind) < kindRank 6 → e ≡ d
 
 -- a draft without steps; a step more
-pub split-none : (d : Draft) → d .case .run ≡ runWith [] → d .kind ≤ 6 → Split d d []
+pub split-none : (d : Draft) → d .case .run ≡ runWith [] → kindRank (d .kind) ≤ kindRank 6 → Split d d []
 unfolding withRun
 split-none d none low =
     record {
@@ -113,7 +113,8 @@ module _ (d e : Draft) (js : List Step) (s : Split d e js) where
     abbrev after : Record → Reading
     after r = readFrom n (addOf d r) at (behind t)
 
-    cut-other : (r : Record) → asRecord t ≡ r → faultOf d r ≡ 0 → kindOf r ≤ 5
+    cut-other : (r : Record) → asRecord t ≡ r → faultOf d r ≡ 0
+        → kindRank (kindOf r) < kindRank 6
         → numberOf (after r .answer) ≡ 0
         → Cut e (after r .case)
     cut-other r is f low q =
@@ -121,15 +122,15 @@ module _ (d e : Draft) (js : List Step) (s : Split d e js) where
         let none = add-run d r low ∙ ap (λ (x : Draft). x .case .run) (sym same) ∙ s .parts .none in
         let one = goes-one d (take (sizeOf t) t) r (rw is at (front-begins t o)) f in
         cut-before e (addOf d r) _ (take (sizeOf t) t) (rw same one) (bytes-take (sizeOf t) t b)
-        (next (addOf d r) (addOf d r) [] (split-none _ none (omega (arith, add-kind d r))) q)
+        (next (addOf d r) (addOf d r) [] (split-none _ none (rw (add-kind d r) (omega arith))) q)
 
     cut-next : (r : Record) → asRecord t ≡ r → faultOf d r ≡ 0 → numberOf (after r .answer) ≡ 0
         → Cut e (after r .case)
-    cut-next (Declare h) is f = cut-other (Declare h) is f (omega arith)
-    cut-next (First w) is f = cut-other (First w) is f (omega arith)
-    cut-next (Instruct u x) is f = cut-other (Instruct u x) is f (omega arith)
-    cut-next (Want w) is f = cut-other (Want w) is f (omega arith)
-    cut-next (Passed u m) is f = cut-other (Passed u m) is f (omega arith)
+    cut-next (Declare h) is f = cut-other (Declare h) is f (omega (arith, rank-rises))
+    cut-next (First w) is f = cut-other (First w) is f (omega (arith, rank-rises))
+    cut-next (Instruct u x) is f = cut-other (Instruct u x) is f (omega (arith, rank-rises))
+    cut-next (Want w) is f = cut-other (Want w) is f (omega (arith, rank-rises))
+    cut-next (Passed u m) is f = cut-other (Passed u m) is f (omega (arith, rank-rises))
     cut-next (Take k) is f = next (addOf d (Take k)) e (js ++ (k ∷ [])) (split-step d e js k s f)
 
 -- reading that succeeds goes to the case without its steps

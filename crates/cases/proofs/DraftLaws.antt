@@ -18,25 +18,36 @@ use Rattle.cases.specs.declared.record.Record.the-variants.{Declare, Fir
 use Rattle.cases.specs.Sizes.{mostThreads, mostInstructions, mostLocations, mostSteps}
 use Rattle.cases.specs.Choice.{pick, both, either, refuse}
 use Rattle.cases.specs.Record.{kindOf}
-use Rattle.cases.specs.Checks.{misplaced, disordered, headerOut, instructionOut, passedOut, countAt}
-use Rattle.cases.specs.Checks.{faultOf}
+use Rattle.cases.specs.Checks.{kindRank, misplaced, disordered, headerOut, instructionOut, passedOut}
+use Rattle.cases.specs.Checks.{countAt, faultOf}
 use Rattle.cases.specs.Draft.{withSizes, withFirst, withInstruction, withProgram, withAsk, withRun, addOf}
 use Rattle.cases.proofs.ChoiceLaws.{either-false, refuse-none}
 use Rattle.cases.proofs.FitLaws.{outside-low}
 
+-- the order of kinds: where nothing stands before, no kind goes down; and each kind comes before the next
+pub rank-least : (kind : ℕ) → kindRank 0 ≤ kindRank kind
+unfolding kindRank
+rank-least kind = omega arith
+
+pub rank-rises : (kindRank 1 < kindRank 2) × (kindRank 2 < kindRank 3) × (kindRank 3 < kindRank 4)
+    × (kindRank 4 < kindRank 5) × (kindRank 5 < kindRank 6)
+unfolding kindRank
+rank-rises = (omega arith, omega arith, omega arith, omega arith, omega arith)
+
 -- a record behind the first that is not misplaced: kinds don't go down, and it is not of kind 1
-pub seated-kind : (before kind : ℕ) → 1 ≤ before → misplaced before kind ≡ false → (before ≤ kind) × (kind ≢ 1)
+pub seated-kind : (before kind : ℕ) → 1 ≤ before → misplaced before kind ≡ false
+    → (kindRank before ≤ kindRank kind) × (kind ≢ 1)
 unfolding misplaced pick
 seated-kind before kind b h =
-    let e = either-false (eqb kind 1) (ltb kind before) (rw (ne-eqb before 0 (λ z. omega arith)) at h) in
-    (ltb-false kind before (e .1), eqb-false kind 1 (e .0))
+    let e = either-false (eqb kind 1) _ (rw (ne-eqb before 0 (λ z. omega arith)) at h) in
+    (ltb-false _ _ (e .1), eqb-false kind 1 (e .0))
 
 -- any record that is not misplaced, the first too: kinds don't go down
-seated : (before kind : ℕ) → misplaced before kind ≡ false → before ≤ kind
+seated : (before kind : ℕ) → misplaced before kind ≡ false → kindRank before ≤ kindRank kind
 seated before kind h = go (eqb before 0) refl
   where
-    go : (b : Bool) → eqb before 0 ≡ b → before ≤ kind
-    go true e = omega (arith, eqb-true before 0 e)
+    go : (b : Bool) → eqb before 0 ≡ b → kindRank before ≤ kindRank kind
+    go true e = rw (eqb-true before 0 e) (rank-least kind)
     go false e = seated-kind before kind (omega (arith, eqb-false before 0 e)) h .0
 
 -- a record in order: its number is not below the next, where its kind is the draft's
@@ -45,7 +56,7 @@ unfolding disordered both
 ordered d kind n h e = ltb-false n (d .next) (rw (eq-eqb (d .kind) kind e) at h)
 
 -- a faultless record: kinds don't go down, and a step is not the first
-pub in-turn : (d : Draft) (r : Record) → faultOf d r ≡ 0 → d .kind ≤ kindOf r
+pub in-turn : (d : Draft) (r : Record) → faultOf d r ≡ 0 → kindRank (d .kind) ≤ kindRank (kindOf r)
 unfolding faultOf
 in-turn d (Declare h) f = seated (d .kind) 1 (refuse-none _ 3 _ f .0)
 in-turn d (First w) f = seated (d .kind) 2 (refuse-none _ 3 _ f .0)
@@ -71,7 +82,8 @@ add-kind d (Want w) = refl
 add-kind d (Passed t n) = refl
 add-kind d (Take k) = refl
 
-pub add-run : (d : Draft) (r : Record) → kindOf r ≤ 5 → addOf d r .case .run ≡ d .case .run
+pub add-run : (d : Draft) (r : Record) → kindRank (kindOf r) < kindRank 6
+    → addOf d r .case .run ≡ d .case .run
 unfolding addOf withProgram withAsk
 add-run d (Declare h) low = refl
 add-run d (First w) low = refl

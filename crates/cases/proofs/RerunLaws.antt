@@ -20,11 +20,12 @@ use Rattle.cases.specs.Sizes.{mostSteps}
 use Rattle.cases.specs.Choice.{pick, both, either, refuse}
 use Rattle.cases.specs.Bytes.{IsBytes}
 use Rattle.cases.specs.Record.{recordBytes}
-use Rattle.cases.specs.Checks.{misplaced, stepFault, faultOf}
+use Rattle.cases.specs.Checks.{kindRank, misplaced, stepFault, faultOf}
 use Rattle.cases.specs.Draft.{noStep, emptyCase, runWith, withRun, withStep, blankDraft, addOf}
 use Rattle.cases.specs.Reading.{numberOf, readOf}
 use Rattle.cases.specs.Seats.{encodeOf, stepsBytes}
 use Rattle.cases.specs.Writing.{readsAs, readsBack}
+use Rattle.cases.proofs.DraftLaws.{rank-least}
 use Rattle.cases.proofs.RunLaws.{run-more, run-own, file-more}
 use Rattle.cases.proofs.SameLaws.{case-self}
 use Rattle.cases.proofs.RoundTrip.{read-all}
@@ -32,14 +33,15 @@ use Rattle.cases.proofs.PartLaws.{Goes, goes-none, goes-one, goes-both,
 use Rattle.cases.proofs.CutLaws.{Cut, split-none, cut-from}
 
 -- Steps that pass the checks 5 and 8, behind a draft
-step-passes : (d : Draft) (k : Step) → d .kind ≢ 0 → d .kind ≤ 6 → d .case .run .count < mostSteps
+step-passes : (d : Draft) (k : Step) → d .kind ≢ 0 → kindRank (d .kind) ≤ kindRank 6
+    → d .case .run .count < mostSteps
     → stepFault (d .case .program) k ≡ 0
     → faultOf d (Take k) ≡ 0
 unfolding faultOf stepFault misplaced pick either refuse
 step-passes d k begun low room clean =
-    rw (ne-eqb (d .kind) 0 begun, le-ltb 6 (d .kind) low, lt-leb mostSteps (d .case .run .count) room) clean
+    rw (ne-eqb (d .kind) 0 begun, le-ltb _ _ low, lt-leb mostSteps (d .case .run .count) room) clean
 
-steps-go : (ks : List Step) (d : Draft) (js : List Step) → d .kind ≢ 0 → d .kind ≤ 6
+steps-go : (ks : List Step) (d : Draft) (js : List Step) → d .kind ≢ 0 → kindRank (d .kind) ≤ kindRank 6
     → d .case .run ≡ runWith js
     → length js + length ks ≤ mostSteps
     → ((i : ℕ) → i < length ks → stepFault (d .case .program) (getD ks i noStep) ≡ 0)
@@ -76,7 +78,7 @@ module _ (s : List ℕ) (b : IsBytes s) (h : numberOf (readOf s .answer) ≡ 0) 
 
   cut : Cut blankDraft case
   unfolding readOf blankDraft emptyCase runWith
-  cut = cut-from (suc (length s)) blankDraft blankDraft [] 0 s (split-none blankDraft refl (omega arith)) b h
+  cut = cut-from (suc (length s)) blankDraft blankDraft [] 0 s (split-none blankDraft refl (rank-least 6)) b h
 
   -- the run of their case is its steps
   pub run-steps : case .run ≡ runWith (take (case .run .count) (case .run .steps))

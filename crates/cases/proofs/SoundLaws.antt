@@ -19,6 +19,7 @@ use Rattle.cases.specs.declared.seats.Seat.{Seat}
 use Rattle.cases.specs.declared.seats.Seat.the-variants.{Holds, Empty}
 use Rattle.cases.specs.Sizes.{mostThreads, mostInstructions, mostLocations, mostSteps, allCode}
 use Rattle.cases.specs.Record.{recordBytes}
+use Rattle.cases.specs.Checks.{kindRank}
 use Rattle.cases.specs.Draft.{addOf}
 use Rattle.cases.specs.Seats.{fromFirsts, fromCode, fromWants, fromPassed, fromSteps}
 use Rattle.cases.specs.Seats.{seats, seatOf, seatBytes, bytesAt, encodeOf}
@@ -53,11 +54,14 @@ pub record Sized (c : Case) : Type 0 where
 -- a record that may come next stands at the front or behind it, by its kind
 pub record Fronts (d : Draft) (front : ℕ) : Type 0 where
   pub begun : 1 ≤ d .kind
-  pub to-firsts : d .kind ≤ 2 → (n : ℕ) → (d .kind ≡ 2 → d .next ≤ n) → front ≤ fromFirsts + n
-  pub to-code : d .kind ≤ 3 → (t : ℕ) → (d .kind ≡ 3 → d .next ≤ t)
+  pub to-firsts : kindRank (d .kind) ≤ kindRank 2 → (n : ℕ) → (d .kind ≡ 2 → d .next ≤ n)
+      → front ≤ fromFirsts + n
+  pub to-code : kindRank (d .kind) ≤ kindRank 3 → (t : ℕ) → (d .kind ≡ 3 → d .next ≤ t)
       → front ≤ fromCode + (t * mostInstructions + getD (d .case .program .counts) t 0)
-  pub to-wants : d .kind ≤ 4 → (n : ℕ) → (d .kind ≡ 4 → d .next ≤ n) → front ≤ fromWants + n
-  pub to-passed : d .kind ≤ 5 → (n : ℕ) → (d .kind ≡ 5 → d .next ≤ n) → front ≤ fromPassed + n
+  pub to-wants : kindRank (d .kind) ≤ kindRank 4 → (n : ℕ) → (d .kind ≡ 4 → d .next ≤ n)
+      → front ≤ fromWants + n
+  pub to-passed : kindRank (d .kind) ≤ kindRank 5 → (n : ℕ) → (d .kind ≡ 5 → d .next ≤ n)
+      → front ≤ fromPassed + n
   pub to-steps : front ≤ fromSteps + d .case .run .count
 
 -- the case keeps to its sizes, no record stands at the front or behind it, and every record is in range

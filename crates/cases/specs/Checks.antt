@@ -1,6 +1,7 @@
 -- Document 01, "Refusal numbers": what is wrong with a record that opens, after the records before it.
 -- "Within a record the checks go in the order 1 (head), 2, 3, 1 (payload), 4, 5, 8, 6, 7, 9." Number 5 looks
 -- only at fields that are used; an unused field is a matter for 8.
+--   kindRank         where a kind stands in the order of kinds
 --   misplaced        4
 --   headerOut, instructionOut, passedOut, stepOut
 --                    5: something that a record of that kind names is out of range
@@ -29,9 +30,15 @@ use Rattle.cases.specs.Operations.{storeWord, storeRegister, exchange, f
 use Rattle.cases.specs.Operations.{move, persist, lastCode}
 use Rattle.cases.specs.Choice.{pick, both, either, refuse}
 
+-- where a kind stands in the order of kinds: by its number
+unfoldable pub kindRank : ℕ → ℕ
+kindRank kind = kind
+
 -- "Exactly one kind 1, first; afterwards kinds never go down." Where nothing stands before, that kind is 0.
 unfoldable pub misplaced : ℕ → ℕ → Bool
-misplaced before kind = pick (eqb before 0) (not (eqb kind 1)) (either (eqb kind 1) (ltb kind before))
+misplaced before kind =
+    pick (eqb before 0) (not (eqb kind 1))
+    (either (eqb kind 1) (ltb (kindRank kind) (kindRank before)))
 
 -- "Kinds 2 and 4 have locations strictly rising, kind 5 threads strictly rising, kind 3 threads never falling":
 -- the draft has the least number that may come next in its kind.

@@ -25,6 +25,7 @@ ghost use mathlib.Core.Path.{_≡_};
 ghost use Rattle.cases.specs.declared.record.Record.the-variants.{Declare, First, Instruct};
 ghost use Rattle.cases.specs.declared.record.Record.the-variants.{Want, Passed, Take};
 ghost use Rattle.cases.specs.Checks.{
+  kindRank,
   misplaced,
   disordered,
   outside,
@@ -44,6 +45,13 @@ ghost use Rattle.cases.specs.Checks.{
   faultOf,
 };
 
+// Where a kind stands in the order of kinds.
+fn kind_rank(kind: u8) -> u8
+    ensures { λ r. ⌜ r ≡ kindRank kind ⌝ }
+{
+    kind
+}
+
 // Kind 1 comes first and once, and kinds never go down; nothing before is kind 0.
 fn is_misplaced(before: u8, kind: u8) -> bool
     ensures { λ r. ⌜ r ≡ misplaced before kind ⌝ }
@@ -54,7 +62,7 @@ fn is_misplaced(before: u8, kind: u8) -> bool
     if kind == 1 {
         return true;
     }
-    kind < before
+    kind_rank(kind) < kind_rank(before)
 }
 
 // The number is below the least that may come next in its kind.
