@@ -12,7 +12,7 @@ use Rattle.cases.specs.declared.case.Step.{Step}
 use Rattle.cases.specs.declared.draft.Draft.{Draft}
 use Rattle.cases.specs.declared.record.Record.{Record}
 use Rattle.cases.specs.declared.record.Record.the-variants.{Declare, First, Instruct, Want, Passed, Take}
-use Rattle.cases.specs.Checks.{disordered, faultOf, passedOut, stepOut, stepLeft}
+use Rattle.cases.specs.Checks.{disordered, faultOf, passedOut, limitsOf, stepOut, stepLeft}
 use Rattle.cases.specs.Draft.{addOf, withAsk, withRun, withWant, withPassed, withStep}
 use Rattle.cases.specs.Seats.{fromWants, fromPassed, fromSteps, wantSeat, passedSeat}
 use Rattle.cases.proofs.ChoiceLaws.{refuse-none}
@@ -118,7 +118,7 @@ module _ (d : Draft) (front : ℕ) (s : Sound d front) where
   pub add-step : (k : Step) → faultOf d (Take k) ≡ 0 → Added d (Take k)
   unfolding faultOf addOf withRun withStep RecordFits
   add-step k h =
-      let in-range = refuse-none (stepOut program k) 4 _ (refuse-none _ 3 _ h .1) in
+      let in-range = refuse-none (stepOut (limitsOf program) k) 4 _ (refuse-none _ 3 _ h .1) in
       let clean = refuse-none (stepLeft k) 7 _ (in-range .1) in
       let run = s .sized .of-run in
       let low = step-seated d k h in

@@ -19,13 +19,13 @@ use Rattle.cases.specs.Choice.{pick}
 use Rattle.cases.specs.Bytes.{halfBytes, wordBytes, IsBytes}
 use Rattle.cases.specs.Record.{payloadOf, payloadBytes, recordBytes}
 use Rattle.cases.specs.Checks.{outside, countAt}
-use Rattle.cases.specs.Checks.{headerOut, passedOut}
+use Rattle.cases.specs.Checks.{headerOut, passedOut, limitsOf}
 use Rattle.cases.specs.Seats.{seats}
 use Rattle.cases.specs.Seats.{seatBytes, bytesAt, each, encodeOf}
 use Rattle.cases.proofs.ChoiceLaws.{either-false}
 use Rattle.cases.proofs.FitLaws.{RecordFits, SeatFits, outside-low}
 use Rattle.cases.proofs.SoundLaws.{ProgramSized, Sound}
-use Rattle.cases.proofs.FitLaws.{instruction-fits, step-low}
+use Rattle.cases.proofs.FitLaws.{few-queues, instruction-fits, step-low}
 
 data Bytewise : List ℕ → Type 0 where
   none : Bytewise []
@@ -91,12 +91,12 @@ record-are p s (Passed t n) f =
     (byte (t .0) (omega (arith, leb-false (p .threads) (t .0) (e .0), s .few-threads))
     (byte n (omega (arith, ltb-false (countAt p (t .0)) n (e .1), s .few-instructions (t .0))) none))
 record-are p s (Take k) f =
-    let i = step-low p k (s .some-threads) (s .some-locations) (f .0) (f .1) in
+    let i = step-low (limitsOf p) k (s .few-threads) (few-queues p (s .few-locations)) (f .0) (f .1) in
     joined (joined (half-are 4) (half-are 6))
-    (byte (k .thread .0) (omega (arith, i .1, s .few-threads))
+    (byte (k .thread .0) (omega (arith, i .1))
     (byte (k .code) (omega (arith, i .0))
     (byte (k .position) (omega (arith, i .2))
-    (byte (k .location .0) (omega (arith, i .3, s .few-locations)) none))))
+    (byte (k .location .0) (omega (arith, i .3)) none))))
 
 seat-are : (p : Program) → ProgramSized p → (x : Seat) → SeatFits p x → Bytewise (seatBytes x)
 unfolding SeatFits seatBytes

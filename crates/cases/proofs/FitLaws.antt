@@ -17,10 +17,11 @@ use Rattle.cases.specs.declared.record.Record.{Record}
 use Rattle.cases.specs.declared.record.Record.the-variants.{Declare, First, Instruct, Want, Passed, Take}
 use Rattle.cases.specs.declared.seats.Seat.{Seat}
 use Rattle.cases.specs.declared.seats.Seat.the-variants.{Holds, Empty}
-use Rattle.cases.specs.Sizes.{mostInstructions}
+use Rattle.cases.specs.Sizes.{mostThreads, mostInstructions, mostLocations}
 use Rattle.cases.specs.Choice.{both, either}
 use Rattle.cases.specs.Checks.{outside, beyond, leftOver, countAt}
-use Rattle.cases.specs.Checks.{headerOut, instructionOut, instructionLeft, passedOut, stepOut, stepLeft}
+use Rattle.cases.specs.Checks.{headerOut, instructionOut, instructionLeft, passedOut}
+use Rattle.cases.specs.Checks.{queuesOf, Limits, limitsOf, stepOut, stepLeft}
 use Rattle.cases.specs.Ranges.{InstructionFits}
 use Rattle.cases.specs.Checks.{usesLocation, usesRegister}
 use Rattle.cases.proofs.ChoiceLaws.{either-false}
@@ -32,19 +33,20 @@ RecordFits p (First w) = leb (p .locations) (w .location .0) ≡ false
 RecordFits p (Instruct t x) = (instructionOut p t x ≡ false) × (instructionLeft x ≡ false)
 RecordFits p (Want w) = leb (p .locations) (w .location .0) ≡ false
 RecordFits p (Passed t n) = passedOut p t n ≡ false
-RecordFits p (Take k) = (stepOut p k ≡ false) × (stepLeft k ≡ false)
+RecordFits p (Take k) = (stepOut (limitsOf p) k ≡ false) × (stepLeft k ≡ false)
 
 unfoldable pub SeatFits : Program → Seat → Type 0
 SeatFits p (Holds r) = RecordFits p r
 SeatFits p Empty = Unit {0}
 
--- a field that passed 5 and 8 is below its limit, used or not
-pub field-low : (used : Bool) (x limit : ℕ) → beyond used x limit ≡ false → leftOver used x ≡ false
-    → 0 < limit
-    → x < limit
+-- a field that passed 5 and 8 is below the most, used or not
+pub field-low : (used : Bool) (x limit most : ℕ) → beyond used x limit ≡ false → leftOver used x ≡ false
+    → limit ≤ most
+    → 0 < most
+    → x < most
 unfolding beyond leftOver both
-field-low true x limit b l h = leb-false limit x b
-field-low false x limit b l h = omega (arith, eqb-true x 0 (not-false _ l))
+field-low true x limit most b l h k = omega (arith, leb-false limit x b)
+field-low false x limit most b l h k = omega (arith, eqb-true x 0 (not-false _ l))
 
 -- what is not outside is from 1 to the most
 pub outside-low : (x most : ℕ) → outside x most ≡ false → (1 ≤ x) × (x ≤ most)
@@ -59,9 +61,19 @@ pub record Grown (p q : Program) : Type 0 where
   pub same-locations : q .locations ≡ p .locations
   pub more : (t : ℕ) → getD (p .counts) t 0 ≤ getD (q .counts) t 0
 
+-- a step of the grown one may name the same
+limits-grown : (p q : Program) → Grown p q → limitsOf q ≡ limitsOf p
+unfolding queuesOf
+limits-grown p q g = λ i. record { threads = g .same-threads i; queues = g .same-locations i }
+
+-- a program with no more than the most locations has no more queues than that
+pub few-queues : (p : Program) → p .locations ≤ mostLocations → queuesOf p ≤ mostLocations
+unfolding queuesOf
+few-queues p h = h
+
 -- what fits a program fits the grown one
 pub record-grown : (p q : Program) → Grown p q → (r : Record) → RecordFits p r → RecordFits q r
-unfolding RecordFits instructionOut passedOut stepOut either
+unfolding RecordFits instructionOut passedOut either
 record-grown p q g (Declare h) f = f
 record-grown p q g (First w) f = rw (g .same-locations) f
 record-grown p q g (Instruct t x) f = (rw (g .same-threads, g .same-locations) (f .0), f .1)
@@ -70,7 +82,7 @@ record-grown p q g (Passed t n) f =
     let e = either-false (leb (p .threads) (t .0)) (ltb (countAt p (t .0)) n) f in
     let few = ltb-false (countAt p (t .0)) n (e .1) in
     rw (g .same-threads, e .0) (le-ltb (countAt q (t .0)) n (omega (arith, g .more (t .0), few)))
-record-grown p q g (Take k) f = (rw (g .same-threads, g .same-locations) (f .0), f .1)
+record-grown p q g (Take k) f = (rw (limits-grown p q g) (f .0), f .1)
 
 pub seat-grown : (p q : Program) → Grown p q → (x : Seat) → SeatFits p x → SeatFits q x
 unfolding SeatFits
@@ -94,27 +106,27 @@ instruction-fits p t x some out left =
       record {
         some-operation = o .0;
         low-operation = o .1;
-        low-location = field-low (usesLocation (x .operation)) _ _ (c .0) (e .0) some;
-        low-register = field-low (usesRegister (x .operation)) _ _ (c .1) (f .0) (omega arith);
+        low-location = field-low (usesLocation (x .operation)) _ _ _ (c .0) (e .0) (omega arith) some;
+        low-register = field-low (usesRegister (x .operation)) _ _ _ (c .1) (f .0) (omega arith) (omega arith);
       },
     )
 
-pub step-low : (p : Program) (k : Step) → 1 ≤ p .threads → 1 ≤ p .locations
-    → stepOut p k ≡ false
+pub step-low : (limits : Limits) (k : Step) → limits .threads ≤ mostThreads → limits .queues ≤ mostLocations
+    → stepOut limits k ≡ false
     → stepLeft k ≡ false
     → (k .code ≤ lastCode)
-    × (k .thread .0 < p .threads)
+    × (k .thread .0 < mostThreads)
     × (k .position < mostInstructions)
-    × (k .location .0 < p .locations)
+    × (k .location .0 < mostLocations)
 unfolding stepOut stepLeft
-step-low p k some any out left =
+step-low limits k few near out left =
     let a = either-false (ltb lastCode (k .code)) _ out in
-    let b = either-false (beyond (leb (k .code) move) (k .thread .0) (p .threads)) _ (a .1) in
+    let b = either-false (beyond (leb (k .code) move) (k .thread .0) (limits .threads)) _ (a .1) in
     let c = either-false (beyond (eqb (k .code) move) (k .position) mostInstructions) _ (b .1) in
     let e = either-false (leftOver (leb (k .code) move) (k .thread .0)) _ left in
     let f = either-false (leftOver (eqb (k .code) move) (k .position)) _ (e .1) in (
       ltb-false lastCode (k .code) (a .0),
-      field-low (leb (k .code) move) _ _ (b .0) (e .0) some,
-      field-low (eqb (k .code) move) _ _ (c .0) (f .0) (omega arith),
-      field-low (eqb (k .code) persist) _ _ (c .1) (f .1) any,
+      field-low (leb (k .code) move) _ _ _ (b .0) (e .0) few (omega arith),
+      field-low (eqb (k .code) move) _ _ _ (c .0) (f .0) (omega arith) (omega arith),
+      field-low (eqb (k .code) persist) _ _ _ (c .1) (f .1) near (omega arith),
     )

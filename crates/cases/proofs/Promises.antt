@@ -9,22 +9,24 @@ use lib.Seq.{take-at, drop-length}
 use borrow.Author.Tests.{eqb-true, eq-eqb}
 use native.Mathlib.Omega.{arith}
 use Rattle.cases.specs.declared.case.Step.{Step}
+use Rattle.cases.specs.declared.case.Program.{Program}
 use Rattle.cases.specs.declared.case.Case.{Case}
 use Rattle.cases.specs.declared.draft.Draft.{Draft}
 use Rattle.cases.specs.declared.record.Record.{Record}
 use Rattle.cases.specs.declared.reader.Answer.the-variants.{Whole}
 use Rattle.cases.specs.declared.writer.Wrote.the-variants.{Stored, Untouched}
-use Rattle.cases.specs.Sizes.{mostSteps, longest, longestRecord, stepSize}
+use Rattle.cases.specs.Sizes.{mostLocations, mostSteps, longest, longestRecord, stepSize}
 use Rattle.cases.specs.Choice.{both}
 use Rattle.cases.specs.Bytes.{IsBytes, half}
 use Rattle.cases.specs.Record.{recordOf, openNo, sizeOf}
-use Rattle.cases.specs.Checks.{stepFault, faultOf}
+use Rattle.cases.specs.Checks.{queuesOf, limitsOf, stepFault, faultOf}
 use Rattle.cases.specs.Draft.{noStep, emptyCase, runWith, withRun, blankDraft, addOf}
 use Rattle.cases.specs.Reading.{numberOf, offsetOf, refusedOf, readFrom, readOf, unreadOf}
 use Rattle.cases.specs.Seats.{encodeOf, stepsBytes}
 use Rattle.cases.specs.Ranges.{Ranged}
 use Rattle.cases.specs.Writing.{readsAs, readsBack, wroteOf, writtenOf}
 use Rattle.cases.proofs.ChoiceLaws.{both-true}
+use Rattle.cases.proofs.FitLaws as FitLaws
 use Rattle.cases.proofs.ReadLaws as ReadLaws
 use Rattle.cases.proofs.RoundTrip.{read-all}
 use Rattle.cases.proofs.PrefixLaws.{read-prefix, fuel-same}
@@ -130,6 +132,10 @@ read-ranged s h =
     let d = read-all s .sound h in
     rw (sym (d .3)) at (sound-ranged (d .0) (d .1) (d .2))
 
+-- a program with no more than the most locations has no more queues than that
+pub few-queues : (p : Program) → p .locations ≤ mostLocations → queuesOf p ≤ mostLocations
+few-queues = FitLaws.few-queues
+
 -- A case that passes the test for 32
 module _ (c : Case) (readable : readsBack c ≡ true) where
   file-number : numberOf (readOf (encodeOf c) .answer) ≡ 0
@@ -163,7 +169,7 @@ module _ (c : Case) (readable : readsBack c ≡ true) where
 
   -- with other steps that pass the checks 5 and 8 it passes the test too
   pub other-run-reads-back : (ks : List Step) → length ks ≤ mostSteps
-      → ((i : ℕ) → i < length ks → stepFault (c .program) (getD ks i noStep) ≡ 0)
+      → ((i : ℕ) → i < length ks → stepFault (limitsOf (c .program)) (getD ks i noStep) ≡ 0)
       → readsBack (withRun c (runWith ks)) ≡ true
   other-run-reads-back = rw file-case at (other-readable (encodeOf c) file-bytes file-number)
 

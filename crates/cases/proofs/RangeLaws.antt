@@ -16,8 +16,7 @@ use Rattle.cases.specs.declared.record.Record.the-variants.{Instruct}
 use Rattle.cases.specs.declared.seats.Seat.the-variants.{Holds}
 use Rattle.cases.specs.Sizes.{mostThreads, mostInstructions, mostLocations}
 use Rattle.cases.specs.Choice.{refuse}
-use Rattle.cases.specs.Checks.{stepFault}
-use Rattle.cases.specs.Checks.{passedOut}
+use Rattle.cases.specs.Checks.{passedOut, limitsOf, stepFault}
 use Rattle.cases.specs.Draft.{noInstruction, noStep}
 use Rattle.cases.specs.Seats.{fromCode, fromWants, fromPassed, fromSteps}
 use Rattle.cases.specs.Seats.{instructionSeat, wantSeat, passedSeat, stepSeat}
@@ -93,7 +92,8 @@ module _ (d : Draft) (front : ℕ) (s : Sound d front) where
           (seat-passed (d .case) (fromPassed + t) t refl low ∙ pick-false _ _ _ e) in
           ltb-false _ _ (either-false (leb (program .threads) t) _ f .1)
 
-  step-ranged : (k : ℕ) → k < d .case .run .count → stepFault program (getD (d .case .run .steps) k noStep) ≡ 0
+  step-ranged : (k : ℕ) → k < d .case .run .count
+      → stepFault (limitsOf program) (getD (d .case .run .steps) k noStep) ≡ 0
   unfolding RecordFits stepSeat stepFault refuse
   step-ranged k h =
       let e = seat-step (d .case) (fromSteps + k) k refl

@@ -20,7 +20,7 @@ use Rattle.cases.specs.Sizes.{mostSteps}
 use Rattle.cases.specs.Choice.{pick, both, either, refuse}
 use Rattle.cases.specs.Bytes.{IsBytes}
 use Rattle.cases.specs.Record.{recordBytes}
-use Rattle.cases.specs.Checks.{kindRank, misplaced, stepFault, faultOf}
+use Rattle.cases.specs.Checks.{kindRank, misplaced, limitsOf, stepFault, faultOf}
 use Rattle.cases.specs.Draft.{noStep, emptyCase, runWith, withRun, withStep, blankDraft, addOf}
 use Rattle.cases.specs.Reading.{numberOf, readOf}
 use Rattle.cases.specs.Seats.{encodeOf, stepsBytes}
@@ -35,7 +35,7 @@ use Rattle.cases.proofs.CutLaws.{Cut, split-none, cut-from}
 -- Steps that pass the checks 5 and 8, behind a draft
 step-passes : (d : Draft) (k : Step) → d .kind ≢ 0 → kindRank (d .kind) ≤ kindRank 6
     → d .case .run .count < mostSteps
-    → stepFault (d .case .program) k ≡ 0
+    → stepFault (limitsOf (d .case .program)) k ≡ 0
     → faultOf d (Take k) ≡ 0
 unfolding faultOf stepFault misplaced pick either refuse
 step-passes d k begun low room clean =
@@ -44,7 +44,7 @@ step-passes d k begun low room clean =
 steps-go : (ks : List Step) (d : Draft) (js : List Step) → d .kind ≢ 0 → kindRank (d .kind) ≤ kindRank 6
     → d .case .run ≡ runWith js
     → length js + length ks ≤ mostSteps
-    → ((i : ℕ) → i < length ks → stepFault (d .case .program) (getD ks i noStep) ≡ 0)
+    → ((i : ℕ) → i < length ks → stepFault (limitsOf (d .case .program)) (getD ks i noStep) ≡ 0)
     → (e : Draft)
     × Goes d (stepsBytes ks) e
     × (e .kind ≢ 0)
@@ -94,7 +94,7 @@ module _ (s : List ℕ) (b : IsBytes s) (h : numberOf (readOf s .answer) ≡ 0) 
 
   -- the case with other steps that pass the checks 5 and 8 is readable
   pub other-readable : (ks : List Step) → length ks ≤ mostSteps
-      → ((i : ℕ) → i < length ks → stepFault (case .program) (getD ks i noStep) ≡ 0)
+      → ((i : ℕ) → i < length ks → stepFault (limitsOf (case .program)) (getD ks i noStep) ≡ 0)
       → readsBack (withRun case (runWith ks)) ≡ true
   unfolding withRun
   other-readable ks few clean =

@@ -11,6 +11,9 @@
 --   usesLocation, usesRegister, usesWord
 --                    which fields an operation uses
 --   countAt p t      how many instructions thread t of the program p has
+--   queuesOf p       how many queues the program p has
+--   Limits, limitsOf p
+--                    what a step may name, and what a step of the program p may
 --   faultOf d r      0, or the number of the first fault of record r behind the draft d
 -- Assumes nothing.
 use Prim.Native.Nat.{ℕ}
@@ -95,13 +98,26 @@ countAt p t = getD (p .counts) t 0
 unfoldable pub passedOut : Program → Thread → ℕ → Bool
 passedOut p t n = either (leb (p .threads) (t .0)) (ltb (countAt p (t .0)) n)
 
--- "Step codes: 0 issue (thread); 1 move (thread, position 0 to 7); 2 persist (location)."
-unfoldable pub stepOut : Program → Step → Bool
-stepOut p k =
+-- how many queues a program has: one for each location
+unfoldable pub queuesOf : Program → ℕ
+queuesOf p = p .locations
+
+-- what a step may name: so many threads, so many queues
+pub record Limits : Type 0 where
+  pub threads : ℕ
+  pub queues : ℕ
+
+abbrev pub limitsOf : Program → Limits
+limitsOf p = record { threads = p .threads; queues = queuesOf p }
+
+-- "Step codes: 0 issue (thread); 1 move (thread, position 0 to 7); 2 persist (location)." A persist names a
+-- queue, by its number.
+unfoldable pub stepOut : Limits → Step → Bool
+stepOut limits k =
     either (ltb lastCode (k .code))
-    (either (beyond (leb (k .code) move) (k .thread .0) (p .threads))
+    (either (beyond (leb (k .code) move) (k .thread .0) (limits .threads))
     (either (beyond (eqb (k .code) move) (k .position) mostInstructions)
-    (beyond (eqb (k .code) persist) (k .location .0) (p .locations))))
+    (beyond (eqb (k .code) persist) (k .location .0) (limits .queues))))
 
 unfoldable pub stepLeft : Step → Bool
 stepLeft k =
@@ -110,8 +126,8 @@ stepLeft k =
     (leftOver (eqb (k .code) persist) (k .location .0)))
 
 -- 5 and 8 of a step, as for a kind 6 record
-unfoldable pub stepFault : Program → Step → ℕ
-stepFault p k = refuse (stepOut p k) 5 (refuse (stepLeft k) 8 0)
+unfoldable pub stepFault : Limits → Step → ℕ
+stepFault limits k = refuse (stepOut limits k) 5 (refuse (stepLeft k) 8 0)
 
 unfoldable pub faultOf : Draft → Record → ℕ
 faultOf d (Declare h) =
@@ -139,6 +155,6 @@ faultOf d (Passed t n) =
     (refuse (disordered d 5 (t .0)) 6 0)))
 faultOf d (Take k) =
     refuse (misplaced (d .kind) 6) 4
-    (refuse (stepOut (d .case .program) k) 5
+    (refuse (stepOut (limitsOf (d .case .program)) k) 5
     (refuse (stepLeft k) 8
     (refuse (leb mostSteps (d .case .run .count)) 9 0)))

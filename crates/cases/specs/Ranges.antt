@@ -13,7 +13,7 @@ use Rattle.cases.specs.declared.case.Instruction.{Instruction}
 use Rattle.cases.specs.Sizes.{mostThreads, mostInstructions, mostLocations}
 use Rattle.cases.specs.Sizes.{mostRegisters, mostSteps, allCode}
 use Rattle.cases.specs.Operations.{firstOperation, lastOperation}
-use Rattle.cases.specs.Checks.{countAt, stepFault}
+use Rattle.cases.specs.Checks.{countAt, limitsOf, stepFault}
 use Rattle.cases.specs.Draft.{noInstruction, noStep}
 
 pub record InstructionFits (p : Program) (x : Instruction) : Type 0 where
@@ -42,4 +42,5 @@ pub record Ranged (c : Case) : Type 0 where
   pub wants : (l : ℕ) → getD (c .ask .wanted) l false ≡ true → l < c .program .locations
   pub passed : (t : ℕ) → getD (c .ask .passed) t 0 ≤ countAt (c .program) t
   pub few-steps : c .run .count ≤ mostSteps
-  pub steps : (k : ℕ) → k < c .run .count → stepFault (c .program) (getD (c .run .steps) k noStep) ≡ 0
+  pub steps : (k : ℕ) → k < c .run .count
+      → stepFault (limitsOf (c .program)) (getD (c .run .steps) k noStep) ≡ 0

@@ -38,6 +38,8 @@ ghost use Rattle.cases.specs.Checks.{
   instructionOut,
   instructionLeft,
   passedOut,
+  queuesOf,
+  limitsOf,
   stepOut,
   stepLeft,
   stepFault,
@@ -187,8 +189,15 @@ fn is_passed_out(p: Program, t: Thread, n: u8) -> bool
     count(p, t) < n
 }
 
+// How many queues the program has: a persist names one by its number.
+pub fn queues_of(p: Program) -> u8
+    ensures { λ r. ⌜ r ≡ queuesOf p ⌝ }
+{
+    p.locations
+}
+
 fn is_step_out(p: Program, k: Step) -> bool
-    ensures { λ r. ⌜ r ≡ stepOut p k ⌝ }
+    ensures { λ r. ⌜ r ≡ stepOut (limitsOf p) k ⌝ }
 {
     let code = k.code;
     if LAST_CODE < code {
@@ -200,7 +209,7 @@ fn is_step_out(p: Program, k: Step) -> bool
     if is_beyond(code == MOVE, k.position, INSTRUCTIONS as u8) {
         return true;
     }
-    is_beyond(code == PERSIST, k.location.0, p.locations)
+    is_beyond(code == PERSIST, k.location.0, queues_of(p))
 }
 
 fn is_step_left(k: Step) -> bool
@@ -218,7 +227,7 @@ fn is_step_left(k: Step) -> bool
 
 // 5 and 8 of a step, as for a kind 6 record.
 pub fn step_fault(p: Program, k: Step) -> u8
-    ensures { λ r. ⌜ r ≡ stepFault p k ⌝ }
+    ensures { λ r. ⌜ r ≡ stepFault (limitsOf p) k ⌝ }
 {
     if is_step_out(p, k) {
         return 5;

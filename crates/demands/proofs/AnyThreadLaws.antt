@@ -12,18 +12,20 @@ use Rattle.machine.specs.declared.cells.State.{State}
 use Rattle.machine.specs.View.{wordOf, issuedOf}
 use Rattle.machine.specs.Rules.{startOf}
 use Rattle.machine.specs.Fit.{ProgramFits}
-use Rattle.machine.specs.Judge.{Leads, Faultless}
-use Rattle.machine.proofs.Promises.{start-fits}
+use Rattle.machine.specs.Model.{Leads, Faultless, FinishedRun}
+use Rattle.machine.specs.Ptso.{ptso}
+use Rattle.machine.proofs.Promises.{ptso-lawful, start-fits}
 use Rattle.machine.proofs.Effects.{start-buffer, start-queue, start-issued}
-use Rattle.demands.specs.Runs.{FinishedRun}
 use Rattle.demands.specs.Writes.{fixedFrom, fixedOf, Writer, LastWrite}
 use Rattle.demands.specs.Carried.{carriedAll, othersFrom, lastRun}
-use Rattle.demands.proofs.LastLaws.{lastOr, Settles}
+use Rattle.demands.proofs.LastLaws.{Settles}
+use Rattle.machine.specs.Joins.{lastOr}
 use Rattle.demands.proofs.WriteLaws.{storesOf, fixesFrom}
 use Rattle.demands.proofs.ComingLaws.{coming}
 use Rattle.demands.proofs.SettleLaws.{Done, newest, run-settles}
 use Rattle.demands.proofs.LastWriteLaws.{fixes-last, fixes-unwritten, writer-last, last-one}
-use Rattle.demands.proofs.FixedLaws.{leads-append, faultless-append, fixed-behind}
+use Rattle.demands.proofs.FixedLaws.{fixed-behind}
+use Rattle.machine.proofs.Promises.{leads-append, faultless-append}
 use Rattle.demands.proofs.EndLaws.{work-stuck, done-work}
 use Rattle.demands.proofs.MemoryLaws.{in-threads, unissued-coming, written-low}
 use Rattle.demands.proofs.CarryLaws.{Carries, carries-all}
@@ -46,8 +48,8 @@ module _ (p : Program) (fits : ProgramFits p) where
         }
 
     first : (v : State)
-        × Faultless p (othersFrom p t 0 (p .threads))
-        × Leads p (startOf p) (othersFrom p t 0 (p .threads)) v
+        × Faultless (ptso p) (othersFrom p t 0 (p .threads))
+        × Leads (ptso p) (startOf p) (othersFrom p t 0 (p .threads)) v
         × Turn p t (p .threads) v
     first = others-lead p t (p .threads) 0 (startOf p) (omega arith) start-turn
 
@@ -104,25 +106,25 @@ module _ (p : Program) (fits : ProgramFits p) where
             ∙ w .2
             ∙ ap (fixedFrom p middle (carriedAll p t) t) (last-one p t l (w .0) i (w .1) last)
 
-        go : Settles (p .threads) (coming p middle (carriedAll p t) l) (newest middle l) (wordOf (then .end) l)
+        go : Settles (p .threads) (coming p middle (carriedAll p t) l) (newest p middle l) (wordOf (then .end) l)
             → wordOf (then .end) l ≡ fixedFrom p middle (carriedAll p t) t i
         go (inl x) = absurd (some (x .0 t (in-threads p fits t i (last .there))))
         go (inr x) = at (x .0) (x .1) (x .2) (x .3) (ℕ-discrete (x .0) t)
 
     thread-last : (u : State)
-        × FinishedRun p (lastRun p t) u
+        × FinishedRun (ptso p) (lastRun p t) u
         × (wordOf u l ≡ fixedOf p (lastRun p t) t i)
     unfolding lastRun fixedOf
     thread-last = (
       then .end,
       record {
         legal = record {
-          faultless = faultless-append p (othersFrom p t 0 (p .threads)) (carriedAll p t) (first .1)
+          faultless = faultless-append (ptso p) (othersFrom p t 0 (p .threads)) (carriedAll p t) (first .1)
               (then .faultless);
-          leads = leads-append p (startOf p) (othersFrom p t 0 (p .threads)) middle (carriedAll p t) (then .end)
+          leads = leads-append (ptso p) (startOf p) (othersFrom p t 0 (p .threads)) middle (carriedAll p t) (then .end)
               (first .2) (then .leads);
         };
-        over = work-stuck p (then .end) (then .quiet .fit)
+        over = work-stuck (ptso p) (ptso-lawful p fits) (then .end) (then .quiet .fit)
             (done-work p (then .end) (then .quiet .fit) end-done);
       },
       end-mine
@@ -133,7 +135,7 @@ module _ (p : Program) (fits : ProgramFits p) where
   pub any-thread : (t l : ℕ) → Writer p t l
       → (i : ℕ) × (u : State)
       × LastWrite p t l i
-      × FinishedRun p (lastRun p t) u
+      × FinishedRun (ptso p) (lastRun p t) u
       × (wordOf u l ≡ fixedOf p (lastRun p t) t i)
   any-thread t l w =
       let last = writer-last p t l w in

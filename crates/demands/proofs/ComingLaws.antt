@@ -4,30 +4,28 @@
 use Prim.Native.Nat.{ℕ, _-_, _<_}
 use mathlib.Core.Path.{_≡_, refl, sym, ap, _∙_}
 use mathlib.Core.Logic.{_⊎_, inl, inr, _≢_}
-use mathlib.Core.Bool.{Bool, true, false}
+use mathlib.Core.Bool.{false}
 use mathlib.Core.List.{List, [], _∷_, _++_, append-nil, append-assoc}
 use native.Mathlib.Omega.{arith}
-use lib.Dec.{eqb}
 use Rattle.cases.specs.declared.case.Location.{Location}
 use Rattle.cases.specs.declared.case.Step.{Step}
 use Rattle.cases.specs.declared.case.Program.{Program}
-use Rattle.cases.specs.Sizes.{mostThreads, mostLocations}
-use Rattle.cases.specs.Choice.{pick}
-use Rattle.cases.specs.Checks.{countAt}
+use Rattle.cases.specs.Sizes.{mostThreads}
+use Rattle.cases.specs.Checks.{countAt, queuesOf}
 use Rattle.machine.specs.declared.cells.State.{State}
 use Rattle.machine.specs.declared.cells.Entry.the-variants.{FlushOpt}
-use Rattle.machine.specs.View.{Slot, queue, buffer, wordOf, issuedOf}
-use Rattle.machine.specs.Look.{wordOr}
+use Rattle.machine.specs.View.{buffer, wordOf, issuedOf}
+use Rattle.machine.specs.Joins.{onWay}
 use Rattle.machine.specs.Rules.{entryAt, ruleOf, nextOf}
 use Rattle.machine.specs.Fit.{Fits}
 use Rattle.machine.specs.Next.{moveStep, persistStep}
 use Rattle.machine.proofs.Effects.{move-within, move-first-or, move-issued, move-buffer, move-buffer-other}
-use Rattle.machine.proofs.Effects.{move-queue, move-word, persist-issued, persist-buffer, persist-queue}
-use Rattle.machine.proofs.Effects.{persist-queue-other, persist-word-other}
+use Rattle.machine.proofs.Effects.{move-words, move-word, persist-issued, persist-buffer, persist-words}
 use Rattle.demands.specs.Writes.{issuesAt, fixedFrom}
-use Rattle.demands.proofs.LastLaws.{lastOr}
-use Rattle.demands.proofs.WriteLaws.{onlyIf, writesOf, storeOf, storesOf, fixesFrom, writes-append}
-use Rattle.demands.proofs.WriteLaws.{stores-without, fixes-same, enters-writes}
+use Rattle.machine.specs.Joins.{lastOr}
+use Rattle.demands.proofs.WriteLaws.{storesOf, fixesFrom}
+use Rattle.machine.specs.Joins.{storeOf}
+use Rattle.demands.proofs.WriteLaws.{stores-without, fixes-same}
 use Rattle.demands.proofs.IssuesLaws.{fixed-next, move-issues, persist-issues}
 
 -- what thread t has to come to location l in the run ks from s: what waits in its buffer, then what it fixes
@@ -35,13 +33,13 @@ unfoldable pub coming : Program → State → List Step → ℕ → ℕ → List
 coming p s ks l t =
     storesOf l (buffer s t) ++ fixesFrom p t l (fixedFrom p s ks t) (issuedOf s t) (countAt p t - issuedOf s t)
 
--- the step k: thread `thread` puts `new` into the queue, `out` goes to memory
+-- the step k: thread `thread` puts `new` on its way, `out` comes to memory
 pub record Passing (p : Program) (s : State) (k : Step) (ks : List Step) (l : ℕ) : Type 0 where
   pub thread : ℕ
   pub new : List ℕ
   pub out : List ℕ
   pub low : new ≢ [] → thread < p .threads
-  pub queued : writesOf (queue s l) ++ new ≡ out ++ writesOf (queue (nextOf p s k) l)
+  pub queued : onWay p s l ++ new ≡ out ++ onWay p (nextOf p s k) l
   pub kept : wordOf (nextOf p s k) l ≡ lastOr out (wordOf s l)
   pub here : coming p s (k ∷ ks) l thread ≡ new ++ coming p (nextOf p s k) ks l thread
   pub other : (t : ℕ) → t < p .threads → t ≢ thread
@@ -68,45 +66,25 @@ module _ (p : Program) (s : State) (f : Fits p s) where
   pub in-range : (t : ℕ) → t < p .threads → t < mostThreads
   in-range t h = let w = f .program .few-threads in omega arith
 
-module _ (p : Program) (s : State) (f : Fits p s) (ks : List Step) (l : ℕ) (there : l < mostLocations) where
+module _ (p : Program) (s : State) (f : Fits p s) (ks : List Step) (l : ℕ) (there : l < p .locations) where
   -- Persist
-  module _ (m : ℕ) (low : m < p .locations) (legal : ruleOf p s (persistStep m) ≡ 0) where
+  module _ (q : ℕ) (low : q < queuesOf p) (legal : ruleOf p s (persistStep q) ≡ 0) where
     persist-coming : (t : ℕ)
-        → coming p s (persistStep m ∷ ks) l t ≡ coming p (nextOf p s (persistStep m)) ks l t
+        → coming p s (persistStep q ∷ ks) l t ≡ coming p (nextOf p s (persistStep q)) ks l t
     persist-coming t =
-        coming-taken p s (persistStep m) ks l t [] (persist-issues s m t) (persist-issued p s f m low legal t)
-        (ap (storesOf l) (sym (persist-buffer p s f m low legal t)))
+        coming-taken p s (persistStep q) ks l t [] (persist-issues s q t) (persist-issued p s f q low legal t)
+        (ap (storesOf l) (sym (persist-buffer p s f q low legal t)))
 
-    word-last : (h : Slot) (w : ℕ) → wordOr h w ≡ lastOr (onlyIf (eqb (h .mark) 0) (h .word)) w
-    unfolding wordOr onlyIf pick lastOr
-    word-last h w = go (eqb (h .mark) 0)
-      where
-        go : (b : Bool) → pick b (h .word) w ≡ lastOr (pick b (h .word ∷ []) []) w
-        go true = refl
-        go false = refl
-
-    pub persist-passing : Dec (l ≡ m) → Passing p s (persistStep m) ks l
-    unfolding writesOf lastOr
-    persist-passing (yes e) =
-        let q = persist-queue p s f m low legal in
+    pub persist-passing : Passing p s (persistStep q) ks l
+    persist-passing =
+        let w = persist-words p s f q low legal l there in
         record {
           thread = 0;
           new = [];
-          out = onlyIf (eqb (q .0 .mark) 0) (q .0 .word);
+          out = w .0;
           low = λ n. absurd (n refl);
-          queued = rw (append-nil, e) (ap writesOf (q .1));
-          kept = rw e (q .2 ∙ word-last (q .0) (wordOf s m));
-          here = persist-coming 0;
-          other = λ t h n. persist-coming t;
-        }
-    persist-passing (no e) =
-        record {
-          thread = 0;
-          new = [];
-          out = [];
-          low = λ n. absurd (n refl);
-          queued = rw append-nil (ap writesOf (sym (persist-queue-other p s f m low legal l there e)));
-          kept = persist-word-other p s f m low legal l e;
+          queued = append-nil (onWay p s l) ∙ w .1;
+          kept = w .2;
           here = persist-coming 0;
           other = λ t h n. persist-coming t;
         }
@@ -130,8 +108,7 @@ module _ (p : Program) (s : State) (f : Fits p s) (ks : List Step) (l : ℕ) (th
           new = storeOf l (entryAt (buffer s t) i);
           out = [];
           low = λ n. low;
-          queued =
-              rw (move-queue p s f t i low legal l there, writes-append (queue s l), enters-writes t l) refl;
+          queued = sym (move-words p s f t i low legal l there);
           kept = move-word p s f t i low legal l;
           here =
               coming-taken p s (moveStep t i) ks l t (storeOf l (entryAt (buffer s t) i)) (move-issues s t i t)

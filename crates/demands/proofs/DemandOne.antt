@@ -17,7 +17,7 @@ use Rattle.cases.specs.declared.writer.Wrote.the-variants.{Stored, Untouched}
 use Rattle.cases.specs.Choice.{pick, refuse}
 use Rattle.cases.specs.Bytes.{IsBytes, half}
 use Rattle.cases.specs.Record.{kindOf, payloadOf, recordOf, openNo, sizeOf}
-use Rattle.cases.specs.Checks.{misplaced, stepFault, faultOf}
+use Rattle.cases.specs.Checks.{misplaced, limitsOf, stepFault, faultOf}
 use Rattle.cases.specs.Draft.{emptyCase, addOf}
 use Rattle.cases.specs.Reading.{numberOf, offsetOf, refusedOf, readFrom, readOf}
 use Rattle.cases.specs.Seats.{encodeOf}
@@ -30,12 +30,14 @@ use Rattle.machine.specs.declared.steps.Ruling.the-variants.{Allowed, Broken, D
 use Rattle.machine.specs.declared.work.Weighed.the-variants.{Unweighed}
 use Rattle.machine.specs.Rules.{ruleOf, nextOf, startOf}
 use Rattle.machine.specs.Fit.{misfits}
-use Rattle.machine.specs.Work.{fullLength, workOf, fullOf}
+use Rattle.machine.specs.Model.{fullLength}
+use Rattle.machine.specs.Judge.{workOf, fullOf}
 use Rattle.machine.specs.Judge.{verdictNo, rulingNo, told, startedOf, steppedOf, stepOf, stopped, judgeOf}
 use Rattle.machine.specs.Judge.{judgeBytes}
+use Rattle.machine.specs.Ptso.{ptso}
 use Rattle.machine.proofs.Promises as Machine
 use Rattle.search.specs.declared.ask.Outcome.the-variants.{Refused}
-use Rattle.search.specs.Question.{askOf, outcomeNo, toldOf, questionOf, shownOf}
+use Rattle.search.specs.Question.{reaches, askOf, outcomeNo, toldOf, questionOf, shownOf}
 use Rattle.search.proofs.Promises as Search
 use Rattle.demands.specs.Order.{outOf, leftOf, unorderedOf, ninthOf, ninetySeventhOf}
 use Rattle.demands.proofs.TableLaws as TableLaws
@@ -134,15 +136,16 @@ pub order-of-asking : (s : List ℕ) (room b : ℕ)
     → questionOf s room b
     ≡ pick (not (eqb (numberOf (readOf s .answer)) 0))
     (Refused (numberOf (readOf s .answer)) (offsetOf (readOf s .answer)))
-    (pick (ltb room (stepSize * fullLength (readOf s .case .program))) (Refused 31 0)
-    (toldOf (askOf (readOf s .case .program) (readOf s .case .ask) b)))
+    (pick (ltb room (stepSize * fullLength (ptso (readOf s .case .program)))) (Refused 31 0)
+    (toldOf (askOf (ptso (readOf s .case .program)) (reaches (readOf s .case .ask)) b)))
 order-of-asking = TableLaws.asking-order
 
 pub order-of-stepping : (c : Case) (s : State) (k : Step)
     → stepOf c s k
     ≡ pick (not (readsBack c)) (told (Declined 32) s)
     (pick (misfits (c .program) s) (told (Declined 33) s)
-    (pick (not (eqb (stepFault (c .program) k) 0)) (told (Declined (stepFault (c .program) k)) s)
+    (pick (not (eqb (stepFault (limitsOf (c .program)) k) 0))
+    (told (Declined (stepFault (limitsOf (c .program)) k)) s)
     (pick (not (eqb (ruleOf (c .program) s k) 0)) (told (Broken (ruleOf (c .program) s k)) s)
     (told Allowed (nextOf (c .program) s k)))))
 unfolding stepOf steppedOf

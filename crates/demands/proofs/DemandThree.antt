@@ -11,7 +11,7 @@ use Rattle.cases.specs.declared.case.Step.{Step}
 use Rattle.cases.specs.declared.case.Program.{Program}
 use Rattle.cases.specs.declared.case.Case.{Case}
 use Rattle.cases.specs.Sizes.{mostThreads}
-use Rattle.cases.specs.Checks.{stepFault, countAt}
+use Rattle.cases.specs.Checks.{limitsOf, stepFault, countAt}
 use Rattle.cases.specs.Draft.{runWith, withRun}
 use Rattle.cases.specs.Writing.{readsBack}
 use Rattle.cases.specs.Operations.{storeRegister}
@@ -19,11 +19,13 @@ use Rattle.machine.specs.declared.cells.State.{State}
 use Rattle.machine.specs.declared.runs.Verdict.the-variants.{Legal}
 use Rattle.machine.specs.View.{wordOf}
 use Rattle.machine.specs.Rules.{instructionAt, ruleOf, nextOf}
-use Rattle.machine.specs.Fit.{sumTo}
-use Rattle.machine.specs.Work.{work, Unfinished, fullLength, programWeight}
+use Rattle.machine.specs.Fit.{sumTo, Fits}
+use Rattle.machine.specs.Next.{rankOf}
+use Rattle.machine.specs.Work.{work, Unfinished, programWeight}
+use Rattle.machine.specs.Model.{Lawful, fullLength, LegalRun, CannotGoOn, FinishedRun}
 use Rattle.machine.specs.Judge.{judged, judgeOf}
-use Rattle.machine.proofs.Promises.{program-fits, full-length-weighs}
-use Rattle.demands.specs.Runs.{LegalRun, CannotGoOn, FinishedRun}
+use Rattle.machine.specs.Ptso.{ptso}
+use Rattle.machine.proofs.Promises.{program-fits, ptso-lawful, each-costs-one, full-length-weighs, progress}
 use Rattle.demands.specs.Writes.{fixedOf, Writer, LastWrite, Unwritten, Alone}
 use Rattle.demands.specs.Carried.{lastRun}
 use Rattle.demands.proofs.EndLaws as EndLaws
@@ -33,56 +35,72 @@ use Rattle.demands.proofs.AnyThreadLaws as AnyThreadLaws
 
 -- "So all runs that cannot go on have one length, known from the program alone." The full length is what the
 -- program's instructions weigh.
-pub known-from-the-program : (p : Program) → fullLength p ≡ sumTo mostThreads (programWeight p)
+pub known-from-the-program : (p : Program) → fullLength (ptso p) ≡ sumTo mostThreads (programWeight p)
 known-from-the-program = full-length-weighs
 
 -- A case that can be read
 module _ (c : Case) (readable : readsBack c ≡ true) where
+  laws : Lawful (ptso (c .program)) (Fits (c .program)) rankOf
+  laws = ptso-lawful (c .program) (program-fits c readable)
+
+  fit : (ks : List Step) (u : State) → LegalRun (ptso (c .program)) ks u → Fits (c .program) u
+  fit = EndLaws.run-fits (ptso (c .program)) laws
+
   -- A legal run is one that the judge passes, put into the case as its steps, and no other.
   pub legal-as-judged : (ks : List Step) (u : State)
-      → LegalRun (c .program) ks u
+      → LegalRun (ptso (c .program)) ks u
       ↔ (judgeOf (withRun c (runWith ks)) ≡ judged (Legal (length ks)) u)
   legal-as-judged = JudgedLaws.legal-as-judged c readable
 
   -- After a legal run
-  module _ (ks : List Step) (u : State) (run : LegalRun (c .program) ks u) where
+  module _ (ks : List Step) (u : State) (run : LegalRun (ptso (c .program)) ks u) where
     -- "After any legal run, while an instruction is unissued or an entry waits, some step is legal."
     pub never-wedged :
         Unfinished (c .program) u
-        → (k : Step) × (stepFault (c .program) k ≡ 0) × (ruleOf (c .program) u k ≡ 0)
-    never-wedged = EndLaws.never-wedged (c .program) (program-fits c readable) ks u run
+        → (k : Step) × (stepFault (limitsOf (c .program)) k ≡ 0) × (ruleOf (c .program) u k ≡ 0)
+    never-wedged = progress (c .program) u (fit ks u run)
 
     -- "Every legal step lowers the work left, as your rules weigh it, by exactly one."
     pub each-step-one : (k : Step)
-        → stepFault (c .program) k ≡ 0
+        → stepFault (limitsOf (c .program)) k ≡ 0
         → ruleOf (c .program) u k ≡ 0
         → work (c .program) (nextOf (c .program) u k) + 1 ≡ work (c .program) u
-    each-step-one = EndLaws.each-step-one (c .program) (program-fits c readable) ks u run
+    each-step-one = EndLaws.step-one (ptso (c .program)) laws (each-costs-one (c .program)) u (fit ks u run)
 
     -- "So all runs that cannot go on have one length, known from the program alone."
-    pub one-length : CannotGoOn (c .program) u → length ks ≡ fullLength (c .program)
-    one-length = EndLaws.one-length (c .program) (program-fits c readable) ks u run
+    pub one-length : CannotGoOn (ptso (c .program)) u → length ks ≡ fullLength (ptso (c .program))
+    one-length stuck =
+        EndLaws.one-length (ptso (c .program)) laws (each-costs-one (c .program)) (EndLaws.working (c .program)) ks u
+        (record { legal = run; over = stuck })
 
     -- Where it cannot go on, every instruction is issued and no entry waits.
-    pub nothing-left : CannotGoOn (c .program) u → Unfinished (c .program) u → ⊥
-    nothing-left = EndLaws.nothing-left (c .program) (program-fits c readable) ks u run
+    pub nothing-left : CannotGoOn (ptso (c .program)) u → Unfinished (c .program) u → ⊥
+    nothing-left = EndLaws.stuck-not (c .program) u (fit ks u run)
 
     -- And where a run has that length, it cannot go on; no run is longer; every run can be made that long.
-    pub full-length-ends : length ks ≡ fullLength (c .program) → CannotGoOn (c .program) u
-    full-length-ends = EndLaws.full-length-ends (c .program) (program-fits c readable) ks u run
+    pub full-length-ends : length ks ≡ fullLength (ptso (c .program)) → CannotGoOn (ptso (c .program)) u
+    full-length-ends =
+        EndLaws.full-length-ends (ptso (c .program)) laws (each-costs-one (c .program)) ks u run
 
-    pub none-longer : length ks ≤ fullLength (c .program)
-    none-longer = EndLaws.none-longer (c .program) (program-fits c readable) ks u run
+    pub none-longer : length ks ≤ fullLength (ptso (c .program))
+    none-longer = EndLaws.none-longer (ptso (c .program)) laws ks u run
 
     pub every-run-ends : (ms : List Step) × (v : State)
-        × FinishedRun (c .program) (ks ++ ms) v
-        × (length (ks ++ ms) ≡ fullLength (c .program))
-    every-run-ends = EndLaws.every-run-ends (c .program) (program-fits c readable) ks u run
+        × FinishedRun (ptso (c .program)) (ks ++ ms) v
+        × (length (ks ++ ms) ≡ fullLength (ptso (c .program)))
+    every-run-ends =
+        let r = EndLaws.every-run-ends (ptso (c .program)) laws (EndLaws.working (c .program)) ks u run in (
+          r .0,
+          r .1,
+          r .2,
+          EndLaws.one-length (ptso (c .program)) laws (each-costs-one (c .program)) (EndLaws.working (c .program))
+              (ks ++ r .0) (r .1) (r .2),
+        )
 
   -- "At their end each location holds the last write, in program order, of one of the threads that write it, or
   -- its first content if none does;" The word is the one that the instruction fixed as this run issued it.
   pub end-of-run : (ks : List Step) (u : State)
-      → FinishedRun (c .program) ks u
+      → FinishedRun (ptso (c .program)) ks u
       → (l : ℕ) → l < c .program .locations
       → ((t : ℕ) × (i : ℕ) × LastWrite (c .program) t l i × (wordOf u l ≡ fixedOf (c .program) ks t i))
       ⊎ (Unwritten (c .program) l × (wordOf u l ≡ getD (c .program .first) l 0))
@@ -90,7 +108,7 @@ module _ (c : Case) (readable : readsBack c ≡ true) where
 
   -- Of a store of a word or an exchange that is the word that stands in the program.
   pub word-of-the-program : (ks : List Step) (u : State)
-      → FinishedRun (c .program) ks u
+      → FinishedRun (ptso (c .program)) ks u
       → (t i : ℕ) → i < countAt (c .program) t
       → instructionAt (c .program) t i .operation ≢ storeRegister
       → fixedOf (c .program) ks t i ≡ instructionAt (c .program) t i .word
@@ -101,7 +119,7 @@ module _ (c : Case) (readable : readsBack c ≡ true) where
       → Writer (c .program) t l
       → (i : ℕ) × (u : State)
       × LastWrite (c .program) t l i
-      × FinishedRun (c .program) (lastRun (c .program) t) u
+      × FinishedRun (ptso (c .program)) (lastRun (c .program) t) u
       × (wordOf u l ≡ fixedOf (c .program) (lastRun (c .program) t) t i)
   any-thread = AnyThreadLaws.any-thread (c .program) (program-fits c readable)
 
@@ -112,7 +130,7 @@ module _ (c : Case) (readable : readsBack c ≡ true) where
       → Alone (c .program) t l
       → instructionAt (c .program) t i .operation ≢ storeRegister
       → (ks : List Step) (u : State)
-      → FinishedRun (c .program) ks u
+      → FinishedRun (ptso (c .program)) ks u
       → wordOf u l ≡ instructionAt (c .program) t i .word
   one-writer = MemoryLaws.alone-holds (c .program) (program-fits c readable)
 
@@ -120,6 +138,6 @@ module _ (c : Case) (readable : readsBack c ≡ true) where
   pub no-writer : (l : ℕ) → l < c .program .locations
       → Unwritten (c .program) l
       → (ks : List Step) (u : State)
-      → LegalRun (c .program) ks u
+      → LegalRun (ptso (c .program)) ks u
       → wordOf u l ≡ getD (c .program .first) l 0
   no-writer = MemoryLaws.unwritten-keeps (c .program) (program-fits c readable)

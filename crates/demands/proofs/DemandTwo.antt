@@ -23,13 +23,15 @@ use Rattle.machine.specs.declared.cells.State.{State}
 use Rattle.machine.specs.declared.runs.Verdict.the-variants.{Legal, Illegal}
 use Rattle.machine.specs.View.{wordOf, issuedOf}
 use Rattle.machine.specs.Rules.{ruleOf, startOf}
-use Rattle.machine.specs.Work.{fullLength}
-use Rattle.machine.specs.Judge.{Leads, Faultless, StopsAt, runOf, judgeOf, judgeBytes}
-use Rattle.machine.specs.Next.{rankOf, Listed}
+use Rattle.machine.specs.Model.{fullLength, Leads, Faultless, StopsAt, Listed}
+use Rattle.machine.specs.Judge.{runOf, judgeOf, judgeBytes}
+use Rattle.machine.specs.Next.{rankOf}
+use Rattle.machine.specs.Ptso.{ptso}
 use Rattle.machine.proofs.Promises as Machine
 use Rattle.search.specs.declared.ask.Outcome.the-variants.{Reached, Unreachable, Undecided}
 use Rattle.search.specs.Walk.{Visit, InOrder}
-use Rattle.search.specs.Question.{reaches, None, FirstThat, walkFrom, questionOf, shownOf}
+use Rattle.search.specs.Question.{reaches, None, FirstThat, questionOf, shownOf}
+use Rattle.search.specs.Walk.{walkFrom}
 use Rattle.search.proofs.Promises as Search
 use Rattle.demands.proofs.AskedLaws as AskedLaws
 
@@ -38,45 +40,45 @@ module _ (c : Case) (readable : readsBack c ≡ true) where
   -- "It passes a run exactly when every step is legal,": with their number, and the state where they end
   pub passes-exactly :
       (judgeOf c .verdict ≡ Legal (length (runOf c)))
-      ↔ ((u : State) × Leads (c .program) (startOf (c .program)) (runOf c) u)
+      ↔ ((u : State) × Leads (ptso (c .program)) (startOf (c .program)) (runOf c) u)
   passes-exactly = Machine.judge-legal c readable
 
-  pub passes-with-its-end : (u : State) → Leads (c .program) (startOf (c .program)) (runOf c) u
+  pub passes-with-its-end : (u : State) → Leads (ptso (c .program)) (startOf (c .program)) (runOf c) u
       → judgeOf c .state ≡ u
   passes-with-its-end = Machine.judge-legal-state c readable
 
   -- "else it names the first illegal step and its rule.": and gives the state before it
   pub names-the-first-illegal-step : (r i : ℕ)
       → (judgeOf c .verdict ≡ Illegal r i)
-      ↔ ((u : State) × StopsAt (c .program) (startOf (c .program)) (runOf c) i u
+      ↔ ((u : State) × StopsAt (ptso (c .program)) (startOf (c .program)) (runOf c) i u
       × (ruleOf (c .program) u (getD (runOf c) i noStep) ≡ r))
   names-the-first-illegal-step = Machine.judge-illegal c readable
 
   pub stops-with-the-state-before : (i : ℕ) (u : State)
-      → StopsAt (c .program) (startOf (c .program)) (runOf c) i u
+      → StopsAt (ptso (c .program)) (startOf (c .program)) (runOf c) i u
       → judgeOf c .state ≡ u
   stops-with-the-state-before = Machine.judge-illegal-state c readable
 
   -- one or the other, of every run
   pub passes-or-names :
-      ((u : State) × Leads (c .program) (startOf (c .program)) (runOf c) u)
-      ⊎ ((i : ℕ) × (u : State) × StopsAt (c .program) (startOf (c .program)) (runOf c) i u)
+      ((u : State) × Leads (ptso (c .program)) (startOf (c .program)) (runOf c) u)
+      ⊎ ((i : ℕ) × (u : State) × StopsAt (ptso (c .program)) (startOf (c .program)) (runOf c) i u)
   passes-or-names = Machine.legal-or-not c readable
 
   -- "the first runs of the stated walk": it lists exactly the legal runs, with their ends, in the stated order,
   -- and no other list does
   pub the-stated-walk : (ks : List Step) (u : State)
-      → Listed (record { run = ks; end = u }) (walkFrom (c .program))
-      ↔ (Faultless (c .program) ks × Leads (c .program) (startOf (c .program)) ks u)
-  the-stated-walk = Search.walk-exact (c .program) (Machine.program-fits c readable)
+      → Listed (record { run = ks; end = u }) (walkFrom (ptso (c .program)))
+      ↔ (Faultless (ptso (c .program)) ks × Leads (ptso (c .program)) (startOf (c .program)) ks u)
+  the-stated-walk = Search.walk-exact (ptso (c .program)) (Machine.ptso-lawful (c .program) (Machine.program-fits c readable))
 
-  pub the-stated-order : InOrder rankOf (walkFrom (c .program))
-  the-stated-order = Search.walk-in-order (c .program) (Machine.program-fits c readable)
+  pub the-stated-order : InOrder rankOf (walkFrom (ptso (c .program)))
+  the-stated-order = Search.walk-in-order (ptso (c .program)) (Machine.ptso-lawful (c .program) (Machine.program-fits c readable))
 
   pub no-other-walk : (vs : List (Visit State Step)) → InOrder rankOf vs
-      → ((v : Visit State Step) → Listed v vs ↔ Listed v (walkFrom (c .program)))
-      → vs ≡ walkFrom (c .program)
-  no-other-walk = Search.walk-only (c .program) (Machine.program-fits c readable)
+      → ((v : Visit State Step) → Listed v vs ↔ Listed v (walkFrom (ptso (c .program))))
+      → vs ≡ walkFrom (ptso (c .program))
+  no-other-walk = Search.walk-only (ptso (c .program)) (Machine.ptso-lawful (c .program) (Machine.program-fits c readable))
 
 -- bytes that read are judged as the case they read as
 pub judged-as-read : (s : List ℕ) → IsBytes s → numberOf (readOf s .answer) ≡ 0
@@ -93,20 +95,20 @@ what-a-cut-leaves = Search.reaches-exactly
 
 -- "Asked ..", bytes that read, and a lent buffer with room for a run of the full length
 module _ (s : List ℕ) (bytes : IsBytes s) (read : numberOf (readOf s .answer) ≡ 0) (b : ℕ) (out : List ℕ)
-    (room : stepSize * fullLength (readOf s .case .program) ≤ length out) where
+    (room : stepSize * fullLength (ptso (readOf s .case .program)) ≤ length out) where
   -- "it says reached, .., exactly when one stands among the first runs of the stated walk that the budget
   -- covers;": with n steps, those of the walk's first run that reaches the question
   pub reached-exactly : (n : ℕ)
       → (questionOf s (length out) b ≡ Reached n)
       ↔ ((before : List (Visit State Step)) × (v : Visit State Step)
-      × FirstThat (reaches (readOf s .case .ask)) (walkFrom (readOf s .case .program)) before v
+      × FirstThat (reaches (readOf s .case .ask)) (walkFrom (ptso (readOf s .case .program))) before v
       × (length before < b)
       × (n ≡ length (v .run)))
   reached-exactly = AskedLaws.reached-exactly s read b out room
 
   -- with that run, as kind 6 records from the front of the lent bytes
   pub reached-shows-the-run : (before : List (Visit State Step)) (v : Visit State Step)
-      → FirstThat (reaches (readOf s .case .ask)) (walkFrom (readOf s .case .program)) before v
+      → FirstThat (reaches (readOf s .case .ask)) (walkFrom (ptso (readOf s .case .program))) before v
       → length before < b
       → shownOf s b out ≡ stepsBytes (v .run) ++ drop (stepSize * length (v .run)) out
   reached-shows-the-run = AskedLaws.reached-shows-the-run s read b out room
@@ -121,15 +123,15 @@ module _ (s : List ℕ) (bytes : IsBytes s) (read : numberOf (readOf s .answer) 
   -- "unreachable exactly when the budget covers the whole walk and no run does;"
   pub unreachable-exactly :
       (questionOf s (length out) b ≡ Unreachable)
-      ↔ ((length (walkFrom (readOf s .case .program)) ≤ b)
-      × None (reaches (readOf s .case .ask)) (walkFrom (readOf s .case .program)))
+      ↔ ((length (walkFrom (ptso (readOf s .case .program))) ≤ b)
+      × None (reaches (readOf s .case .ask)) (walkFrom (ptso (readOf s .case .program))))
   unreachable-exactly = AskedLaws.unreachable-exactly s read b out room
 
   -- "undecided otherwise.": the walk is longer than the budget, and none of the runs that it covers does
   pub undecided-exactly :
       (questionOf s (length out) b ≡ Undecided)
-      ↔ ((b < length (walkFrom (readOf s .case .program)))
-      × None (reaches (readOf s .case .ask)) (take b (walkFrom (readOf s .case .program))))
+      ↔ ((b < length (walkFrom (ptso (readOf s .case .program))))
+      × None (reaches (readOf s .case .ask)) (take b (walkFrom (ptso (readOf s .case .program)))))
   undecided-exactly = AskedLaws.undecided-exactly s read b out room
 
 -- "A case written and read back is the same case,"

@@ -1,46 +1,147 @@
--- A legal run goes on while there is something to do, and ends where there is nothing. Assumes nothing.
+-- A legal run goes on while there is something to do, and ends where there is nothing: of any machine, and of the
+-- one of document 01. Assumes nothing.
 use Prim.Native.Nat.{ℕ, zero, suc, _+_, _-_, _≤_, _<_}
 use mathlib.Core.Path.{_≡_, refl}
 use mathlib.Core.Logic.{_⊎_, inl, inr, _≢_}
 use mathlib.Core.List.{List, [], _∷_, _++_}
 use native.Mathlib.Omega.{arith}
 use native.Mathlib.Nat.{eq-zero-or-pos}
-use lib.ListN.{length, length-append}
+use lib.ListN.{length}
 use Rattle.cases.specs.declared.case.Step.{Step}
 use Rattle.cases.specs.declared.case.Program.{Program}
-use Rattle.cases.specs.Checks.{stepFault, countAt}
+use Rattle.cases.specs.Checks.{limitsOf, queuesOf, stepFault, countAt}
 use Rattle.machine.specs.declared.cells.State.{State}
+use Rattle.machine.specs.Model.{Model, Lawful, EachCostsOne, Leads, Faultless, LegalRun, CannotGoOn, FinishedRun}
+use Rattle.machine.specs.Model.{spent, fullLength}
 use Rattle.machine.specs.View.{queue, buffer, issuedOf}
-use Rattle.machine.specs.Rules.{ruleOf, nextOf, startOf}
-use Rattle.machine.specs.Fit.{ProgramFits, Fits}
-use Rattle.machine.specs.Work.{work, fullLength, Unfinished}
-use Rattle.machine.specs.Judge.{Leads, Faultless}
-use Rattle.machine.proofs.Promises.{start-fits, step-fits, step-work, leads-fits, leads-work, progress}
-use Rattle.machine.proofs.Promises.{work-some}
-use Rattle.demands.specs.Runs.{LegalRun, CannotGoOn, FinishedRun}
+use Rattle.machine.specs.Rules.{ruleOf}
+use Rattle.machine.specs.Fit.{Fits}
+use Rattle.machine.specs.Work.{work, Unfinished}
+use Rattle.machine.specs.Ptso.{ptso}
+use Rattle.machine.proofs.Promises.{leads-append, faultless-append, leads-fits, leads-work, spent-least}
+use Rattle.machine.proofs.Promises.{spent-length, step-lowers, progress, work-some}
 use Rattle.demands.proofs.LastLaws.{cons-some}
 use Rattle.demands.proofs.SettleLaws.{Done}
-use Rattle.demands.proofs.FixedLaws.{leads-append, faultless-append}
+
+-- Any machine that has its laws
+module _ {S K : Type 0} (m : Model S K) {Fit : S → Type 0} {rank : K → ℕ} (laws : Lawful m Fit rank) where
+  pub work-stuck : (u : S) → Fit u → m .left u ≡ 0 → CannotGoOn m u
+  unfolding CannotGoOn
+  work-stuck u f e k faultless legal = let w = step-lowers m laws u f k faultless legal in absurd (omega arith)
+
+  module _ (ks : List K) (u : S) (run : LegalRun m ks u) where
+    pub run-fits : Fit u
+    run-fits = leads-fits m laws (m .start) ks u (laws .starts) (run .faultless) (run .leads)
+
+    -- it lowers the work left by what its steps use up together
+    pub run-work : m .left u + spent m (m .start) ks ≡ fullLength m
+    unfolding fullLength
+    run-work = leads-work m laws (m .start) ks u (laws .starts) (run .faultless) (run .leads)
+
+    pub none-longer : length ks ≤ fullLength m
+    none-longer =
+        let w = run-work in
+        let n = spent-least m laws (m .start) ks u (laws .starts) (run .faultless) (run .leads) in
+        omega arith
+
+  -- where some step is legal while work is left
+  module _ (going : (s : S) → Fit s → 0 < m .left s → (k : K) × (m .fault k ≡ 0) × (m .rule s k ≡ 0)) where
+    stuck-none : (u : S) → Fit u → CannotGoOn m u → m .left u ≡ 0
+    unfolding CannotGoOn
+    stuck-none u f stuck = go (eq-zero-or-pos (m .left u))
+      where
+        go : (m .left u ≡ 0) ⊎ (0 < m .left u) → m .left u ≡ 0
+        go (inl e) = e
+        go (inr e) = let k = going u f e in absurd (stuck (k .0) (k .1) (k .2))
+
+    -- a run that cannot go on uses up the full length
+    pub finished-spends : (ks : List K) (u : S) → FinishedRun m ks u → spent m (m .start) ks ≡ fullLength m
+    finished-spends ks u run =
+        let w = run-work ks u (run .legal) in
+        let z = stuck-none u (run-fits ks u (run .legal)) (run .over) in
+        omega arith
+
+    -- from any state that fits, a run to where no work is left
+    goes-on : (n : ℕ) (u : S) → Fit u → m .left u ≤ n
+        → (js : List K) × (v : S) × Faultless m js × Leads m u js v × Fit v × (m .left v ≡ 0)
+    unfolding Faultless Leads
+    goes-on zero u f e = ([], u, tt, refl, f, (omega arith))
+    goes-on (suc n) u f e = go (eq-zero-or-pos (m .left u)) (goes-on n)
+      where
+        go : (m .left u ≡ 0) ⊎ (0 < m .left u)
+            → ((x : S) → Fit x → m .left x ≤ n
+            → (js : List K) × (v : S) × Faultless m js × Leads m x js v × Fit v × (m .left v ≡ 0))
+            → (js : List K) × (v : S) × Faultless m js × Leads m u js v × Fit v × (m .left v ≡ 0)
+        go (inl z) more = ([], u, tt, refl, f, z)
+        go (inr z) more =
+            let k = going u f z in
+            let w = step-lowers m laws u f (k .0) (k .1) (k .2) in
+            let r = more (m .after u (k .0)) (laws .keeps u f (k .0) (k .1) (k .2)) (omega arith) in
+            (k .0 ∷ r .0, r .1, (k .1, r .2), (k .2, r .3), r .4, r .5)
+
+    pub every-run-ends : (ks : List K) (u : S) → LegalRun m ks u
+        → (js : List K) × (v : S) × FinishedRun m (ks ++ js) v
+    every-run-ends ks u run =
+        let r = goes-on (m .left u) u (run-fits ks u run) (omega arith) in (
+          r .0,
+          r .1,
+          record {
+            legal = record {
+              faultless = faultless-append m ks (r .0) (run .faultless) (r .2);
+              leads = leads-append m (m .start) ks u (r .0) (r .1) (run .leads) (r .3);
+            };
+            over = work-stuck (r .1) (r .4) (r .5);
+          },
+        )
+
+  -- where every step uses up one: "by exactly one", "one length"
+  module _ (one : EachCostsOne m) where
+    pub step-one : (u : S) → Fit u → (k : K) → m .fault k ≡ 0 → m .rule u k ≡ 0
+        → m .left (m .after u k) + 1 ≡ m .left u
+    unfolding EachCostsOne
+    step-one u f k faultless legal =
+        let w = laws .lowers u f k faultless legal in
+        let c = one u k in
+        omega arith
+
+    pub length-left : (ks : List K) (u : S) → LegalRun m ks u → m .left u + length ks ≡ fullLength m
+    length-left ks u run =
+        let w = run-work ks u run in
+        let n = spent-length m one (m .start) ks in
+        omega arith
+
+    pub full-length-ends : (ks : List K) (u : S) → LegalRun m ks u → length ks ≡ fullLength m → CannotGoOn m u
+    full-length-ends ks u run e =
+        let w = length-left ks u run in
+        work-stuck u (run-fits ks u run) (omega arith)
+
+    pub one-length : ((s : S) → Fit s → 0 < m .left s → (k : K) × (m .fault k ≡ 0) × (m .rule s k ≡ 0))
+        → (ks : List K) (u : S) → FinishedRun m ks u → length ks ≡ fullLength m
+    one-length going ks u run =
+        let w = finished-spends going ks u run in
+        let n = spent-length m one (m .start) ks in
+        omega arith
 
 -- is a list empty?
 empty-or : {A : Type 0} (xs : List A) → (xs ≡ []) ⊎ (xs ≢ [])
 empty-or [] = inl refl
 empty-or (x ∷ xs) = inr (cons-some x xs)
 
+-- The machine of document 01
 module _ (p : Program) (u : State) (f : Fits p u) where
-  pub work-stuck : work p u ≡ 0 → CannotGoOn p u
-  unfolding CannotGoOn
-  work-stuck e k faultless legal = let w = step-work p u f k faultless legal in absurd (omega arith)
+  -- while work is left some step is legal
+  pub working : 0 < work p u → (k : Step) × (stepFault (limitsOf p) k ≡ 0) × (ruleOf p u k ≡ 0)
+  working left = progress p u f (work-some p u f left)
 
-  stuck-not : CannotGoOn p u → Unfinished p u → ⊥
+  pub stuck-not : CannotGoOn (ptso p) u → Unfinished p u → ⊥
   unfolding CannotGoOn
   stuck-not stuck left = let k = progress p u f left in stuck (k .0) (k .1) (k .2)
 
-  pub stuck-done : CannotGoOn p u → Done p u
+  pub stuck-done : CannotGoOn (ptso p) u → Done p u
   stuck-done stuck =
       record {
         buffers = λ t h. buffers t h (empty-or (buffer u t));
-        queues = λ l h. queues l h (empty-or (queue u l));
+        queues = λ q h. queues q h (empty-or (queue u q));
         issued = λ t h. issued t h (eq-zero-or-pos (countAt p t - issuedOf u t));
       }
     where
@@ -48,9 +149,9 @@ module _ (p : Program) (u : State) (f : Fits p u) where
       buffers t h (inl e) = e
       buffers t h (inr e) = absurd (stuck-not stuck (unfold Unfinished in inr (inl (t, h, e))))
 
-      queues : (l : ℕ) → l < p .locations → (queue u l ≡ []) ⊎ (queue u l ≢ []) → queue u l ≡ []
-      queues l h (inl e) = e
-      queues l h (inr e) = absurd (stuck-not stuck (unfold Unfinished in inr (inr (l, h, e))))
+      queues : (q : ℕ) → q < queuesOf p → (queue u q ≡ []) ⊎ (queue u q ≢ []) → queue u q ≡ []
+      queues q h (inl e) = e
+      queues q h (inr e) = absurd (stuck-not stuck (unfold Unfinished in inr (inr (q, h, e))))
 
       issued : (t : ℕ) → t < p .threads → (countAt p t - issuedOf u t ≡ 0) ⊎ (0 < countAt p t - issuedOf u t)
           → countAt p t ≤ issuedOf u t
@@ -71,65 +172,3 @@ module _ (p : Program) (u : State) (f : Fits p u) where
       go : (work p u ≡ 0) ⊎ (0 < work p u) → work p u ≡ 0
       go (inl e) = e
       go (inr e) = absurd (none (work-some p u f e))
-
-  pub stuck-work : CannotGoOn p u → work p u ≡ 0
-  stuck-work stuck = done-work (stuck-done stuck)
-
--- A legal run of a program that the machine can run
-module _ (p : Program) (fits : ProgramFits p) (ks : List Step) (u : State) (run : LegalRun p ks u) where
-  pub run-fits : Fits p u
-  run-fits = leads-fits p (startOf p) (start-fits p fits) ks u (run .faultless) (run .leads)
-
-  run-work : work p u + length ks ≡ fullLength p
-  unfolding fullLength
-  run-work = leads-work p (startOf p) (start-fits p fits) ks u (run .faultless) (run .leads)
-
-  pub never-wedged : Unfinished p u → (k : Step) × (stepFault p k ≡ 0) × (ruleOf p u k ≡ 0)
-  never-wedged = progress p u run-fits
-
-  pub each-step-one : (k : Step) → stepFault p k ≡ 0 → ruleOf p u k ≡ 0 → work p (nextOf p u k) + 1 ≡ work p u
-  each-step-one = step-work p u run-fits
-
-  pub one-length : CannotGoOn p u → length ks ≡ fullLength p
-  one-length stuck =
-      let w = run-work in
-      let z = stuck-work p u run-fits stuck in
-      omega arith
-
-  pub nothing-left : CannotGoOn p u → Unfinished p u → ⊥
-  nothing-left = stuck-not p u run-fits
-
-  pub full-length-ends : length ks ≡ fullLength p → CannotGoOn p u
-  full-length-ends e = let w = run-work in work-stuck p u run-fits (omega arith)
-
-  pub none-longer : length ks ≤ fullLength p
-  none-longer = let w = run-work in omega arith
-
--- from any state that fits, a run as long as the work left
-goes-on : (p : Program) (n : ℕ) (u : State) → Fits p u → work p u ≡ n
-    → (ms : List Step) × (v : State) × Faultless p ms × Leads p u ms v × (length ms ≡ n)
-unfolding Faultless Leads
-goes-on p zero u f e = ([], u, tt, refl, refl)
-goes-on p (suc n) u f e =
-    let k = progress p u f (work-some p u f (omega arith)) in
-    let w = step-work p u f (k .0) (k .1) (k .2) in
-    let r = goes-on p n (nextOf p u (k .0)) (step-fits p u f (k .0) (k .1) (k .2)) (omega arith) in
-    (k .0 ∷ r .0, r .1, (k .1, r .2), (k .2, r .3), (let long = r .4 in omega arith))
-
-pub every-run-ends : (p : Program) (fits : ProgramFits p) (ks : List Step) (u : State) → LegalRun p ks u
-    → (ms : List Step) × (v : State) × FinishedRun p (ks ++ ms) v × (length (ks ++ ms) ≡ fullLength p)
-every-run-ends p fits ks u run =
-    let r = goes-on p (work p u) u (run-fits p fits ks u run) refl in
-    let w = run-work p fits ks u run in
-    let long : length (ks ++ r .0) ≡ fullLength p
-    = let a = length-append ks (r .0) in let b = r .4 in omega arith in
-    let legal : LegalRun p (ks ++ r .0) (r .1)
-    = record {
-      faultless = faultless-append p ks (r .0) (run .faultless) (r .2);
-      leads = leads-append p (startOf p) ks u (r .0) (r .1) (run .leads) (r .3);
-    } in (
-      r .0,
-      r .1,
-      record { legal = legal; over = full-length-ends p fits (ks ++ r .0) (r .1) legal long },
-      long,
-    )

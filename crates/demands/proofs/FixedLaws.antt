@@ -1,4 +1,4 @@
--- Runs one behind another, and the words that they fix. Assumes nothing.
+-- The words that a run fixes. Assumes nothing.
 use Prim.Native.Nat.{ℕ, suc, _≤_, _<_}
 use mathlib.Core.Path.{_≡_, refl, sym, ap, _∙_}
 use mathlib.Core.Logic.{_⊎_, inl, inr, _≢_}
@@ -9,33 +9,21 @@ use native.Mathlib.Decide.{ℕ-discrete}
 use borrow.Author.Tests.{ne-eqb}
 use Rattle.cases.specs.declared.case.Step.{Step}
 use Rattle.cases.specs.declared.case.Program.{Program}
-use Rattle.cases.specs.Checks.{stepFault}
+use Rattle.cases.specs.Checks.{limitsOf, queuesOf, stepFault}
 use Rattle.cases.proofs.ChoiceLaws.{pick-false}
 use Rattle.cases.specs.Operations.{storeRegister}
 use Rattle.machine.specs.declared.cells.State.{State}
 use Rattle.machine.specs.View.{issuedOf}
 use Rattle.machine.specs.Rules.{instructionAt, ruleOf, nextOf}
 use Rattle.machine.specs.Fit.{Fits}
-use Rattle.machine.specs.Judge.{Leads, Faultless}
+use Rattle.machine.specs.Model.{Leads, Faultless}
 use Rattle.machine.specs.Next.{issueStep, moveStep, persistStep}
+use Rattle.machine.specs.Ptso.{ptso}
 use Rattle.machine.proofs.Promises.{step-fits}
 use Rattle.machine.proofs.Effects.{step-kinds, issue-issued, issue-issued-other, move-issued, persist-issued}
 use Rattle.demands.specs.Writes.{fixedBy, issuesAt, fixedFrom}
 use Rattle.demands.proofs.IssuesLaws.{fixed-here, fixed-next, issues-here, issues-later, issues-other}
 use Rattle.demands.proofs.IssuesLaws.{move-issues, persist-issues}
-
--- a run behind a run
-pub leads-append : (p : Program) (s : State) (ks : List Step) (u : State) (ms : List Step) (v : State)
-    → Leads p s ks u → Leads p u ms v → Leads p s (ks ++ ms) v
-unfolding Leads
-leads-append p s [] u ms v a b = rw a b
-leads-append p s (k ∷ ks) u ms v a b = (a .0, leads-append p (nextOf p s k) ks u ms v (a .1) b)
-
-pub faultless-append : (p : Program) (ks ms : List Step) → Faultless p ks → Faultless p ms
-    → Faultless p (ks ++ ms)
-unfolding Faultless
-faultless-append p [] ms a b = b
-faultless-append p (k ∷ ks) ms a b = (a .0, faultless-append p ks ms (a .1) b)
 
 -- A legal step issues instruction i of thread t, and this is the next one; or it doesn't, and the thread's
 -- count stays or goes on to another
@@ -50,7 +38,7 @@ module _ (p : Program) (s : State) (f : Fits p s) (k : Step) (t i : ℕ) where
     pub rises : issuedOf s t ≤ issuedOf (nextOf p s k) t
     pub stays : issuedOf s t ≤ i → issuedOf (nextOf p s k) t ≤ i
 
-  pub issues-or-passes : stepFault p k ≡ 0 → ruleOf p s k ≡ 0 → Issues ⊎ Passes
+  pub issues-or-passes : stepFault (limitsOf p) k ≡ 0 → ruleOf p s k ≡ 0 → Issues ⊎ Passes
   issues-or-passes faultless legal = go (step-kinds p k faultless)
     where
       quiet : issuesAt s k t i ≡ false → issuedOf (nextOf p s k) t ≡ issuedOf s t → Passes
@@ -78,7 +66,7 @@ module _ (p : Program) (s : State) (f : Fits p s) (k : Step) (t i : ℕ) where
 
       go : ((m : ℕ) × (m < p .threads) × (k ≡ issueStep m))
           ⊎ ((m : ℕ) × (j : ℕ) × (m < p .threads) × (k ≡ moveStep m j))
-          ⊎ ((l : ℕ) × (l < p .locations) × (k ≡ persistStep l)) → Issues ⊎ Passes
+          ⊎ ((q : ℕ) × (q < queuesOf p) × (k ≡ persistStep q)) → Issues ⊎ Passes
       go (inl x) = issued (x .0) (x .1) (x .2) (ℕ-discrete t (x .0)) (ℕ-discrete (issuedOf s t) i)
       go (inr (inl x)) =
           inr (quiet (rw (x .3) (move-issues s (x .0) (x .1) t i))
@@ -90,8 +78,8 @@ module _ (p : Program) (s : State) (f : Fits p s) (k : Step) (t i : ℕ) where
 -- Along a legal run
 module _ (p : Program) where
   -- counts never fall
-  pub issued-rises : (s : State) (ks : List Step) (u : State) (t : ℕ) → Fits p s → Faultless p ks
-      → Leads p s ks u
+  pub issued-rises : (s : State) (ks : List Step) (u : State) (t : ℕ) → Fits p s → Faultless (ptso p) ks
+      → Leads (ptso p) s ks u
       → issuedOf s t ≤ issuedOf u t
   unfolding Faultless Leads
   issued-rises s [] u t f r h = rw h (omega arith)
@@ -107,7 +95,7 @@ module _ (p : Program) where
 
   -- an instruction that a run doesn't come to is fixed by what stands behind that run
   pub fixed-behind : (s : State) (ks : List Step) (u : State) (ms : List Step) (t i : ℕ) → Fits p s
-      → Faultless p ks → Leads p s ks u → issuedOf u t ≤ i
+      → Faultless (ptso p) ks → Leads (ptso p) s ks u → issuedOf u t ≤ i
       → fixedFrom p s (ks ++ ms) t i ≡ fixedFrom p u ms t i
   unfolding Faultless Leads
   fixed-behind s [] u ms t i f r h n = rw h refl
@@ -124,8 +112,8 @@ module _ (p : Program) where
       go (inr o) c e = fixed-next p s k (ks ++ ms) t i (o .elsewhere) ∙ e
 
   -- an instruction other than a store of a register, once issued, has fixed its own word
-  pub fixed-word : (s : State) (ks : List Step) (u : State) (t i : ℕ) → Fits p s → Faultless p ks
-      → Leads p s ks u
+  pub fixed-word : (s : State) (ks : List Step) (u : State) (t i : ℕ) → Fits p s → Faultless (ptso p) ks
+      → Leads (ptso p) s ks u
       → issuedOf s t ≤ i → i < issuedOf u t → instructionAt p t i .operation ≢ storeRegister
       → fixedFrom p s ks t i ≡ instructionAt p t i .word
   unfolding Faultless Leads fixedBy

@@ -14,16 +14,17 @@ use Rattle.machine.specs.declared.cells.State.{State}
 use Rattle.machine.specs.declared.runs.Judged.{Judged}
 use Rattle.machine.specs.declared.runs.Verdict.the-variants.{Legal}
 use Rattle.machine.specs.Rules.{startOf}
-use Rattle.machine.specs.Judge.{Leads, Faultless, verdictNo, judged, runOf, stopped, judgeOf}
+use Rattle.machine.specs.Judge.{verdictNo, judged, runOf, stopped, judgeOf}
+use Rattle.machine.specs.Model.{Leads, Faultless, LegalRun}
+use Rattle.machine.specs.Ptso.{ptso}
 use Rattle.machine.proofs.Promises.{run-faultless, judge-legal, judge-legal-state, judge-unreadable}
 use Rattle.machine.proofs.Promises.{run-again, rerun-passes}
-use Rattle.demands.specs.Runs.{LegalRun}
 
 module _ (c : Case) (readable : readsBack c ≡ true) (ks : List Step) (u : State) where
   abbrev rerun : Case
   rerun = withRun c (runWith ks)
 
-  legal-judged : LegalRun (c .program) ks u → judgeOf rerun ≡ judged (Legal (length ks)) u
+  legal-judged : LegalRun (ptso (c .program)) ks u → judgeOf rerun ≡ judged (Legal (length ks)) u
   legal-judged run = rerun-passes c readable ks u (run .faultless) (run .leads)
 
   -- where the judge passes it the case with it reads, and so it is faultless
@@ -38,7 +39,7 @@ module _ (c : Case) (readable : readsBack c ≡ true) (ks : List Step) (u : Stat
           = ap verdictNo (sym e) ∙ ap (λ (j : Judged). verdictNo (j .verdict)) (judge-unreadable rerun h) in
           absurd (omega arith)
 
-  judged-legal : judgeOf rerun ≡ judged (Legal (length ks)) u → LegalRun (c .program) ks u
+  judged-legal : judgeOf rerun ≡ judged (Legal (length ks)) u → LegalRun (ptso (c .program)) ks u
   unfolding judged withRun
   judged-legal e =
       let verdict : judgeOf rerun .verdict ≡ Legal (length ks) = ap (λ (j : Judged). j .verdict) e in
@@ -48,10 +49,10 @@ module _ (c : Case) (readable : readsBack c ≡ true) (ks : List Step) (u : Stat
       let end : v .0 ≡ u
       = sym (judge-legal-state rerun r (v .0) (v .1)) ∙ ap (λ (j : Judged). j .state) e in
       record {
-        faultless = subst (Faultless (c .program)) (run-again c ks) (run-faultless rerun r);
-        leads = subst (λ js. Leads (c .program) (startOf (c .program)) js u) (run-again c ks)
-            (subst (Leads (c .program) (startOf (c .program)) (runOf rerun)) end (v .1));
+        faultless = subst (Faultless (ptso (c .program))) (run-again c ks) (run-faultless rerun r);
+        leads = subst (λ js. Leads (ptso (c .program)) (startOf (c .program)) js u) (run-again c ks)
+            (subst (Leads (ptso (c .program)) (startOf (c .program)) (runOf rerun)) end (v .1));
       }
 
-  pub legal-as-judged : LegalRun (c .program) ks u ↔ (judgeOf rerun ≡ judged (Legal (length ks)) u)
+  pub legal-as-judged : LegalRun (ptso (c .program)) ks u ↔ (judgeOf rerun ≡ judged (Legal (length ks)) u)
   legal-as-judged = (legal-judged, judged-legal)

@@ -7,11 +7,7 @@ use mathlib.Core.List.{List, [], _∷_, _++_, append-nil}
 use native.Mathlib.Omega.{arith}
 use native.Mathlib.Decide.{ℕ-discrete}
 use lib.ListN.{length}
-
--- the last of the words xs; w where there is none
-unfoldable pub lastOr : List ℕ → ℕ → ℕ
-lastOr [] w = w
-lastOr (x ∷ xs) w = lastOr xs x
+use Rattle.machine.specs.Joins.{lastOr}
 
 pub last-append : (xs ys : List ℕ) (w : ℕ) → lastOr (xs ++ ys) w ≡ lastOr ys (lastOr xs w)
 unfolding lastOr

@@ -13,9 +13,10 @@ use Rattle.cases.specs.Choice.{pick}
 use Rattle.cases.specs.Checks.{countAt}
 use Rattle.machine.specs.declared.cells.State.{State}
 use Rattle.machine.specs.View.{issuedOf}
-use Rattle.machine.specs.Judge.{Leads, Faultless}
+use Rattle.machine.specs.Model.{Leads, Faultless}
+use Rattle.machine.specs.Ptso.{ptso}
 use Rattle.demands.specs.Carried.{carriedAll, othersFrom}
-use Rattle.demands.proofs.FixedLaws.{leads-append, faultless-append}
+use Rattle.machine.proofs.Promises.{leads-append, faultless-append}
 use Rattle.demands.proofs.ThroughLaws.{Quiet}
 use Rattle.demands.proofs.CarryLaws.{Carries, carries-all}
 
@@ -38,7 +39,7 @@ module _ (p : Program) (t : ℕ) where
       }
 
   turn-more : (u : ℕ) (s : State) → u < p .threads → u ≢ t → Turn p t u s
-      → (v : State) × Faultless p (carriedAll p u) × Leads p s (carriedAll p u) v × Turn p t (suc u) v
+      → (v : State) × Faultless (ptso p) (carriedAll p u) × Leads (ptso p) s (carriedAll p u) v × Turn p t (suc u) v
   turn-more u s low e o =
       let c = carries-all p u low s (o .quiet) (o .ahead u (omega arith)) in (
         c .end,
@@ -59,8 +60,8 @@ module _ (p : Program) (t : ℕ) where
 
   pub others-lead : (n u : ℕ) (s : State) → u + n ≡ p .threads → Turn p t u s
       → (v : State)
-      × Faultless p (othersFrom p t u n)
-      × Leads p s (othersFrom p t u n) v
+      × Faultless (ptso p) (othersFrom p t u n)
+      × Leads (ptso p) s (othersFrom p t u n) v
       × Turn p t (p .threads) v
   unfolding othersFrom Faultless Leads pick
   others-lead zero u s e o =
@@ -71,19 +72,19 @@ module _ (p : Program) (t : ℕ) where
       go : (b : Bool) → eqb u t ≡ b
           → ((s : State) → suc u + n ≡ p .threads → Turn p t (suc u) s
           → (v : State)
-          × Faultless p (othersFrom p t (suc u) n)
-          × Leads p s (othersFrom p t (suc u) n) v
+          × Faultless (ptso p) (othersFrom p t (suc u) n)
+          × Leads (ptso p) s (othersFrom p t (suc u) n) v
           × Turn p t (p .threads) v)
           → (v : State)
-          × Faultless p (pick b [] (carriedAll p u) ++ othersFrom p t (suc u) n)
-          × Leads p s (pick b [] (carriedAll p u) ++ othersFrom p t (suc u) n) v
+          × Faultless (ptso p) (pick b [] (carriedAll p u) ++ othersFrom p t (suc u) n)
+          × Leads (ptso p) s (pick b [] (carriedAll p u) ++ othersFrom p t (suc u) n) v
           × Turn p t (p .threads) v
       go true d more = more s (omega arith) (turn-same u s (eqb-true _ _ d) o)
       go false d more =
           let one = turn-more u s (omega arith) (eqb-false _ _ d) o in
           let rest = more (one .0) (omega arith) (one .3) in (
             rest .0,
-            faultless-append p (carriedAll p u) (othersFrom p t (suc u) n) (one .1) (rest .1),
-            leads-append p s (carriedAll p u) (one .0) (othersFrom p t (suc u) n) (rest .0) (one .2) (rest .2),
+            faultless-append (ptso p) (carriedAll p u) (othersFrom p t (suc u) n) (one .1) (rest .1),
+            leads-append (ptso p) s (carriedAll p u) (one .0) (othersFrom p t (suc u) n) (rest .0) (one .2) (rest .2),
             rest .3,
           )

@@ -12,8 +12,10 @@ use Rattle.cases.proofs.ChoiceLaws.{never-both}
 use Rattle.cases.specs.Checks.{countAt}
 use Rattle.machine.specs.Rules.{instructionAt}
 use Rattle.demands.specs.Writes.{writes, Writer, LastWrite}
-use Rattle.demands.proofs.LastLaws.{lastOr, last-append, cons-some, append-some}
-use Rattle.demands.proofs.WriteLaws.{onlyIf, fixesFrom}
+use Rattle.demands.proofs.LastLaws.{last-append, cons-some, append-some}
+use Rattle.machine.specs.Joins.{lastOr}
+use Rattle.demands.proofs.WriteLaws.{fixesFrom}
+use Rattle.machine.specs.Joins.{onlyIf}
 
 -- Of the n instructions of thread t from the i-th on: none writes location l, or j is the last that does
 module _ (p : Program) (t l : ℕ) (f : ℕ → ℕ) where

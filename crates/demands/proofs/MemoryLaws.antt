@@ -14,15 +14,17 @@ use Rattle.cases.proofs.ChoiceLaws.{never-both, both-true}
 use Rattle.cases.specs.Checks.{countAt}
 use Rattle.cases.specs.Operations.{storeRegister}
 use Rattle.machine.specs.declared.cells.State.{State}
-use Rattle.machine.specs.View.{queue, buffer, wordOf, issuedOf}
+use Rattle.machine.specs.View.{buffer, wordOf, issuedOf}
 use Rattle.machine.specs.Rules.{instructionAt, startOf}
 use Rattle.machine.specs.Fit.{ProgramFits}
-use Rattle.machine.proofs.Promises.{start-fits}
-use Rattle.machine.proofs.Effects.{start-buffer, start-queue, start-issued, start-word}
-use Rattle.demands.specs.Runs.{LegalRun, FinishedRun}
+use Rattle.machine.proofs.Promises.{ptso-lawful, start-fits}
+use Rattle.machine.proofs.Effects.{start-buffer, start-words, start-issued, start-word}
+use Rattle.machine.specs.Model.{LegalRun, FinishedRun}
+use Rattle.machine.specs.Ptso.{ptso}
 use Rattle.demands.specs.Writes.{writes, fixedFrom, fixedOf, LastWrite, Unwritten, Alone}
-use Rattle.demands.proofs.LastLaws.{lastOr, Settles}
-use Rattle.demands.proofs.WriteLaws.{writesOf, storesOf, fixesFrom}
+use Rattle.demands.proofs.LastLaws.{Settles}
+use Rattle.machine.specs.Joins.{lastOr}
+use Rattle.demands.proofs.WriteLaws.{storesOf, fixesFrom}
 use Rattle.demands.proofs.ComingLaws.{coming}
 use Rattle.demands.proofs.SettleLaws.{newest, run-settles, run-keeps}
 use Rattle.demands.proofs.LastWriteLaws.{NoneFrom, LastFrom, last-or-none, fixes-last, fixes-unwritten}
@@ -44,20 +46,16 @@ module _ (p : Program) (fits : ProgramFits p) where
       → coming p (startOf p) ks l t ≡ fixesFrom p t l (fixedFrom p (startOf p) ks t) 0 (countAt p t)
   start-coming ks l t = unissued-coming (startOf p) ks l t (start-buffer p t) (start-issued p t)
 
-  start-writes : (l : ℕ) → writesOf (queue (startOf p) l) ≡ []
-  unfolding writesOf
-  start-writes l = rw (start-queue p l) refl
-
-  start-newest : (l : ℕ) → newest (startOf p) l ≡ getD (p .first) l 0
+  start-newest : (l : ℕ) → newest p (startOf p) l ≡ getD (p .first) l 0
   unfolding newest lastOr
-  start-newest l = rw (start-writes l, start-word p l) refl
+  start-newest l = rw (start-words p l, start-word p l) refl
 
   -- At the end of a run that cannot go on
-  module _ (ks : List Step) (u : State) (run : FinishedRun p ks u) (l : ℕ) (low : l < p .locations) where
-    end-settles : Settles (p .threads) (coming p (startOf p) ks l) (newest (startOf p) l) (wordOf u l)
+  module _ (ks : List Step) (u : State) (run : FinishedRun (ptso p) ks u) (l : ℕ) (low : l < p .locations) where
+    end-settles : Settles (p .threads) (coming p (startOf p) ks l) (newest p (startOf p) l) (wordOf u l)
     end-settles =
         run-settles p l low (startOf p) ks u (start-fits p fits) (run .legal .faultless) (run .legal .leads)
-        (stuck-done p u (run-fits p fits ks u (run .legal)) (run .over))
+        (stuck-done p u (run-fits (ptso p) (ptso-lawful p fits) ks u (run .legal)) (run .over))
 
     pub end-holds :
         ((t : ℕ) × (i : ℕ) × LastWrite p t l i × (wordOf u l ≡ fixedOf p ks t i))
@@ -65,7 +63,7 @@ module _ (p : Program) (fits : ProgramFits p) where
     unfolding fixedOf Unwritten Settles
     end-holds = go end-settles
       where
-        go : Settles (p .threads) (coming p (startOf p) ks l) (newest (startOf p) l) (wordOf u l)
+        go : Settles (p .threads) (coming p (startOf p) ks l) (newest p (startOf p) l) (wordOf u l)
             → ((t : ℕ) × (i : ℕ) × LastWrite p t l i × (wordOf u l ≡ fixedFrom p (startOf p) ks t i))
             ⊎ (Unwritten p l × (wordOf u l ≡ getD (p .first) l 0))
         go (inl x) =
@@ -81,12 +79,12 @@ module _ (p : Program) (fits : ProgramFits p) where
             inl (x .0, w .0, w .1, x .3 ∙ ap (λ (y : List ℕ). lastOr y 0) e ∙ w .2)
 
   -- a store of a word and an exchange fix the word that the program has
-  pub own-word : (ks : List Step) (u : State) → FinishedRun p ks u → (t i : ℕ) → i < countAt p t
+  pub own-word : (ks : List Step) (u : State) → FinishedRun (ptso p) ks u → (t i : ℕ) → i < countAt p t
       → instructionAt p t i .operation ≢ storeRegister
       → fixedOf p ks t i ≡ instructionAt p t i .word
   unfolding fixedOf
   own-word ks u run t i there word =
-      let d = stuck-done p u (run-fits p fits ks u (run .legal)) (run .over) .issued t (in-threads t i there) in
+      let d = stuck-done p u (run-fits (ptso p) (ptso-lawful p fits) ks u (run .legal)) (run .over) .issued t (in-threads t i there) in
       fixed-word p (startOf p) ks u t i (start-fits p fits) (run .legal .faultless) (run .legal .leads)
       (let z = start-issued p t in omega arith) (omega arith) word
 
@@ -100,7 +98,7 @@ module _ (p : Program) (fits : ProgramFits p) where
   -- A location that one thread alone writes, and whose last write there has its word in the program
   pub alone-holds : (t l i : ℕ) → LastWrite p t l i → Alone p t l
       → instructionAt p t i .operation ≢ storeRegister
-      → (ks : List Step) (u : State) → FinishedRun p ks u → wordOf u l ≡ instructionAt p t i .word
+      → (ks : List Step) (u : State) → FinishedRun (ptso p) ks u → wordOf u l ≡ instructionAt p t i .word
   unfolding Alone Unwritten
   alone-holds t l i last alone word ks u run = go (end-holds ks u run l (written-low t l i last))
     where
@@ -122,10 +120,10 @@ module _ (p : Program) (fits : ProgramFits p) where
 
   -- A location that no thread writes
   pub unwritten-keeps : (l : ℕ) → l < p .locations → Unwritten p l
-      → (ks : List Step) (u : State) → LegalRun p ks u → wordOf u l ≡ getD (p .first) l 0
+      → (ks : List Step) (u : State) → LegalRun (ptso p) ks u → wordOf u l ≡ getD (p .first) l 0
   unfolding Unwritten
   unwritten-keeps l low none ks u run =
-      run-keeps p l low (startOf p) ks u (start-fits p fits) (run .faultless) (run .leads) (start-writes l)
+      run-keeps p l low (startOf p) ks u (start-fits p fits) (run .faultless) (run .leads) (start-words p l)
       (λ t h. start-coming ks l t ∙ nothing t)
       ∙ start-word p l
     where

@@ -5,31 +5,29 @@ use mathlib.Core.Path.{_≡_, refl, sym, ap}
 use mathlib.Core.Logic.{_⊎_, inl, inr}
 use mathlib.Core.List.{List, [], _∷_, _++_, append-nil, append-assoc}
 use native.Mathlib.Omega.{arith}
-use native.Mathlib.Decide.{ℕ-discrete}
 use Rattle.cases.specs.declared.case.Instruction.{Instruction}
 use Rattle.cases.specs.declared.case.Step.{Step}
 use Rattle.cases.specs.declared.case.Program.{Program}
-use Rattle.cases.specs.Sizes.{mostLocations}
-use Rattle.cases.specs.Checks.{stepFault, countAt}
+use Rattle.cases.specs.Checks.{limitsOf, queuesOf, stepFault, countAt}
 use Rattle.cases.specs.Ranges.{InstructionFits}
 use Rattle.cases.specs.Operations.{exchange}
 use Rattle.machine.specs.declared.cells.State.{State}
-use Rattle.machine.specs.View.{queue, buffer, issuedOf}
+use Rattle.machine.specs.View.{buffer, issuedOf}
 use Rattle.machine.specs.Rules.{instructionAt, ruleOf, nextOf}
-use Rattle.machine.specs.Joins.{joins, exchanges}
+use Rattle.machine.specs.Joins.{joins, swapOf}
 use Rattle.machine.specs.Fit.{Fits}
 use Rattle.machine.specs.Next.{issueStep, moveStep, persistStep}
 use Rattle.machine.proofs.Effects.{step-kinds, issue-left, issue-issued, issue-issued-other, issue-buffer}
-use Rattle.machine.proofs.Effects.{issue-buffer-other, issue-queue, issue-word, exchange-alone}
+use Rattle.machine.proofs.Effects.{issue-buffer-other, issue-words, issue-word, exchange-alone}
 use Rattle.demands.specs.Writes.{fixedFrom}
-use Rattle.demands.proofs.LastLaws.{lastOr}
-use Rattle.demands.proofs.WriteLaws.{writesOf, storesOf, fixesFrom, writes-append, stores-append}
+use Rattle.machine.specs.Joins.{lastOr}
+use Rattle.demands.proofs.WriteLaws.{storesOf, fixesFrom, stores-append}
 use Rattle.demands.proofs.WriteLaws.{fixes-same, splits, apart}
 use Rattle.demands.proofs.IssuesLaws.{fixed-here, fixed-next, issues-here, issues-later, issues-other}
 use Rattle.demands.proofs.ComingLaws.{coming, Passing, coming-taken, in-range, persist-passing}
 use Rattle.demands.proofs.ComingLaws.{move-passing}
 
-module _ (p : Program) (s : State) (f : Fits p s) (ks : List Step) (l : ℕ) (there : l < mostLocations) where
+module _ (p : Program) (s : State) (f : Fits p s) (ks : List Step) (l : ℕ) (there : l < p .locations) where
   -- Issue
   module _ (t : ℕ) (low : t < p .threads) (legal : ruleOf p s (issueStep t) ≡ 0) where
     abbrev next : Instruction
@@ -44,7 +42,7 @@ module _ (p : Program) (s : State) (f : Fits p s) (ks : List Step) (l : ℕ) (th
     -- what the instruction fixes, and what comes behind it
     fixes-next :
         fixesFrom p t l (fixedFrom p s (issueStep t ∷ ks) t) (issuedOf s t) (countAt p t - issuedOf s t)
-        ≡ (storesOf l (joins (s .registers) t next) ++ writesOf (exchanges l next))
+        ≡ (storesOf l (joins (s .registers) t next) ++ swapOf l next)
         ++ fixesFrom p t l (fixedFrom p after ks t) (issuedOf after t) (countAt p t - issuedOf after t)
     unfolding fixesFrom
     fixes-next =
@@ -68,27 +66,27 @@ module _ (p : Program) (s : State) (f : Fits p s) (ks : List Step) (l : ℕ) (th
     swap a j n r (inr e) = rw (e, append-nil j) (sym (append-assoc a j r))
 
     alone : ((storesOf l (buffer s t) ≡ []) × (storesOf l (joins (s .registers) t next) ≡ []))
-        ⊎ (writesOf (exchanges l next) ≡ [])
-    unfolding storesOf writesOf
+        ⊎ (swapOf l next ≡ [])
+    unfolding storesOf
     alone =
         go (apart s t l (next .location) (next .register) (next .word) (next .operation) (fits .some-operation)
         (fits .low-operation))
       where
-        go : ((next .operation ≡ exchange) × (joins (s .registers) t next ≡ [])) ⊎ (exchanges l next ≡ [])
+        go : ((next .operation ≡ exchange) × (joins (s .registers) t next ≡ [])) ⊎ (swapOf l next ≡ [])
             → ((storesOf l (buffer s t) ≡ []) × (storesOf l (joins (s .registers) t next) ≡ []))
-            ⊎ (writesOf (exchanges l next) ≡ [])
+            ⊎ (swapOf l next ≡ [])
         go (inl e) = inl (rw (exchange-alone p s f t low legal (e .0)) refl, rw (e .1) refl)
-        go (inr e) = inr (rw e refl)
+        go (inr e) = inr e
 
     pub issue-passing : Passing p s (issueStep t) ks l
     unfolding lastOr coming
     issue-passing =
         record {
           thread = t;
-          new = writesOf (exchanges l next);
+          new = swapOf l next;
           out = [];
           low = λ n. low;
-          queued = rw (issue-queue p s f t low legal l there, writes-append (queue s l)) refl;
+          queued = sym (issue-words p s f t low legal l there);
           kept = issue-word p s f t low legal l;
           here =
               rw (fixes-next, issue-buffer p s f t low legal, stores-append l (buffer s t))
@@ -100,13 +98,12 @@ module _ (p : Program) (s : State) (f : Fits p s) (ks : List Step) (l : ℕ) (th
         }
 
   -- every legal step
-  pub step-passing : (k : Step) → stepFault p k ≡ 0 → ruleOf p s k ≡ 0 → Passing p s k ks l
+  pub step-passing : (k : Step) → stepFault (limitsOf p) k ≡ 0 → ruleOf p s k ≡ 0 → Passing p s k ks l
   step-passing k faultless legal = go (step-kinds p k faultless)
     where
       go : ((t : ℕ) × (t < p .threads) × (k ≡ issueStep t))
           ⊎ ((t : ℕ) × (i : ℕ) × (t < p .threads) × (k ≡ moveStep t i))
-          ⊎ ((m : ℕ) × (m < p .locations) × (k ≡ persistStep m)) → Passing p s k ks l
+          ⊎ ((q : ℕ) × (q < queuesOf p) × (k ≡ persistStep q)) → Passing p s k ks l
       go (inl x) = rw (x .2) (issue-passing (x .0) (x .1) (rw (x .2) at legal))
       go (inr (inl x)) = rw (x .3) (move-passing p s f ks l there (x .0) (x .1) (x .2) (rw (x .3) at legal))
-      go (inr (inr x)) =
-          rw (x .2) (persist-passing p s f ks l there (x .0) (x .1) (rw (x .2) at legal) (ℕ-discrete l (x .0)))
+      go (inr (inr x)) = rw (x .2) (persist-passing p s f ks l there (x .0) (x .1) (rw (x .2) at legal))

@@ -25,12 +25,14 @@ use Rattle.cases.proofs.Promises.{read-after-write}
 use Rattle.machine.specs.declared.cells.State.{State}
 use Rattle.machine.specs.declared.runs.Verdict.the-variants.{Legal, Illegal}
 use Rattle.machine.specs.Rules.{ruleOf, startOf}
-use Rattle.machine.specs.Work.{fullLength}
-use Rattle.machine.specs.Judge.{Leads, StopsAt, verdictNo, verdictPlace, judged, runOf, judgeOf}
+use Rattle.machine.specs.Model.{fullLength, Leads, StopsAt}
+use Rattle.machine.specs.Judge.{verdictNo, verdictPlace, judged, runOf, judgeOf}
 use Rattle.machine.specs.Next.{persistStep}
+use Rattle.machine.specs.Ptso.{ptso}
 use Rattle.search.specs.declared.ask.Outcome.the-variants.{Reached}
 use Rattle.search.specs.Walk.{Visit, here}
-use Rattle.search.specs.Question.{reaches, Decided, reached, unreachable, undecided, FirstThat, walkFrom}
+use Rattle.search.specs.Question.{reaches, Decided, reached, unreachable, undecided, FirstThat}
+use Rattle.search.specs.Walk.{walkFrom}
 use Rattle.search.specs.Question.{questionOf, outcomePlace}
 use Rattle.search.proofs.Promises as Search
 use Rattle.demands.specs.Example.{example}
@@ -62,24 +64,24 @@ not-always-undecided =
     let is : readOf (encodeOf example) .case ≡ example
     = ap (λ (r : Reading). r .case) (read-after-write example example-readable) in
     let many : length lent ≡ stepSize * mostSteps = length-replicate {A = ℕ} (stepSize * mostSteps) 0 in
-    let room : stepSize * fullLength (readOf (encodeOf example) .case .program) ≤ length lent
+    let room : stepSize * fullLength (ptso (readOf (encodeOf example) .case .program)) ≤ length lent
     = rw (is, many) (room-enough example example-readable) in
     let first : FirstThat (reaches (readOf (encodeOf example) .case .ask))
-    (walkFrom (readOf (encodeOf example) .case .program)) [] (here (startOf (example .program)))
-    = subst (λ (c : Case). FirstThat (reaches (c .ask)) (walkFrom (c .program)) []
+    (walkFrom (ptso (readOf (encodeOf example) .case .program))) [] (here (startOf (example .program)))
+    = subst (λ (c : Case). FirstThat (reaches (c .ask)) (walkFrom (ptso (c .program))) []
     (here (startOf (example .program)))) (sym is) example-first in
     rw many at (DemandTwo.reached-exactly (encodeOf example) (example-bytes .0) (example-bytes .1) 1
     lent room 0 .1 ([], here (startOf (example .program)), first, omega arith, refl))
 
 -- "a search that takes one step and repeats it (the witness must be the walk's first)": there is one such run
 pub one-witness : (p : Program) (a : Ask) (before after : List (Visit State Step)) (v w : Visit State Step)
-    → FirstThat (reaches a) (walkFrom p) before v
-    → FirstThat (reaches a) (walkFrom p) after w
+    → FirstThat (reaches a) (walkFrom (ptso p)) before v
+    → FirstThat (reaches a) (walkFrom (ptso p)) after w
     → v .run ≡ w .run
 one-witness p a before after v w f g =
     let b = suc (length before + length after) in
-    let e = Search.reached-exactly p a b (v .run) .1 (before, v, f, omega arith, refl) in
-    let d = Search.reached-exactly p a b (w .run) .1 (after, w, g, omega arith, refl) in
+    let e = Search.reached-exactly (ptso p) (reaches a) b (v .run) .1 (before, v, f, omega arith, refl) in
+    let d = Search.reached-exactly (ptso p) (reaches a) b (w .run) .1 (after, w, g, omega arith, refl) in
     ap shown (sym e ∙ d)
   where
     shown : Decided Step → List Step
@@ -89,9 +91,9 @@ one-witness p a before after v w f g =
 
 -- "a made-up length or index (fixed by the walk or the first illegal step)"
 pub no-made-up-length : (s : List ℕ) → IsBytes s → numberOf (readOf s .answer) ≡ 0
-    → (b : ℕ) (out : List ℕ) → stepSize * fullLength (readOf s .case .program) ≤ length out
+    → (b : ℕ) (out : List ℕ) → stepSize * fullLength (ptso (readOf s .case .program)) ≤ length out
     → (before : List (Visit State Step)) (v : Visit State Step)
-    → FirstThat (reaches (readOf s .case .ask)) (walkFrom (readOf s .case .program)) before v
+    → FirstThat (reaches (readOf s .case .ask)) (walkFrom (ptso (readOf s .case .program))) before v
     → length before < b
     → (n : ℕ) → questionOf s (length out) b ≡ Reached n
     → n ≡ length (v .run)
@@ -100,7 +102,7 @@ no-made-up-length s bytes read b out room before v first covered n says =
     ∙ DemandTwo.reached-exactly s bytes read b out room (length (v .run)) .1 (before, v, first, covered, refl))
 
 pub no-made-up-index : (c : Case) → readsBack c ≡ true → (r i q j : ℕ) (u : State)
-    → StopsAt (c .program) (startOf (c .program)) (runOf c) i u
+    → StopsAt (ptso (c .program)) (startOf (c .program)) (runOf c) i u
     → ruleOf (c .program) u (getD (runOf c) i noStep) ≡ r
     → judgeOf c .verdict ≡ Illegal q j
     → (q ≡ r) × (j ≡ i)

@@ -22,14 +22,15 @@ use Rattle.cases.specs.Sizes.{stepSize}
 use Rattle.machine.specs.declared.cells.State.{State}
 use Rattle.machine.specs.declared.runs.Judged.{Judged}
 use Rattle.machine.specs.Rules.{ruleOf, startOf}
-use Rattle.machine.specs.Work.{fullLength}
-use Rattle.machine.specs.Judge.{Leads, StopsAt, verdictNo, judged, runOf, stopped, judgeOf, judgeBytes}
+use Rattle.machine.specs.Model.{fullLength, Leads, StopsAt}
+use Rattle.machine.specs.Judge.{verdictNo, judged, runOf, stopped, judgeOf, judgeBytes}
+use Rattle.machine.specs.Ptso.{ptso}
 use Rattle.machine.proofs.Promises.{judge-legal, judge-illegal, legal-or-not, judge-refused, judge-read}
 use Rattle.machine.proofs.Promises.{rule-in-table}
 use Rattle.search.specs.declared.ask.Outcome.{Outcome}
 use Rattle.search.specs.declared.ask.Outcome.the-variants.{Refused}
 use Rattle.search.specs.Question.{Decided, reached, unreachable, undecided, toldOf, outcomeNo, askOf, short}
-use Rattle.search.specs.Question.{answerFor, questionOf}
+use Rattle.search.specs.Question.{reaches, answerFor, questionOf}
 
 -- a verdict's number: 103, 21 to 29, or 1 to 9
 unfoldable Told : ℕ → Type 0
@@ -39,15 +40,15 @@ case-table : (c : Case) → readsBack c ≡ true → Told (verdictNo (judgeOf c 
 unfolding Told
 case-table c readable = go (legal-or-not c readable)
   where
-    ruled : (i : ℕ) (u : State) → StopsAt (c .program) (startOf (c .program)) (runOf c) i u
+    ruled : (i : ℕ) (u : State) → StopsAt (ptso (c .program)) (startOf (c .program)) (runOf c) i u
         → (n : ℕ) → ruleOf (c .program) u (getD (runOf c) i noStep) ≡ n
         → (n ≡ 0) ⊎ ((21 ≤ n) × (n ≤ 29))
         → Told n
     ruled i u o n e (inl z) = absurd (o .broken (e ∙ z))
     ruled i u o n e (inr h) = inr (inl h)
 
-    go : ((u : State) × Leads (c .program) (startOf (c .program)) (runOf c) u)
-        ⊎ ((i : ℕ) × (u : State) × StopsAt (c .program) (startOf (c .program)) (runOf c) i u)
+    go : ((u : State) × Leads (ptso (c .program)) (startOf (c .program)) (runOf c) u)
+        ⊎ ((i : ℕ) × (u : State) × StopsAt (ptso (c .program)) (startOf (c .program)) (runOf c) i u)
         → Told (verdictNo (judgeOf c .verdict))
     go (inl x) = inl (ap verdictNo (judge-legal c readable .1 x))
     go (inr x) =
@@ -103,8 +104,8 @@ pub asking-order : (s : List ℕ) (room b : ℕ)
     → questionOf s room b
     ≡ pick (not (eqb (numberOf (readOf s .answer)) 0))
     (Refused (numberOf (readOf s .answer)) (offsetOf (readOf s .answer)))
-    (pick (ltb room (stepSize * fullLength (readOf s .case .program))) (Refused 31 0)
-    (toldOf (askOf (readOf s .case .program) (readOf s .case .ask) b)))
+    (pick (ltb room (stepSize * fullLength (ptso (readOf s .case .program)))) (Refused 31 0)
+    (toldOf (askOf (ptso (readOf s .case .program)) (reaches (readOf s .case .ask)) b)))
 unfolding questionOf answerFor short pick
 asking-order s room b = swapped (eqb (numberOf (readOf s .answer)) 0) _ _
   where

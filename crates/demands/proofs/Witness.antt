@@ -27,17 +27,18 @@ use Rattle.cases.specs.Operations.{storeRegister}
 use Rattle.machine.specs.declared.cells.State.{State}
 use Rattle.machine.specs.Rules.{instructionAt, persistRule, ruleIn, ruleOf, startOf}
 use Rattle.machine.specs.Fit.{ProgramFits, anyFrom}
-use Rattle.machine.specs.Work.{fullLength, Unfinished}
-use Rattle.machine.specs.Judge.{Leads, Faultless, StopsAt}
-use Rattle.machine.specs.Next.{persistStep, Listed}
-use Rattle.machine.proofs.Promises.{program-fits, full-length-most}
+use Rattle.machine.specs.Work.{Unfinished}
+use Rattle.machine.specs.Model.{fullLength, Leads, Faultless, StopsAt, Listed, LegalRun, FinishedRun}
+use Rattle.machine.specs.Next.{persistStep}
+use Rattle.machine.specs.Ptso.{ptso}
+use Rattle.machine.proofs.Promises.{program-fits, ptso-lawful, full-length-most}
 use Rattle.machine.proofs.Effects.{start-issued}
 use Rattle.search.specs.Walk.{here}
-use Rattle.search.specs.Question.{misses, missesAt, lacksAt, reachesIn, reaches, None, FirstThat, walkFrom}
+use Rattle.search.specs.Question.{misses, missesAt, lacksAt, reachesIn, reaches, None, FirstThat}
+use Rattle.search.specs.Walk.{walkFrom}
 use Rattle.search.specs.Question.{askOf, undecided}
 use Rattle.search.proofs.Promises.{walk-first, undecided-exactly}
 use Rattle.demands.specs.Example.{example, threadless, stepFirst, programFirst}
-use Rattle.demands.specs.Runs.{LegalRun, FinishedRun}
 use Rattle.demands.specs.Writes.{isWrite, writes, Writer, LastWrite, Unwritten, Alone}
 use Rattle.demands.specs.Carried.{lastRun}
 use Rattle.demands.proofs.DemandThree.{any-thread}
@@ -78,11 +79,11 @@ unfolding reading-computes
 program-first-sound = (refl, refl)
 
 -- lent bytes with room for a run of the full length, of any case: 8 for each step that a case can have
-pub room-enough : (c : Case) → readsBack c ≡ true → stepSize * fullLength (c .program) ≤ stepSize * mostSteps
+pub room-enough : (c : Case) → readsBack c ≡ true → stepSize * fullLength (ptso (c .program)) ≤ stepSize * mostSteps
 room-enough c readable = let most = full-length-most (c .program) (program-fits c readable) in omega arith
 
 -- a legal run, after which an instruction is unissued: the empty one
-pub example-legal : LegalRun (example .program) [] (startOf (example .program))
+pub example-legal : LegalRun (ptso (example .program)) [] (startOf (example .program))
 unfolding Faultless Leads
 example-legal = record { faultless = tt; leads = refl }
 
@@ -142,29 +143,29 @@ example-unwritten (suc (suc (suc zero))) i h = absurd (omega arith)
 example-unwritten (suc (suc (suc (suc t)))) i h = absurd (omega arith)
 
 -- a run that cannot go on: the one in which thread 0 comes last
-pub example-finished : (u : State) × FinishedRun (example .program) (lastRun (example .program) 0) u
+pub example-finished : (u : State) × FinishedRun (ptso (example .program)) (lastRun (example .program) 0) u
 example-finished = let r = any-thread example example-readable 0 0 example-writer in (r .1, r .3)
 
 -- a run that stops: nothing is queued at the start, so that a persist is illegal there
-pub example-stops : StopsAt (example .program) (startOf (example .program)) (persistStep 0 ∷ []) 0
+pub example-stops : StopsAt (ptso (example .program)) (startOf (example .program)) (persistStep 0 ∷ []) 0
     (startOf (example .program))
 unfolding Leads ruleOf ruleIn persistRule startOf pick refuse
 example-stops = record { within = omega arith; before = refl; broken = λ e. absurd (omega arith) }
 
 -- a question that is reached: the empty run does where nothing is asked for
 pub example-first :
-    FirstThat (reaches (example .ask)) (walkFrom (example .program)) [] (here (startOf (example .program)))
+    FirstThat (reaches (example .ask)) (walkFrom (ptso (example .program))) [] (here (startOf (example .program)))
 unfolding example emptyCase reaches reachesIn anyFrom missesAt misses lacksAt startOf None Listed both either
 example-first =
-    let w = walk-first (example .program) (program-fits example example-readable) in
+    let w = walk-first (ptso (example .program)) (ptso-lawful (example .program) (program-fits example example-readable)) in
     record { after = w .0; stands = w .1; passes = refl; none = λ v h. absurd h }
 
 -- a question that is not, whatever is asked: of a budget of none
-pub budget-none : (p : Program) → ProgramFits p → (a : Ask) → askOf p a 0 ≡ undecided
+pub budget-none : (p : Program) → ProgramFits p → (a : Ask) → askOf (ptso p) (reaches a) 0 ≡ undecided
 unfolding None Listed
 budget-none p fits a =
-    let w = walk-first p fits in
-    undecided-exactly p a 0 .1 (rw (w .1) (omega arith), (λ v h. absurd h))
+    let w = walk-first (ptso p) (ptso-lawful p fits) in
+    undecided-exactly (ptso p) (reaches a) 0 .1 (rw (w .1) (omega arith), (λ v h. absurd h))
 
 -- lent bytes that are long enough for the file, and none
 pub example-length : length (encodeOf example) ≡ 44

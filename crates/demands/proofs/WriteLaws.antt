@@ -1,13 +1,11 @@
--- Location l's writes: the words in its queue, those that wait in a store buffer, and those that a thread has
--- still to fix. Assumes nothing.
+-- Location l's writes: those that wait in a store buffer, and those that a thread has still to fix. Assumes
+-- nothing.
 use Prim.Native.Nat.{ℕ, zero, suc, _+_, _≤_, _<_}
 use mathlib.Core.Path.{_≡_, refl, sym, ap, _∙_}
 use mathlib.Core.Logic.{_⊎_, inl, inr}
-use mathlib.Core.Bool.{Bool, true, false}
 use mathlib.Core.List.{List, [], _∷_, _++_, append-nil, append-assoc}
 use native.Mathlib.Omega.{arith}
 use native.Mathlib.Numerals.{add-one}
-use borrow.Author.Tests.{ne-eqb}
 use lib.Dec.{eqb}
 use lib.ListN.{length}
 use Rattle.cases.specs.declared.case.Location.{Location}
@@ -17,27 +15,11 @@ use Rattle.cases.specs.Choice.{pick, both, either}
 use Rattle.cases.specs.Operations.{lastOperation, firstOperation, exchange}
 use Rattle.machine.specs.declared.cells.State.{State}
 use Rattle.machine.specs.declared.cells.Waiting.{Waiting}
-use Rattle.machine.specs.declared.cells.Entry.{Entry}
-use Rattle.machine.specs.declared.cells.Entry.the-variants.{Store, Flush, FlushOpt, Sfence}
-use Rattle.machine.specs.View.{Slot, without, writeSlot, markerSlot, registerIn}
+use Rattle.machine.specs.View.{without, registerIn}
 use Rattle.machine.specs.Rules.{instructionAt, entryAt, entryOf, isBarrier}
-use Rattle.machine.specs.Joins.{joins, exchanges, enters}
+use Rattle.machine.specs.Joins.{joins, onlyIf, storeOf, swapOf}
 use Rattle.machine.proofs.OperationLaws.{each-operation, of}
 use Rattle.demands.specs.Writes.{isWrite, writes, fixedBy}
-
--- one word or none
-unfoldable pub onlyIf : Bool → ℕ → List ℕ
-onlyIf b w = pick b (w ∷ []) []
-
-unfoldable pub writesOf : List Slot → List ℕ
-writesOf [] = []
-writesOf (h ∷ q) = onlyIf (eqb (h .mark) 0) (h .word) ++ writesOf q
-
-unfoldable pub storeOf : ℕ → Entry → List ℕ
-storeOf l (Store x) = onlyIf (eqb (x .location .0) l) (x .word)
-storeOf l (Flush m) = []
-storeOf l (FlushOpt m) = []
-storeOf l Sfence = []
 
 unfoldable pub storesOf : ℕ → List Waiting → List ℕ
 storesOf l [] = []
@@ -49,12 +31,6 @@ fixesFrom p t l f i zero = []
 fixesFrom p t l f i (suc n) = onlyIf (writes (instructionAt p t i) l) (f i) ++ fixesFrom p t l f (suc i) n
 
 -- one behind another
-pub writes-append : (q r : List Slot) → writesOf (q ++ r) ≡ writesOf q ++ writesOf r
-unfolding writesOf
-writes-append [] r = refl
-writes-append (h ∷ q) r =
-    rw (writes-append q r) (sym (append-assoc (onlyIf (eqb (h .mark) 0) (h .word)) (writesOf q) (writesOf r)))
-
 pub stores-append : (l : ℕ) (b c : List Waiting) → storesOf l (b ++ c) ≡ storesOf l b ++ storesOf l c
 unfolding storesOf
 stores-append l [] c = refl
@@ -81,58 +57,36 @@ fixes-same p t l f g i zero h = refl
 fixes-same p t l f g i (suc n) h =
     rw (h i (omega arith), fixes-same p t l f g (suc i) n (λ j k. h j (omega arith)))
 
--- what an entry puts into the queue is the word it stored
-pub enters-writes : (t l : ℕ) (e : Entry) → writesOf (enters t l e) ≡ storeOf l e
-unfolding enters writesOf storeOf onlyIf pick
-enters-writes t l (Store x) = go (eqb (x .location .0) l)
-  where
-    go : (b : Bool) → writesOf (pick b (writeSlot (x .word) ∷ []) []) ≡ pick b (x .word ∷ []) []
-    go true = refl
-    go false = refl
-enters-writes t l (Flush m) = refl
-enters-writes t l (FlushOpt m) = go (eqb (m .0) l)
-  where
-    go : (b : Bool) → writesOf (pick b (markerSlot t ∷ []) []) ≡ []
-    go true = rw (ne-eqb (t + 1) 0 (λ z. omega arith)) refl
-    go false = refl
-enters-writes t l Sfence = refl
-
 -- What an instruction fixes goes into its thread's buffer or straight into the queue
 module _ (s : State) (t l : ℕ) (m : Location) (r : Register) (w : ℕ) where
   abbrev Splits : ℕ → Type 0
   Splits op = onlyIf (writes (of op m r w) l) (fixedBy s t (of op m r w))
-      ≡ storesOf l (joins (s .registers) t (of op m r w)) ++ writesOf (exchanges l (of op m r w))
+      ≡ storesOf l (joins (s .registers) t (of op m r w)) ++ swapOf l (of op m r w)
 
   stored : (v : ℕ) → onlyIf (eqb (m .0) l) v ≡ (onlyIf (eqb (m .0) l) v ++ []) ++ []
   stored v = sym (append-nil (onlyIf (eqb (m .0) l) v ++ []) ∙ append-nil (onlyIf (eqb (m .0) l) v))
 
-  swapped : (b : Bool) → onlyIf b w ≡ writesOf (pick b (writeSlot w ∷ []) [])
-  unfolding writesOf onlyIf pick
-  swapped true = refl
-  swapped false = refl
-
   pub splits : (op : ℕ) → firstOperation ≤ op → op ≤ lastOperation → Splits op
-  unfolding writes isWrite both either fixedBy joins isBarrier exchanges entryOf storesOf storeOf writesOf
-      onlyIf pick
+  unfolding writes isWrite both either fixedBy joins isBarrier swapOf entryOf storesOf storeOf onlyIf pick
   splits =
       each-operation Splits
       (stored w)
       (stored (registerIn (s .registers) t (r .0)))
       refl
-      (swapped (eqb (m .0) l))
+      refl
       refl
       refl
       refl
       refl
 
-  -- an exchange puts nothing into the buffer, every other instruction nothing into the queue
+  -- an exchange puts nothing into the buffer, every other instruction nothing straight on its way
   abbrev Apart : ℕ → Type 0
   Apart op =
       ((op ≡ exchange) × (joins (s .registers) t (of op m r w) ≡ []))
-      ⊎ (exchanges l (of op m r w) ≡ [])
+      ⊎ (swapOf l (of op m r w) ≡ [])
 
   pub apart : (op : ℕ) → firstOperation ≤ op → op ≤ lastOperation → Apart op
-  unfolding joins isBarrier exchanges both either pick
+  unfolding joins isBarrier swapOf onlyIf both either pick
   apart =
       each-operation Apart (inr refl) (inr refl) (inr refl) (inl (refl, refl)) (inr refl) (inr refl) (inr refl)
       (inr refl)

@@ -1,7 +1,7 @@
 -- Demand 3, "any of those threads can be the one": the run in which a thread comes last, written out. Every
 -- other thread in turn, then that one; each instruction is carried through, from its issue to the memory,
 -- before the next.
---   carried t x           the steps that carry instruction x of thread t through
+--   carried p t x         the steps that carry instruction x of thread t through
 --   carriedFrom p t i n   those of the n instructions of thread t from the i-th on
 --   carriedAll p t        those of all its instructions
 --   othersFrom p t u n    those of the n threads from u on, without t
@@ -16,21 +16,22 @@ use Rattle.cases.specs.declared.case.Program.{Program}
 use Rattle.cases.specs.Operations.{load, exchange, flush, sfence, mfence}
 use Rattle.cases.specs.Choice.{pick, either}
 use Rattle.cases.specs.Checks.{countAt}
+use Rattle.machine.specs.View.{queueOf}
 use Rattle.machine.specs.Rules.{instructionAt}
 use Rattle.machine.specs.Next.{issueStep, moveStep, persistStep}
 
 -- load and mfence: the issue is all; exchange: its write goes straight into the queue; flush and sfence: they
 -- leave the buffer and nothing comes of them; stores and flush-opt: through buffer and queue
-unfoldable pub carried : ℕ → Instruction → List Step
-carried t x =
+unfoldable pub carried : Program → ℕ → Instruction → List Step
+carried p t x =
     pick (either (eqb (x .operation) load) (eqb (x .operation) mfence)) (issueStep t ∷ [])
-    (pick (eqb (x .operation) exchange) (issueStep t ∷ persistStep (x .location .0) ∷ [])
+    (pick (eqb (x .operation) exchange) (issueStep t ∷ persistStep (queueOf p (x .location .0)) ∷ [])
     (pick (either (eqb (x .operation) flush) (eqb (x .operation) sfence)) (issueStep t ∷ moveStep t 0 ∷ [])
-    (issueStep t ∷ moveStep t 0 ∷ persistStep (x .location .0) ∷ [])))
+    (issueStep t ∷ moveStep t 0 ∷ persistStep (queueOf p (x .location .0)) ∷ [])))
 
 unfoldable pub carriedFrom : Program → ℕ → ℕ → ℕ → List Step
 carriedFrom p t i zero = []
-carriedFrom p t i (suc n) = carried t (instructionAt p t i) ++ carriedFrom p t (suc i) n
+carriedFrom p t i (suc n) = carried p t (instructionAt p t i) ++ carriedFrom p t (suc i) n
 
 unfoldable pub carriedAll : Program → ℕ → List Step
 carriedAll p t = carriedFrom p t 0 (countAt p t)

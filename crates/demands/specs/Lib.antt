@@ -1,6 +1,5 @@
 -- The words that the demands add to those of the layers.
 pub mod Order
-pub mod Runs
 pub mod Writes
 pub mod Carried
 pub mod Example

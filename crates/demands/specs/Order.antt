@@ -12,7 +12,7 @@ use Rattle.cases.specs.declared.draft.Draft.{Draft}
 use Rattle.cases.specs.declared.record.Record.{Record}
 use Rattle.cases.specs.declared.record.Record.the-variants.{Declare, First, Instruct, Want, Passed, Take}
 use Rattle.cases.specs.Sizes.{mostInstructions, mostSteps}
-use Rattle.cases.specs.Checks.{disordered, headerOut, instructionOut, instructionLeft, passedOut, stepOut}
+use Rattle.cases.specs.Checks.{disordered, headerOut, instructionOut, instructionLeft, passedOut, limitsOf, stepOut}
 use Rattle.cases.specs.Checks.{stepLeft, countAt}
 
 unfoldable pub outOf : Draft → Record → Bool
@@ -21,7 +21,7 @@ outOf d (First w) = leb (d .case .program .locations) (w .location .0)
 outOf d (Instruct t x) = instructionOut (d .case .program) t x
 outOf d (Want w) = leb (d .case .program .locations) (w .location .0)
 outOf d (Passed t n) = passedOut (d .case .program) t n
-outOf d (Take k) = stepOut (d .case .program) k
+outOf d (Take k) = stepOut (limitsOf (d .case .program)) k
 
 unfoldable pub leftOf : Record → Bool
 leftOf (Declare h) = false

@@ -12,23 +12,27 @@ use Rattle.cases.specs.declared.case.Step.{Step}
 use Rattle.cases.specs.declared.case.Program.{Program}
 use Rattle.cases.specs.Choice.{pick}
 use Rattle.cases.specs.Sizes.{mostInstructions, allCode}
+use Rattle.cases.specs.Checks.{queuesOf}
 use Rattle.cases.proofs.ArrayLaws.{getD-blank}
 use Rattle.cases.specs.Operations.{firstOperation, lastOperation}
 use Rattle.machine.specs.declared.cells.State.{State}
 use Rattle.machine.specs.declared.cells.Entry.{Entry}
 use Rattle.machine.specs.declared.cells.Entry.the-variants.{Store, Flush, FlushOpt, Sfence}
 use Rattle.machine.specs.Sizes.{room, allSlots}
-use Rattle.machine.specs.View.{Slot, writeSlot, markerSlot, without, queue, queueLen, withWord}
-use Rattle.machine.specs.View.{blankWaiting, buffer, wordOf, issuedOf}
+use Rattle.machine.specs.View.{Slot, queueOf, homeOf, writeSlot, markerSlot, without, queue, queueLen}
+use Rattle.machine.specs.View.{withWord, blankWaiting, buffer, wordOf, issuedOf}
+use Rattle.machine.specs.Parts.{partsOf}
 use Rattle.machine.specs.Behind.{BlankBehind}
 use Rattle.machine.specs.Look.{wordOr}
 use Rattle.machine.specs.Rules.{enqueue, await, instructionAt, issueRule, entryOf, loaded, exchanged}
 use Rattle.machine.specs.Rules.{performed, issueOf, effectOf, moveRule, moveOf, persistFirst}
 use Rattle.machine.specs.Rules.{persistOf, ruleOf, nextOf, startOf}
 use Rattle.machine.specs.Fit.{ProgramFits, Fits, Named}
-use Rattle.machine.specs.Judge.{Leads, Faultless}
+use Rattle.machine.specs.Model.{Leads, Faultless}
+use Rattle.machine.specs.Ptso.{ptso}
 use Rattle.machine.proofs.PutLaws.{length-without}
 use Rattle.machine.proofs.ViewLaws.{sized-word}
+use Rattle.machine.proofs.QueueOfLaws.{few-queues, queue-there}
 use Rattle.machine.proofs.KeepLaws.{queue-within, buffer-within, queue-long, buffer-long}
 use Rattle.machine.proofs.SpareLaws.{Spare, counted-spare, taken-spare, register-spare}
 use Rattle.machine.proofs.StartLaws.{start-fits}
@@ -44,22 +48,22 @@ pub start-blank : (p : Program) → BlankBehind (startOf p)
 unfolding startOf
 start-blank p =
     record {
-      words-blank = λ l h i a b. getD-blank {A = ℕ} allSlots (l * room + i) 0;
-      marks-blank = λ l h i a b. getD-blank {A = ℕ} allSlots (l * room + i) 0;
+      words-blank = λ q h i a b. getD-blank {A = ℕ} allSlots (q * room + i) 0;
+      marks-blank = λ q h i a b. getD-blank {A = ℕ} allSlots (q * room + i) 0;
       entries-blank = λ t h i a b. getD-blank allCode (t * mostInstructions + i) blankWaiting;
     }
 
 -- one more at a queue's end, at a buffer's end
 module _ (p : Program) (s : State) (t : ℕ) (o : Spare p s t) (blank : BlankBehind s) where
-  enqueue-blank : (l : ℕ) → l < p .locations → (h : Slot) → BlankBehind (enqueue s l h)
+  enqueue-blank : (q : ℕ) → q < queuesOf p → (h : Slot) → BlankBehind (enqueue s q h)
   unfolding enqueue
-  enqueue-blank l low h =
-      let z = o .fit .program .few-locations in
-      let n = queue-long p s (o .fit) l (omega arith) in
-      let w = o .queues l (omega arith) in
-      let k : length (queue s l ++ (h ∷ [])) ≤ room = simp (length-append, n) (omega arith) in
-      blank-queue s (o .fit .sized) blank l (omega arith) (queue-within p s (o .fit) l (omega arith))
-      (queue s l ++ (h ∷ [])) k
+  enqueue-blank q low h =
+      let z = few-queues p (o .fit .program) in
+      let n = queue-long p s (o .fit) q (omega arith) in
+      let w = o .queues q (omega arith) in
+      let k : length (queue s q ++ (h ∷ [])) ≤ room = simp (length-append, n) (omega arith) in
+      blank-queue s (o .fit .sized) blank q (omega arith) (queue-within p s (o .fit) q (omega arith))
+      (queue s q ++ (h ∷ [])) k
 
   await-blank : t < p .threads → (e : Entry) → BlankBehind (await s t e)
   unfolding await
@@ -75,32 +79,34 @@ module _ (p : Program) (s : State) (t : ℕ) (o : Spare p s t) (blank : BlankBeh
 -- an instruction that is counted already; an entry that is out of its buffer
 module _ (p : Program) (s : State) (t : ℕ) (o : Spare p s t) (blank : BlankBehind s)
     (low : t < p .threads) where
+  to : (l : ℕ) → l < p .locations → queueOf p l < queuesOf p
+  to = queue-there p (o .fit .program)
+
   performed-blank : (l : Location) (r : Register) (w : ℕ) → l .0 < p .locations
-      → (op : ℕ) → firstOperation ≤ op → op ≤ lastOperation → BlankBehind (performed s t (of op l r w))
+      → (op : ℕ) → firstOperation ≤ op → op ≤ lastOperation → BlankBehind (performed p s t (of op l r w))
   unfolding performed pick entryOf loaded exchanged
   performed-blank l r w there =
-      each-operation (λ op. BlankBehind (performed s t (of op l r w)))
+      each-operation (λ op. BlankBehind (performed p s t (of op l r w)))
       (await-blank p s t o blank low _)
       (await-blank p s t o blank low _)
       (blank-register s blank t _ _)
-      (enqueue-blank p _ t (register-spare p s t o _ _) (blank-register s blank t _ _) (l .0) there
-      (writeSlot w))
+      (enqueue-blank p _ t (register-spare p s t o _ _) (blank-register s blank t _ _) (queueOf p (l .0))
+      (to (l .0) there) (writeSlot w))
       (await-blank p s t o blank low _)
       (await-blank p s t o blank low _)
       (await-blank p s t o blank low _)
       blank
 
-  effect-blank : (e : Entry) → Named (p .locations) e → BlankBehind (effectOf s t e)
+  effect-blank : (e : Entry) → Named (p .locations) e → BlankBehind (effectOf p s t e)
   unfolding effectOf Named
-  effect-blank (Store w) h = enqueue-blank p s t o blank (w .location .0) h (writeSlot (w .word))
+  effect-blank (Store w) h = enqueue-blank p s t o blank _ (to (w .location .0) h) (writeSlot (w .word))
   effect-blank (Flush l) h = blank
-  effect-blank (FlushOpt l) h = enqueue-blank p s t o blank (l .0) h (markerSlot t)
+  effect-blank (FlushOpt l) h = enqueue-blank p s t o blank _ (to (l .0) h) (markerSlot t)
   effect-blank Sfence h = blank
 
 -- Issue, move, persist
 module _ (p : Program) (s : State) (f : Fits p s) (blank : BlankBehind s) where
-  issue-blank : (t : ℕ) → issueRule p (s .issued) (s .waiting) (s .marks) (s .lengths) t ≡ 0
-      → BlankBehind (issueOf p s t)
+  issue-blank : (t : ℕ) → issueRule p (partsOf s) t ≡ 0 → BlankBehind (issueOf p s t)
   unfolding issueOf
   issue-blank t legal =
       let left = issue-left p s f t legal in
@@ -110,9 +116,7 @@ module _ (p : Program) (s : State) (f : Fits p s) (blank : BlankBehind s) where
       (x .location) (x .register) (x .word) (there .1 .low-location) (x .operation) (there .1 .some-operation)
       (there .1 .low-operation)
 
-  move-blank : (t i : ℕ) → t < p .threads
-      → moveRule (s .buffers) (s .waiting) (s .marks) (s .lengths) t i ≡ 0
-      → BlankBehind (moveOf s t i)
+  move-blank : (t i : ℕ) → t < p .threads → moveRule p (partsOf s) t i ≡ 0 → BlankBehind (moveOf p s t i)
   unfolding moveOf
   move-blank t i low legal =
       let z = f .program .few-threads in
@@ -125,22 +129,23 @@ module _ (p : Program) (s : State) (f : Fits p s) (blank : BlankBehind s) where
       (move-named p s f t i low legal)
 
   -- the oldest entry, the rest
-  first-blank : (l : ℕ) → l < p .locations → (q : List Slot) → queue s l ≡ q → BlankBehind (persistFirst s l q)
+  first-blank : (q : ℕ) → q < queuesOf p → (r : List Slot) → queue s q ≡ r → BlankBehind (persistFirst s q r)
   unfolding persistFirst
-  first-blank l low [] e = blank
-  first-blank l low (h ∷ q) e =
-      let z = f .program .few-locations in
-      let k : length (queue s l) ≡ suc (length q) = ap length e in
-      let n = queue-long p s f l (omega arith) in
-      let m : queueLen s l ≤ room = queue-within p s f l (omega arith) in
+  first-blank q low [] e = blank
+  first-blank q low (h ∷ r) e =
+      let z = few-queues p (f .program) in
+      let k : length (queue s q) ≡ suc (length r) = ap length e in
+      let n = queue-long p s f q (omega arith) in
+      let m : queueLen s q ≤ room = queue-within p s f q (omega arith) in
+      let l : ℕ = homeOf q (h .mark) in
       let w : ℕ = wordOr h (wordOf s l) in
-      let same : queueLen (withWord s l w) l ≡ queueLen s l = unfold withWord in refl in
-      blank-queue (withWord s l w) (sized-word s (f .sized) l w) (blank-word s blank l w) l (omega arith)
-      (omega arith) q (omega arith)
+      let same : queueLen (withWord s l w) q ≡ queueLen s q = unfold withWord in refl in
+      blank-queue (withWord s l w) (sized-word s (f .sized) l w) (blank-word s blank l w) q (omega arith)
+      (omega arith) r (omega arith)
 
-  persist-blank : (l : ℕ) → l < p .locations → BlankBehind (persistOf s l)
+  persist-blank : (q : ℕ) → q < queuesOf p → BlankBehind (persistOf s q)
   unfolding persistOf
-  persist-blank l low = first-blank l low (queue s l) refl
+  persist-blank q low = first-blank q low (queue s q) refl
 
   pub step-blank : (k : Step) → InRange p k → ruleOf p s k ≡ 0 → BlankBehind (nextOf p s k)
   step-blank k =
@@ -151,8 +156,8 @@ module _ (p : Program) (s : State) (f : Fits p s) (blank : BlankBehind s) where
 
 -- a run; one from the start
 module _ (p : Program) where
-  pub leads-blank : (s : State) (ks : List Step) (u : State) → Fits p s → BlankBehind s → Faultless p ks
-      → Leads p s ks u
+  pub leads-blank : (s : State) (ks : List Step) (u : State) → Fits p s → BlankBehind s → Faultless (ptso p) ks
+      → Leads (ptso p) s ks u
       → BlankBehind u
   unfolding Leads Faultless
   leads-blank s [] u f b r h = rw (sym h) b
@@ -161,6 +166,6 @@ module _ (p : Program) where
       leads-blank (nextOf p s k) ks u (step-fits p s f k in-range (h .0))
       (step-blank p s f b k in-range (h .0)) (r .1) (h .1)
 
-  pub run-blank : (ks : List Step) (u : State) → ProgramFits p → Faultless p ks → Leads p (startOf p) ks u
+  pub run-blank : (ks : List Step) (u : State) → ProgramFits p → Faultless (ptso p) ks → Leads (ptso p) (startOf p) ks u
       → BlankBehind u
   run-blank ks u fits = leads-blank (startOf p) ks u (start-fits p fits) (start-blank p)

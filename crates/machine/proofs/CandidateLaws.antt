@@ -1,53 +1,21 @@
--- The candidates are exactly the steps that pass the checks 5 and 8; and so the list of next steps holds
--- exactly the legal ones. Assumes nothing.
+-- The candidates are exactly the steps that pass the checks 5 and 8. Assumes nothing.
 use Prim.Native.Nat.{ℕ, zero, suc, _+_, _≤_, _<_}
-use mathlib.Core.Path.{_≡_, refl, sym, ap, _∙_, subst}
+use mathlib.Core.Path.{_≡_, refl, sym, ap, subst}
 use mathlib.Core.Logic.{_⊎_, inl, inr}
-use mathlib.Core.Bool.{Bool, true, false}
-use mathlib.Core.List.{List, [], _∷_, _++_}
+use mathlib.Core.List.{_++_}
 use native.Mathlib.Omega.{arith}
 use native.Mathlib.Nat.{eq-or-lt-of-le}
-use borrow.Author.Tests.{eqb-true, eqb-false, lt-leb}
-use lib.Dec.{eqb}
+use borrow.Author.Tests.{lt-leb}
 use Rattle.cases.specs.declared.case.Step.{Step}
 use Rattle.cases.specs.declared.case.Program.{Program}
-use Rattle.cases.specs.Choice.{pick, both, either, refuse}
-use Rattle.cases.specs.Checks.{stepFault, stepOut, stepLeft, beyond, leftOver}
+use Rattle.cases.specs.Choice.{both, either, refuse}
+use Rattle.cases.specs.Checks.{limitsOf, queuesOf, stepFault, stepOut, stepLeft, beyond, leftOver}
 use Rattle.cases.specs.Sizes.{mostInstructions}
-use Rattle.machine.specs.declared.cells.State.{State}
-use Rattle.machine.specs.Rules.{ruleOf}
 use Rattle.machine.proofs.ListLaws.{listed-left, listed-right, listed-either}
 use Rattle.machine.proofs.RangeLaws.{InRange, fault-none, StepKinds, step-kinds}
 use Rattle.machine.specs.Next.{issueStep, moveStep, persistStep, issuesFrom, movesAt, movesFrom}
-use Rattle.machine.specs.Next.{persistsFrom, candidates, allowed, legalSteps, Listed}
-
--- among the allowed are exactly the listed ones that break no rule
-pub allowed-listed : (rule : Step → ℕ) (k : Step) (ks : List Step) → Listed k ks → rule k ≡ 0
-    → Listed k (allowed rule ks)
-unfolding allowed Listed pick
-allowed-listed rule k [] h e = h
-allowed-listed rule k (j ∷ ks) h e = go (eqb (rule j) 0) refl h (allowed-listed rule k ks)
-  where
-    go : (b : Bool) → eqb (rule j) 0 ≡ b → (k ≡ j) ⊎ Listed k ks
-        → (Listed k ks → rule k ≡ 0 → Listed k (allowed rule ks))
-        → Listed k (pick b (j ∷ allowed rule ks) (allowed rule ks))
-    go true q (inl d) ih = inl d
-    go true q (inr d) ih = inr (ih d e)
-    go false q (inl d) ih = absurd (eqb-false _ _ q (sym (ap rule d) ∙ e))
-    go false q (inr d) ih = ih d e
-
-pub listed-allowed : (rule : Step → ℕ) (k : Step) (ks : List Step) → Listed k (allowed rule ks)
-    → Listed k ks × (rule k ≡ 0)
-unfolding allowed Listed pick
-listed-allowed rule k [] h = absurd h
-listed-allowed rule k (j ∷ ks) h = go (eqb (rule j) 0) refl h (listed-allowed rule k ks)
-  where
-    go : (b : Bool) → eqb (rule j) 0 ≡ b → Listed k (pick b (j ∷ allowed rule ks) (allowed rule ks))
-        → (Listed k (allowed rule ks) → Listed k ks × (rule k ≡ 0))
-        → ((k ≡ j) ⊎ Listed k ks) × (rule k ≡ 0)
-    go true q (inl d) ih = (inl d, ap rule d ∙ eqb-true _ _ q)
-    go true q (inr d) ih = let r = ih d in (inr (r .0), r .1)
-    go false q d ih = let r = ih d in (inr (r .0), r .1)
+use Rattle.machine.specs.Next.{persistsFrom, candidates}
+use Rattle.machine.specs.Model.{Listed}
 
 -- A candidate of each kind is listed
 listed-issue : (t m i : ℕ) → t ≤ i → i < t + m → Listed (issueStep i) (issuesFrom t m)
@@ -83,23 +51,23 @@ listed-move t (suc m) i j h k l = go (eq-or-lt-of-le h) (listed-move (suc t) m i
         (listed-position t 0 mostInstructions j (omega arith) (omega arith)))
     go (inr a) ih = listed-right _ (movesAt t 0 mostInstructions) _ (ih a (omega arith) l)
 
-listed-persist : (l m i : ℕ) → l ≤ i → i < l + m → Listed (persistStep i) (persistsFrom l m)
+listed-persist : (q m i : ℕ) → q ≤ i → i < q + m → Listed (persistStep i) (persistsFrom q m)
 unfolding persistsFrom Listed
-listed-persist l zero i h k = absurd (omega arith)
-listed-persist l (suc m) i h k = go (eq-or-lt-of-le h) (listed-persist (suc l) m i)
+listed-persist q zero i h k = absurd (omega arith)
+listed-persist q (suc m) i h k = go (eq-or-lt-of-le h) (listed-persist (suc q) m i)
   where
-    go : (l ≡ i) ⊎ (l < i) → (suc l ≤ i → i < suc l + m → Listed (persistStep i) (persistsFrom (suc l) m))
-        → (persistStep i ≡ persistStep l) ⊎ Listed (persistStep i) (persistsFrom (suc l) m)
+    go : (q ≡ i) ⊎ (q < i) → (suc q ≤ i → i < suc q + m → Listed (persistStep i) (persistsFrom (suc q) m))
+        → (persistStep i ≡ persistStep q) ⊎ Listed (persistStep i) (persistsFrom (suc q) m)
     go (inl e) ih = inl (ap persistStep (sym e))
     go (inr a) ih = inr (ih a (omega arith))
 
 -- every step that passes the checks 5 and 8 is a candidate
-pub fault-candidate : (p : Program) (k : Step) → stepFault p k ≡ 0 → Listed k (candidates p)
+pub fault-candidate : (p : Program) (k : Step) → stepFault (limitsOf p) k ≡ 0 → Listed k (candidates p)
 unfolding candidates
 fault-candidate p k h = go (step-kinds p k h)
   where
     go : StepKinds p k
-        → Listed k (issuesFrom 0 (p .threads) ++ movesFrom 0 (p .threads) ++ persistsFrom 0 (p .locations))
+        → Listed k (issuesFrom 0 (p .threads) ++ movesFrom 0 (p .threads) ++ persistsFrom 0 (queuesOf p))
     go (inl x) =
         rw (x .2) (listed-left _ _ _ (listed-left _ _ _
         (listed-issue 0 (p .threads) (x .0) (omega arith) (omega arith))))
@@ -109,27 +77,27 @@ fault-candidate p k h = go (step-kinds p k h)
         (listed-move 0 (p .threads) (x .0) (x .1) (omega arith) (omega arith) n)))
     go (inr (inr x)) =
         rw (x .2) (listed-right _ (issuesFrom 0 (p .threads) ++ movesFrom 0 (p .threads)) _
-        (listed-persist 0 (p .locations) (x .0) (omega arith) (omega arith)))
+        (listed-persist 0 (queuesOf p) (x .0) (omega arith) (omega arith)))
 
 -- and every candidate is such a step
 module _ (p : Program) where
-  pub issue-fault : (t : ℕ) → t < p .threads → stepFault p (issueStep t) ≡ 0
+  pub issue-fault : (t : ℕ) → t < p .threads → stepFault (limitsOf p) (issueStep t) ≡ 0
   unfolding stepFault stepOut stepLeft beyond leftOver both either refuse
   issue-fault t h = rw (lt-leb _ _ h)
 
-  pub move-fault : (t i : ℕ) → t < p .threads → i < mostInstructions → stepFault p (moveStep t i) ≡ 0
+  pub move-fault : (t i : ℕ) → t < p .threads → i < mostInstructions → stepFault (limitsOf p) (moveStep t i) ≡ 0
   unfolding stepFault stepOut stepLeft beyond leftOver both either refuse
   move-fault t i h k = rw (lt-leb _ _ h, lt-leb _ _ k)
 
-  pub persist-fault : (l : ℕ) → l < p .locations → stepFault p (persistStep l) ≡ 0
+  pub persist-fault : (q : ℕ) → q < queuesOf p → stepFault (limitsOf p) (persistStep q) ≡ 0
   unfolding stepFault stepOut stepLeft beyond leftOver both either refuse
-  persist-fault l h = rw (lt-leb _ _ h)
+  persist-fault q h = rw (lt-leb _ _ h)
 
-  -- what holds of every issue of a thread, move of one and persist of a location that there is, holds of every
+  -- what holds of every issue of a thread, move of one and persist of a queue that there is, holds of every
   -- candidate
   module _ (P : Step → Type 0) (issue : (t : ℕ) → t < p .threads → P (issueStep t))
       (move : (t i : ℕ) → t < p .threads → i < mostInstructions → P (moveStep t i))
-      (persist : (l : ℕ) → l < p .locations → P (persistStep l)) where
+      (persist : (q : ℕ) → q < queuesOf p → P (persistStep q)) where
     issues-all : (k : Step) (t m : ℕ) → t + m ≤ p .threads → Listed k (issuesFrom t m) → P k
     unfolding issuesFrom Listed
     issues-all k t zero h e = absurd e
@@ -156,11 +124,11 @@ module _ (p : Program) where
         go (inl a) ih = positions-all k t 0 mostInstructions (omega arith) (omega arith) a
         go (inr a) ih = ih (omega arith) a
 
-    persists-all : (k : Step) (l m : ℕ) → l + m ≤ p .locations → Listed k (persistsFrom l m) → P k
+    persists-all : (k : Step) (q m : ℕ) → q + m ≤ queuesOf p → Listed k (persistsFrom q m) → P k
     unfolding persistsFrom Listed
-    persists-all k l zero h e = absurd e
-    persists-all k l (suc m) h (inl e) = subst P (sym e) (persist l (omega arith))
-    persists-all k l (suc m) h (inr e) = persists-all k (suc l) m (omega arith) e
+    persists-all k q zero h e = absurd e
+    persists-all k q (suc m) h (inl e) = subst P (sym e) (persist q (omega arith))
+    persists-all k q (suc m) h (inr e) = persists-all k (suc q) m (omega arith) e
 
     pub candidates-all : (k : Step) → Listed k (candidates p) → P k
     unfolding candidates
@@ -171,22 +139,10 @@ module _ (p : Program) where
         to (inr a) = moves-all k 0 (p .threads) (omega arith) a
 
         go : Listed k (issuesFrom 0 (p .threads) ++ movesFrom 0 (p .threads))
-            ⊎ Listed k (persistsFrom 0 (p .locations))
+            ⊎ Listed k (persistsFrom 0 (queuesOf p))
             → P k
         go (inl a) = to (listed-either k (issuesFrom 0 (p .threads)) _ a)
-        go (inr a) = persists-all k 0 (p .locations) (omega arith) a
+        go (inr a) = persists-all k 0 (queuesOf p) (omega arith) a
 
-  pub candidate-fault : (k : Step) → Listed k (candidates p) → stepFault p k ≡ 0
-  candidate-fault = candidates-all (λ k. stepFault p k ≡ 0) issue-fault move-fault persist-fault
-
--- the list of next steps holds exactly the legal ones
-module _ (p : Program) (s : State) (k : Step) where
-  pub legal-listed : stepFault p k ≡ 0 → ruleOf p s k ≡ 0 → Listed k (legalSteps p s)
-  unfolding legalSteps
-  legal-listed h e = allowed-listed (ruleOf p s) k (candidates p) (fault-candidate p k h) e
-
-  pub listed-legal : Listed k (legalSteps p s) → (stepFault p k ≡ 0) × (ruleOf p s k ≡ 0)
-  unfolding legalSteps
-  listed-legal h =
-      let a = listed-allowed (ruleOf p s) k (candidates p) h in
-      (candidate-fault p k (a .0), a .1)
+  pub candidate-fault : (k : Step) → Listed k (candidates p) → stepFault (limitsOf p) k ≡ 0
+  candidate-fault = candidates-all (λ k. stepFault (limitsOf p) k ≡ 0) issue-fault move-fault persist-fault

@@ -58,97 +58,97 @@ module _ {A : Type 0} {from end n : ℕ} {before row : List A} {i : ℕ} (o : Cl
   closing-end blank h = let e : i ≡ end = omega arith in rw (o .shifted, e)
 
 -- the words, marks and length of a queue with one more at its end
-module _ (held marks lengths : List ℕ) (l : ℕ) (h : l * room + getD lengths l 0 < length held)
-    (k : l * room + getD lengths l 0 < length marks) (x : Slot) where
-  words-push : put 0 (l * room) (getD lengths l 0) (wordsOf (queueIn held marks lengths l ++ (x ∷ []))) held
-      ≡ set held (l * room + getD lengths l 0) (x .word)
+module _ (held marks lengths : List ℕ) (q : ℕ) (h : q * room + getD lengths q 0 < length held)
+    (k : q * room + getD lengths q 0 < length marks) (x : Slot) where
+  words-push : put 0 (q * room) (getD lengths q 0) (wordsOf (queueIn held marks lengths q ++ (x ∷ []))) held
+      ≡ set held (q * room + getD lengths q 0) (x .word)
   unfolding wordsOf
   words-push =
       rw (
-        words-append (queueIn held marks lengths l) (x ∷ []),
-        words-queue held marks lengths l (omega arith) (omega arith),
+        words-append (queueIn held marks lengths q) (x ∷ []),
+        words-queue held marks lengths q (omega arith) (omega arith),
       )
       (put-push 0 held _ _ (x .word) h)
 
-  marks-push : put 0 (l * room) (getD lengths l 0) (marksOf (queueIn held marks lengths l ++ (x ∷ []))) marks
-      ≡ set marks (l * room + getD lengths l 0) (x .mark)
+  marks-push : put 0 (q * room) (getD lengths q 0) (marksOf (queueIn held marks lengths q ++ (x ∷ []))) marks
+      ≡ set marks (q * room + getD lengths q 0) (x .mark)
   unfolding marksOf marksIn
   marks-push =
       rw (
-        marks-append (queueIn held marks lengths l) (x ∷ []),
-        marks-queue held marks lengths l (omega arith) (omega arith),
+        marks-append (queueIn held marks lengths q) (x ∷ []),
+        marks-queue held marks lengths q (omega arith) (omega arith),
       )
       (put-push 0 marks _ _ (x .mark) k)
 
-  length-push : length (queueIn held marks lengths l ++ (x ∷ [])) ≡ getD lengths l 0 + 1
+  length-push : length (queueIn held marks lengths q ++ (x ∷ [])) ≡ getD lengths q 0 + 1
   length-push =
       rw (
-        length-append (queueIn held marks lengths l),
-        length-queue held marks lengths l (omega arith) (omega arith),
+        length-append (queueIn held marks lengths q),
+        length-queue held marks lengths q (omega arith) (omega arith),
       )
 
 -- and without its oldest
-module _ (held marks lengths : List ℕ) (l : ℕ) (h : l * room + getD lengths l 0 ≤ length held)
-    (k : l * room + getD lengths l 0 ≤ length marks) (some : 0 < getD lengths l 0) where
-  words-pop : put 0 (l * room) (getD lengths l 0) (wordsOf (drop 1 (queueIn held marks lengths l))) held
-      ≡ closeGap 0 (l * room) (l * room + getD lengths l 0) held
+module _ (held marks lengths : List ℕ) (q : ℕ) (h : q * room + getD lengths q 0 ≤ length held)
+    (k : q * room + getD lengths q 0 ≤ length marks) (some : 0 < getD lengths q 0) where
+  words-pop : put 0 (q * room) (getD lengths q 0) (wordsOf (drop 1 (queueIn held marks lengths q))) held
+      ≡ closeGap 0 (q * room) (q * room + getD lengths q 0) held
   unfolding without
   words-pop =
-      rw (words-drop 1 (queueIn held marks lengths l), words-queue held marks lengths l h k)
-      (put-without 0 held (l * room) _ 0 some h ∙ rw add-zero)
+      rw (words-drop 1 (queueIn held marks lengths q), words-queue held marks lengths q h k)
+      (put-without 0 held (q * room) _ 0 some h ∙ rw add-zero)
 
-  marks-pop : put 0 (l * room) (getD lengths l 0) (marksOf (drop 1 (queueIn held marks lengths l))) marks
-      ≡ closeGap 0 (l * room) (l * room + getD lengths l 0) marks
+  marks-pop : put 0 (q * room) (getD lengths q 0) (marksOf (drop 1 (queueIn held marks lengths q))) marks
+      ≡ closeGap 0 (q * room) (q * room + getD lengths q 0) marks
   unfolding without marksIn
   marks-pop =
-      rw (marks-drop 1 (queueIn held marks lengths l), marks-queue held marks lengths l h k)
-      (put-without 0 marks (l * room) _ 0 some k ∙ rw add-zero)
+      rw (marks-drop 1 (queueIn held marks lengths q), marks-queue held marks lengths q h k)
+      (put-without 0 marks (q * room) _ 0 some k ∙ rw add-zero)
 
-  length-pop : length (drop 1 (queueIn held marks lengths l)) ≡ getD lengths l 0 - 1
-  length-pop = rw (length-drop, length-queue held marks lengths l h k)
+  length-pop : length (drop 1 (queueIn held marks lengths q)) ≡ getD lengths q 0 - 1
+  length-pop = rw (length-drop, length-queue held marks lengths q h k)
 
 -- what the code makes of the state as it changes a queue
-module _ (s : State) (l : ℕ) (h : length (s .held) ≡ allSlots) (k : length (s .marks) ≡ allSlots)
-    (low : l < mostLocations) where
-  pub enqueue-is : (x : Slot) → queueLen s l < room
+module _ (s : State) (q : ℕ) (h : length (s .held) ≡ allSlots) (k : length (s .marks) ≡ allSlots)
+    (low : q < mostLocations) where
+  pub enqueue-is : (x : Slot) → queueLen s q < room
       → record {
         words = s .words;
-        held = set (s .held) (l * room + queueLen s l) (x .word);
-        marks = set (s .marks) (l * room + queueLen s l) (x .mark);
-        lengths = set (s .lengths) l (queueLen s l + 1);
+        held = set (s .held) (q * room + queueLen s q) (x .word);
+        marks = set (s .marks) (q * room + queueLen s q) (x .mark);
+        lengths = set (s .lengths) q (queueLen s q + 1);
         buffers = s .buffers;
         waiting = s .waiting;
         registers = s .registers;
         issued = s .issued;
-      } ≡ enqueue s l x
+      } ≡ enqueue s q x
   unfolding enqueue withQueue
   enqueue-is x less =
       rw (
-        words-push (s .held) (s .marks) (s .lengths) l (omega arith) (omega arith) x,
-        marks-push (s .held) (s .marks) (s .lengths) l (omega arith) (omega arith) x,
-        length-push (s .held) (s .marks) (s .lengths) l (omega arith) (omega arith) x,
+        words-push (s .held) (s .marks) (s .lengths) q (omega arith) (omega arith) x,
+        marks-push (s .held) (s .marks) (s .lengths) q (omega arith) (omega arith) x,
+        length-push (s .held) (s .marks) (s .lengths) q (omega arith) (omega arith) x,
       )
       refl
 
-  pub dequeue-is : (held marks : List ℕ) → 0 < queueLen s l → queueLen s l ≤ room
-      → held ≡ closeGap 0 (l * room) (l * room + queueLen s l) (s .held)
-      → marks ≡ closeGap 0 (l * room) (l * room + queueLen s l) (s .marks)
+  pub dequeue-is : (held marks : List ℕ) → 0 < queueLen s q → queueLen s q ≤ room
+      → held ≡ closeGap 0 (q * room) (q * room + queueLen s q) (s .held)
+      → marks ≡ closeGap 0 (q * room) (q * room + queueLen s q) (s .marks)
       → record {
         words = s .words;
         held = held;
         marks = marks;
-        lengths = set (s .lengths) l (queueLen s l - 1);
+        lengths = set (s .lengths) q (queueLen s q - 1);
         buffers = s .buffers;
         waiting = s .waiting;
         registers = s .registers;
         issued = s .issued;
-      } ≡ withQueue s l (drop 1 (queue s l))
+      } ≡ withQueue s q (drop 1 (queue s q))
   unfolding withQueue
   dequeue-is held marks some most e f =
       rw (
-        words-pop (s .held) (s .marks) (s .lengths) l (omega arith) (omega arith) some,
-        marks-pop (s .held) (s .marks) (s .lengths) l (omega arith) (omega arith) some,
-        length-pop (s .held) (s .marks) (s .lengths) l (omega arith) (omega arith) some,
+        words-pop (s .held) (s .marks) (s .lengths) q (omega arith) (omega arith) some,
+        marks-pop (s .held) (s .marks) (s .lengths) q (omega arith) (omega arith) some,
+        length-pop (s .held) (s .marks) (s .lengths) q (omega arith) (omega arith) some,
         e,
         f,
       )

@@ -1,5 +1,5 @@
 -- Laws of the test of a state's fit, for each point of the code that makes it: loops through the entries of a
--- buffer, the marks of a queue, the threads or the locations; loops that sum; chains of tests. Assumes nothing.
+-- buffer, the marks of a queue, the threads or the queues; loops that sum; chains of tests. Assumes nothing.
 use Prim.Native.Nat.{ℕ, zero, suc, _+_, _*_, _≤_, _<_}
 use mathlib.Core.Path.{_≡_, refl}
 use mathlib.Core.Logic.{_⊎_, inl, inr}
@@ -15,7 +15,7 @@ use mir.Val.{Fits}
 use Rattle.cases.specs.declared.case.Program.{Program}
 use Rattle.cases.specs.Choice.{both, either}
 use Rattle.cases.specs.Sizes.{mostThreads, mostInstructions}
-use Rattle.cases.specs.Checks.{countAt}
+use Rattle.cases.specs.Checks.{countAt, queuesOf}
 use Rattle.machine.specs.declared.cells.State.{State}
 use Rattle.machine.specs.declared.cells.Waiting.{Waiting}
 use Rattle.machine.specs.Sizes.{room}
@@ -178,22 +178,22 @@ module _ (p : Program) (s : State) (t : ℕ) where
           )
           q
 
--- queueMisfits: there is no such location; too much may come; else a mark of another thread
-module _ (p : Program) (s : State) (l : ℕ) where
-  pub queue-lacked : p .locations ≤ l → ltb 0 (queueLen s l) ≡ true → true ≡ queueMisfits p s l
+-- queueMisfits: there is no such queue; too much may come; else a mark of another thread
+module _ (p : Program) (s : State) (q queues : ℕ) (many : queues ≡ queuesOf p) where
+  pub queue-lacked : queues ≤ q → ltb 0 (queueLen s q) ≡ true → true ≡ queueMisfits p s q
   unfolding queueMisfits either
-  queue-lacked k e = rw (lacked-some (p .locations) l (queueLen s l) k e)
+  queue-lacked k e = rw (← many, lacked-some queues q (queueLen s q) k e)
 
-  module _ {A B : Type 0} (k : A ⊎ B) (f : A → ltb 0 (queueLen s l) ≡ false) (g : B → l < p .locations)
+  module _ {A B : Type 0} (k : A ⊎ B) (f : A → ltb 0 (queueLen s q) ≡ false) (g : B → q < queues)
       (n : ℕ) (e : n ≡ due p s) where
-    pub queue-full : room < queueLen s l + n → true ≡ queueMisfits p s l
+    pub queue-full : room < queueLen s q + n → true ≡ queueMisfits p s q
     unfolding queueMisfits either
     queue-full h =
-        rw (lacked-none (p .locations) l (queueLen s l) k f g, ← e, lt-ltb room (queueLen s l + n) h)
+        rw (← many, lacked-none queues q (queueLen s q) k f g, ← e, lt-ltb room (queueLen s q + n) h)
 
-    pub queue-rest : queueLen s l + n ≤ room → (r : Bool)
-        → r ≡ anyForeign (p .threads) (marksIn (s .marks) (s .lengths) l)
-        → r ≡ queueMisfits p s l
+    pub queue-rest : queueLen s q + n ≤ room → (r : Bool)
+        → r ≡ anyForeign (p .threads) (marksIn (s .marks) (s .lengths) q)
+        → r ≡ queueMisfits p s q
     unfolding queueMisfits either
-    queue-rest h r q =
-        rw (lacked-none (p .locations) l (queueLen s l) k f g, ← e, le-ltb room (queueLen s l + n) h) q
+    queue-rest h r w =
+        rw (← many, lacked-none queues q (queueLen s q) k f g, ← e, le-ltb room (queueLen s q + n) h) w

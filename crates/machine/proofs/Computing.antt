@@ -1,8 +1,10 @@
 -- What to unfold so that a definition of the machine computes, as in `cases`. Assumes nothing.
 use Prim.Native.Nat.{ℕ}
 use Rattle.cases.proofs.Computing.{reading-computes}
-use Rattle.machine.specs.View.{part, put, without, slots, wordsOf, marksOf, marksIn, queueIn, withQueue}
-use Rattle.machine.specs.View.{bufferIn, withBuffer, withWord, withRegister, withIssued}
+use Rattle.cases.specs.Checks.{queuesOf}
+use Rattle.machine.specs.View.{part, put, without, slots, wordsOf, marksOf, queueOf, homeOf, marksIn}
+use Rattle.machine.specs.View.{queueIn, withQueue, bufferIn, withBuffer, withWord, withRegister}
+use Rattle.machine.specs.View.{withIssued}
 use Rattle.machine.specs.Look.{wordOr, newestWrite, storedOr, newestStore, queuedWord, loadOf}
 use Rattle.machine.specs.Look.{markerAmong, markerFrom, markerOf, marked, bars, firstBar}
 use Rattle.machine.specs.Rules.{enqueue, await, barrierRule, isBarrier, operationRule, issueRule, entryOf}
@@ -11,18 +13,18 @@ use Rattle.machine.specs.Rules.{moveRule, moveOf, persistRule, persistFi
 use Rattle.machine.specs.Rules.{nextOf, startOf}
 use Rattle.machine.specs.Fit.{sumTo, unissued}
 use Rattle.machine.specs.Work.{unissuedWeight, waitingWeight, weighCode, weighBuffer, unissuedCode}
-use Rattle.machine.specs.Work.{threadWork, work, fullLength}
+use Rattle.machine.specs.Work.{threadWork, work}
+use Rattle.machine.specs.Model.{fullLength, allowed, legalSteps}
 use Rattle.machine.specs.Judge.{judged, judgeFrom, judgeRun, judgeBytes}
-use Rattle.machine.specs.Next.{issuesFrom, movesAt, movesFrom, persistsFrom, candidates, allowed}
-use Rattle.machine.specs.Next.{legalSteps}
+use Rattle.machine.specs.Next.{issuesFrom, movesAt, movesFrom, persistsFrom, candidates}
 
 -- ruleOf and nextOf
 unfoldable pub steps-compute : ℕ
-unfolding part put without slots wordsOf marksOf marksIn queueIn withQueue bufferIn withBuffer withWord
-    withRegister withIssued wordOr newestWrite storedOr newestStore queuedWord loadOf markerAmong markerFrom
-    markerOf marked bars firstBar enqueue await barrierRule isBarrier operationRule issueRule entryOf loaded exchanged
-    performed issueOf effectRule effectOf passRule moveRule moveOf persistRule persistFirst persistOf ruleIn
-    ruleOf nextOf startOf
+unfolding part put without slots wordsOf marksOf queueOf homeOf marksIn queueIn withQueue bufferIn withBuffer
+    withWord withRegister withIssued wordOr newestWrite storedOr newestStore queuedWord loadOf markerAmong
+    markerFrom markerOf marked bars firstBar enqueue await barrierRule isBarrier operationRule issueRule
+    entryOf loaded exchanged performed issueOf effectRule effectOf passRule moveRule moveOf persistRule
+    persistFirst persistOf ruleIn ruleOf nextOf startOf
 steps-compute = 0
 
 -- work and fullLength
@@ -33,7 +35,7 @@ work-computes = 0
 
 -- legalSteps
 unfoldable pub next-computes : ℕ
-unfolding steps-compute issuesFrom movesAt movesFrom persistsFrom candidates allowed legalSteps
+unfolding steps-compute queuesOf issuesFrom movesAt movesFrom persistsFrom candidates allowed legalSteps
 next-computes = 0
 
 -- judgeBytes

@@ -24,6 +24,7 @@ use Rattle.machine.specs.declared.cells.Entry.{Entry}
 use Rattle.machine.specs.declared.cells.Entry.the-variants.{Store, Flush, FlushOpt, Sfence}
 use Rattle.machine.specs.View.{without, queue, bufferIn, buffer, bufferLen, withBuffer, wordOf}
 use Rattle.machine.specs.View.{issuedOf, withIssued}
+use Rattle.machine.specs.Parts.{partsOf}
 use Rattle.machine.specs.Rules.{instructionAt, entryAt, isBarrier, barrierRule, operationRule}
 use Rattle.machine.specs.Rules.{issueRule, issueOf, effectRule, passRule, moveRule, moveOf, ruleIn}
 use Rattle.machine.specs.Rules.{ruleOf, nextOf}
@@ -54,7 +55,7 @@ module _ (p : Program) (s : State) (f : Fits p s) (t : ℕ) (low : t < p .thread
 
   issue-adds : Adds (withIssued s t (issuedOf s t + 1)) (nextOf p s (issueStep t)) t
       (joins (s .registers) t next)
-      (λ l. exchanges l next)
+      (λ q. exchanges p q next)
   unfolding nextOf pick issueOf withIssued
   issue-adds =
       let x = f .program .instructions t (issuedOf s t) issue-left .1 in
@@ -76,8 +77,8 @@ module _ (p : Program) (s : State) (f : Fits p s) (t : ℕ) (low : t < p .thread
   unfolding withIssued
   issue-buffer-other = issue-adds .others
 
-  pub issue-queue : (l : ℕ) → l < mostLocations
-      → queue (nextOf p s (issueStep t)) l ≡ queue s l ++ exchanges l next
+  pub issue-queue : (q : ℕ) → q < mostLocations
+      → queue (nextOf p s (issueStep t)) q ≡ queue s q ++ exchanges p q next
   unfolding withIssued
   issue-queue = issue-adds .queues
 
@@ -94,12 +95,13 @@ module _ (p : Program) (s : State) (f : Fits p s) (t : ℕ) (low : t < p .thread
       part-none _ _ _ (omega arith)
 
 -- Move: the entry is taken out, and adds what it adds
-pass-is : (b : List Waiting) (i : ℕ) (e : Entry) → passRule b i e ≡ 0 → (l : Location) × (e ≡ FlushOpt l)
+pass-is : (p : Program) (b : List Waiting) (i : ℕ) (e : Entry) → passRule p b i e ≡ 0
+    → (l : Location) × (e ≡ FlushOpt l)
 unfolding passRule
-pass-is b i (Store w) h = absurd (omega arith)
-pass-is b i (Flush l) h = absurd (omega arith)
-pass-is b i (FlushOpt l) h = (l, refl)
-pass-is b i Sfence h = absurd (omega arith)
+pass-is p b i (Store w) h = absurd (omega arith)
+pass-is p b i (Flush l) h = absurd (omega arith)
+pass-is p b i (FlushOpt l) h = (l, refl)
+pass-is p b i Sfence h = absurd (omega arith)
 
 module _ (p : Program) (s : State) (f : Fits p s) (t i : ℕ) (low : t < p .threads)
     (legal : ruleOf p s (moveStep t i) ≡ 0) where
@@ -129,14 +131,14 @@ module _ (p : Program) (s : State) (f : Fits p s) (t i : ℕ) (low : t < p .thre
   move-first-or = go (eqb i 0) refl (refuse-none _ 23 _ legal .1)
     where
       go : (a : Bool) → eqb i 0 ≡ a
-          → pick a (effectRule (s .marks) (s .lengths) t (entryAt (buffer s t) i))
-          (passRule (buffer s t) i (entryAt (buffer s t) i)) ≡ 0
+          → pick a (effectRule p (partsOf s) t (entryAt (buffer s t) i))
+          (passRule p (buffer s t) i (entryAt (buffer s t) i)) ≡ 0
           → (i ≡ 0) ⊎ ((l : Location) × (entryAt (buffer s t) i ≡ FlushOpt l))
       go true e h = inl (eqb-true _ _ e)
-      go false e h = inr (pass-is _ i _ h)
+      go false e h = inr (pass-is p _ i _ h)
 
   move-adds : Adds (withBuffer s t (without i (buffer s t))) (nextOf p s (moveStep t i)) t []
-      (λ l. enters t l (entryAt (buffer s t) i))
+      (λ q. enters p t q (entryAt (buffer s t) i))
   unfolding ruleOf ruleIn nextOf pick moveOf
   move-adds =
       effect-adds p _ t (taken-spare p s f t i low (move-there p s f t i low legal)) low _
@@ -156,8 +158,8 @@ module _ (p : Program) (s : State) (f : Fits p s) (t i : ℕ) (low : t < p .thre
       move-adds .others k h e
       ∙ buffer-other s (f .sized) t in-threads within _ shorter k e (buffer-within p s f k h)
 
-  pub move-queue : (l : ℕ) → l < mostLocations
-      → queue (nextOf p s (moveStep t i)) l ≡ queue s l ++ enters t l (entryAt (buffer s t) i)
+  pub move-queue : (q : ℕ) → q < mostLocations
+      → queue (nextOf p s (moveStep t i)) q ≡ queue s q ++ enters p t q (entryAt (buffer s t) i)
   unfolding withBuffer
   move-queue = move-adds .queues
 

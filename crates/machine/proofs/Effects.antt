@@ -1,34 +1,35 @@
--- What each step does to each part of the state, registers aside, with buffers and queues seen as lists: beside
--- Promises, all that the layers above may cite of the machine. Each law is stated in full. Assumes nothing.
+-- What each step does to each part of the state, registers aside, with buffers and queues seen as lists, and to
+-- the words on their way to each location, whichever queue they go through: beside Promises, all that the
+-- layers above may cite of the machine. Each law is stated in full. Assumes nothing.
 use Prim.Native.Nat.{ℕ, suc, _<_}
 use mathlib.Core.Path.{_≡_}
 use mathlib.Core.Logic.{_⊎_, _≢_}
-use mathlib.Core.List.{[], _∷_, _++_}
+use mathlib.Core.List.{List, [], _∷_, _++_}
 use lib.ListN.{length, getD}
 use Rattle.cases.specs.declared.case.Location.{Location}
 use Rattle.cases.specs.declared.case.Step.{Step}
 use Rattle.cases.specs.declared.case.Program.{Program}
 use Rattle.cases.specs.Sizes.{mostThreads, mostLocations}
-use Rattle.cases.specs.Checks.{stepFault, countAt}
+use Rattle.cases.specs.Checks.{limitsOf, queuesOf, stepFault, countAt}
 use Rattle.cases.specs.Operations.{exchange}
 use Rattle.machine.specs.declared.cells.State.{State}
 use Rattle.machine.specs.declared.cells.Entry.the-variants.{FlushOpt}
 use Rattle.machine.specs.View.{Slot, without, queue, buffer, wordOf, issuedOf}
-use Rattle.machine.specs.Look.{wordOr}
 use Rattle.machine.specs.Rules.{instructionAt, entryAt, ruleOf, nextOf, startOf}
-use Rattle.machine.specs.Joins.{joins, exchanges, enters}
+use Rattle.machine.specs.Joins.{joins, exchanges, enters, storeOf, swapOf, onWay, lastOr}
 use Rattle.machine.specs.Fit.{Fits}
 use Rattle.machine.specs.Next.{issueStep, moveStep, persistStep}
 use Rattle.machine.proofs.RangeLaws as RangeLaws
 use Rattle.machine.proofs.StartLaws as StartLaws
 use Rattle.machine.proofs.EffectLaws as EffectLaws
 use Rattle.machine.proofs.PersistLaws as PersistLaws
+use Rattle.machine.proofs.WordLaws as WordLaws
 
 -- a step that passes the checks 5 and 8 is an issue, a move or a persist
-pub step-kinds : (p : Program) (k : Step) → stepFault p k ≡ 0
+pub step-kinds : (p : Program) (k : Step) → stepFault (limitsOf p) k ≡ 0
     → ((t : ℕ) × (t < p .threads) × (k ≡ issueStep t))
     ⊎ ((t : ℕ) × (i : ℕ) × (t < p .threads) × (k ≡ moveStep t i))
-    ⊎ ((l : ℕ) × (l < p .locations) × (k ≡ persistStep l))
+    ⊎ ((q : ℕ) × (q < queuesOf p) × (k ≡ persistStep q))
 step-kinds = RangeLaws.step-kinds
 
 -- "a run starts from the first contents, nothing queued, waiting or issued"
@@ -36,7 +37,7 @@ module _ (p : Program) where
   pub start-buffer : (t : ℕ) → buffer (startOf p) t ≡ []
   start-buffer = StartLaws.start-buffer p
 
-  pub start-queue : (l : ℕ) → queue (startOf p) l ≡ []
+  pub start-queue : (q : ℕ) → queue (startOf p) q ≡ []
   start-queue = StartLaws.start-queue p
 
   pub start-issued : (t : ℕ) → issuedOf (startOf p) t ≡ 0
@@ -44,6 +45,9 @@ module _ (p : Program) where
 
   pub start-word : (l : ℕ) → wordOf (startOf p) l ≡ getD (p .first) l 0
   start-word = StartLaws.start-word p
+
+  pub start-words : (l : ℕ) → onWay p (startOf p) l ≡ []
+  start-words = WordLaws.start-words p
 
 -- A state that fits its program
 module _ (p : Program) (s : State) (fit : Fits p s) where
@@ -66,12 +70,16 @@ module _ (p : Program) (s : State) (fit : Fits p s) where
         → buffer (nextOf p s (issueStep t)) k ≡ buffer s k
     issue-buffer-other = EffectLaws.issue-buffer-other p s fit t low legal
 
-    pub issue-queue : (l : ℕ) → l < mostLocations
-        → queue (nextOf p s (issueStep t)) l ≡ queue s l ++ exchanges l (instructionAt p t (issuedOf s t))
+    pub issue-queue : (q : ℕ) → q < mostLocations
+        → queue (nextOf p s (issueStep t)) q ≡ queue s q ++ exchanges p q (instructionAt p t (issuedOf s t))
     issue-queue = EffectLaws.issue-queue p s fit t low legal
 
     pub issue-word : (l : ℕ) → wordOf (nextOf p s (issueStep t)) l ≡ wordOf s l
     issue-word = EffectLaws.issue-word p s fit t low legal
+
+    pub issue-words : (l : ℕ) → l < p .locations
+        → onWay p (nextOf p s (issueStep t)) l ≡ onWay p s l ++ swapOf l (instructionAt p t (issuedOf s t))
+    issue-words = WordLaws.issue-words p s fit t low legal
 
     -- "Exchange and mfence need the own buffer empty (else 22)": of the exchange
     pub exchange-alone : instructionAt p t (issuedOf s t) .operation ≡ exchange → buffer s t ≡ []
@@ -96,28 +104,33 @@ module _ (p : Program) (s : State) (fit : Fits p s) where
         → buffer (nextOf p s (moveStep t i)) k ≡ buffer s k
     move-buffer-other = EffectLaws.move-buffer-other p s fit t i low legal
 
-    pub move-queue : (l : ℕ) → l < mostLocations
-        → queue (nextOf p s (moveStep t i)) l ≡ queue s l ++ enters t l (entryAt (buffer s t) i)
+    pub move-queue : (q : ℕ) → q < mostLocations
+        → queue (nextOf p s (moveStep t i)) q ≡ queue s q ++ enters p t q (entryAt (buffer s t) i)
     move-queue = EffectLaws.move-queue p s fit t i low legal
 
     pub move-word : (l : ℕ) → wordOf (nextOf p s (moveStep t i)) l ≡ wordOf s l
     move-word = EffectLaws.move-word p s fit t i low legal
 
+    pub move-words : (l : ℕ) → l < p .locations
+        → onWay p (nextOf p s (moveStep t i)) l ≡ onWay p s l ++ storeOf l (entryAt (buffer s t) i)
+    move-words = WordLaws.move-words p s fit t i low legal
+
   -- what a persist does to each part
-  module _ (l : ℕ) (low : l < p .locations) (legal : ruleOf p s (persistStep l) ≡ 0) where
-    pub persist-issued : (k : ℕ) → issuedOf (nextOf p s (persistStep l)) k ≡ issuedOf s k
-    persist-issued = PersistLaws.persist-issued p s fit l low legal
+  module _ (q : ℕ) (low : q < queuesOf p) (legal : ruleOf p s (persistStep q) ≡ 0) where
+    pub persist-issued : (k : ℕ) → issuedOf (nextOf p s (persistStep q)) k ≡ issuedOf s k
+    persist-issued = PersistLaws.persist-issued p s fit q low legal
 
-    pub persist-buffer : (t : ℕ) → buffer (nextOf p s (persistStep l)) t ≡ buffer s t
-    persist-buffer = PersistLaws.persist-buffer p s fit l low legal
+    pub persist-buffer : (t : ℕ) → buffer (nextOf p s (persistStep q)) t ≡ buffer s t
+    persist-buffer = PersistLaws.persist-buffer p s fit q low legal
 
-    pub persist-queue : (h : Slot) × (queue s l ≡ h ∷ queue (nextOf p s (persistStep l)) l)
-        × (wordOf (nextOf p s (persistStep l)) l ≡ wordOr h (wordOf s l))
-    persist-queue = PersistLaws.persist-queue p s fit l low legal
+    pub persist-queue : (h : Slot) × (queue s q ≡ h ∷ queue (nextOf p s (persistStep q)) q)
+    persist-queue = PersistLaws.persist-queue p s fit q low legal
 
-    pub persist-queue-other : (m : ℕ) → m < mostLocations → m ≢ l
-        → queue (nextOf p s (persistStep l)) m ≡ queue s m
-    persist-queue-other = PersistLaws.persist-queue-other p s fit l low legal
+    pub persist-queue-other : (m : ℕ) → m < mostLocations → m ≢ q
+        → queue (nextOf p s (persistStep q)) m ≡ queue s m
+    persist-queue-other = PersistLaws.persist-queue-other p s fit q low legal
 
-    pub persist-word-other : (m : ℕ) → m ≢ l → wordOf (nextOf p s (persistStep l)) m ≡ wordOf s m
-    persist-word-other = PersistLaws.persist-word-other p s fit l low legal
+    pub persist-words : (l : ℕ) → l < p .locations
+        → (out : List ℕ) × (onWay p s l ≡ out ++ onWay p (nextOf p s (persistStep q)) l)
+        × (wordOf (nextOf p s (persistStep q)) l ≡ lastOr out (wordOf s l))
+    persist-words = WordLaws.persist-words p s fit q low legal

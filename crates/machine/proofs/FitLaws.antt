@@ -13,7 +13,7 @@ use Rattle.cases.specs.Sizes.{mostThreads, mostInstructions, mostLocations}
 use Rattle.cases.specs.Writing.{readsBack}
 use Rattle.cases.proofs.ChoiceLaws.{either-false}
 use Rattle.cases.proofs.Promises.{readable-ranged}
-use Rattle.cases.specs.Checks.{countAt}
+use Rattle.cases.specs.Checks.{countAt, queuesOf}
 use Rattle.machine.specs.declared.cells.State.{State}
 use Rattle.machine.specs.declared.cells.Waiting.{Waiting}
 use Rattle.machine.specs.declared.cells.Entry.{Entry}
@@ -31,7 +31,7 @@ either-none : (a b : Bool) → a ≡ false → b ≡ false → either a b ≡ fa
 unfolding either
 either-none a b h k = rw (h, k)
 
--- nothing stands where the program has no such thread or location
+-- nothing stands where the program has no such thread or queue
 none-is : (m i n : ℕ) → both (leb m i) (ltb 0 n) ≡ false → m ≤ i → n ≡ 0
 unfolding both
 none-is m i n h l = let e = ltb-false 0 n (rw (le-leb m i l) at h) in omega arith
@@ -83,17 +83,17 @@ unfolding anyForeign AllBorne
 is-borne n [] h = refl
 is-borne n (m ∷ ms) h = either-none _ _ (le-ltb _ _ (h .0)) (is-borne n ms (h .1))
 
--- a thread's part, and a location's
+-- a thread's part, and a queue's
 record ThreadFits (p : Program) (s : State) (t : ℕ) : Type 0 where
   few-issued : issuedOf s t ≤ countAt p t
   no-buffer : p .threads ≤ t → bufferLen s t ≡ 0
   few-waiting : bufferLen s t + unissued p s t ≤ mostInstructions
   named : AllNamed (p .locations) (buffer s t)
 
-record QueueFits (p : Program) (s : State) (l : ℕ) : Type 0 where
-  no-queue : p .locations ≤ l → queueLen s l ≡ 0
-  few-queued : queueLen s l + due p s ≤ room
-  borne : AllBorne (p .threads) (marksIn (s .marks) (s .lengths) l)
+record QueueFits (p : Program) (s : State) (q : ℕ) : Type 0 where
+  no-queue : queuesOf p ≤ q → queueLen s q ≡ 0
+  few-queued : queueLen s q + due p s ≤ room
+  borne : AllBorne (p .threads) (marksIn (s .marks) (s .lengths) q)
 
 module _ (p : Program) (s : State) where
   thread-is : (t : ℕ) → threadMisfits p s t ≡ false → ThreadFits p s t
@@ -117,9 +117,9 @@ module _ (p : Program) (s : State) where
       (either-none _ _ (le-ltb _ _ (f .few-waiting))
       (is-all-named _ _ (f .named))))
 
-  queue-is : (l : ℕ) → queueMisfits p s l ≡ false → QueueFits p s l
+  queue-is : (q : ℕ) → queueMisfits p s q ≡ false → QueueFits p s q
   unfolding queueMisfits
-  queue-is l h =
+  queue-is q h =
       let a = either-false _ _ h in
       let b = either-false _ _ (a .1) in
       record {
@@ -128,9 +128,9 @@ module _ (p : Program) (s : State) where
         borne = borne-is _ _ (b .1);
       }
 
-  is-queue : (l : ℕ) → QueueFits p s l → queueMisfits p s l ≡ false
+  is-queue : (q : ℕ) → QueueFits p s q → queueMisfits p s q ≡ false
   unfolding queueMisfits
-  is-queue l f =
+  is-queue q f =
       either-none _ _ (is-none _ _ _ (f .no-queue))
       (either-none _ _ (le-ltb _ _ (f .few-queued))
       (is-borne _ _ (f .borne)))
@@ -144,25 +144,25 @@ module _ (p : Program) (s : State) where
         sized = z;
         few-issued = λ t k. thread t k .few-issued;
         few-waiting = λ t k. thread t k .few-waiting;
-        few-queued = λ l k. queue l k .few-queued;
+        few-queued = λ q k. queue q k .few-queued;
         no-buffer = λ t k. thread t k .no-buffer;
-        no-queue = λ l k. queue l k .no-queue;
+        no-queue = λ q k. queue q k .no-queue;
         named = λ t k. thread t k .named;
-        borne = λ l k. queue l k .borne;
+        borne = λ q k. queue q k .borne;
       }
     where
       thread : (t : ℕ) → t < mostThreads → ThreadFits p s t
       thread t k = thread-is t (any-none _ 0 mostThreads t (either-false _ _ h .0) (omega arith) (omega arith))
 
-      queue : (l : ℕ) → l < mostLocations → QueueFits p s l
-      queue l k = queue-is l (any-none _ 0 mostLocations l (either-false _ _ h .1) (omega arith) (omega arith))
+      queue : (q : ℕ) → q < mostLocations → QueueFits p s q
+      queue q k = queue-is q (any-none _ 0 mostLocations q (either-false _ _ h .1) (omega arith) (omega arith))
 
   -- and back
   pub is-fits : Fits p s → misfits p s ≡ false
   unfolding misfits
   is-fits f =
       either-none _ _ (none-any _ 0 mostThreads (λ t a b. is-thread t (thread t (omega arith))))
-      (none-any _ 0 mostLocations (λ l a b. is-queue l (queue l (omega arith))))
+      (none-any _ 0 mostLocations (λ q a b. is-queue q (queue q (omega arith))))
     where
       thread : (t : ℕ) → t < mostThreads → ThreadFits p s t
       thread t k =
@@ -173,12 +173,12 @@ module _ (p : Program) (s : State) where
             named = f .named t k;
           }
 
-      queue : (l : ℕ) → l < mostLocations → QueueFits p s l
-      queue l k =
+      queue : (q : ℕ) → q < mostLocations → QueueFits p s q
+      queue q k =
           record {
-            no-queue = f .no-queue l k;
-            few-queued = f .few-queued l k;
-            borne = f .borne l k;
+            no-queue = f .no-queue q k;
+            few-queued = f .few-queued q k;
+            borne = f .borne q k;
           }
 
 -- the program of a case that passes 32 fits: with a state that passes 33, and where its runs start

@@ -32,8 +32,8 @@ module _ (t : ℕ) where
 
   -- one queue's marks: there is a first one, or none and what comes after is the answer
   abbrev InQueue : ℕ → ℕ → List ℕ → Found → Found → Type 0
-  InQueue l i ms after x =
-      ((j : ℕ) × FirstMark ms j × (x ≡ At (record { 0 = l }) (i + j))) ⊎ (Unmarked ms × (x ≡ after))
+  InQueue q i ms after x =
+      ((j : ℕ) × FirstMark ms j × (x ≡ At (record { 0 = q }) (i + j))) ⊎ (Unmarked ms × (x ≡ after))
 
   unmarked-next : (m : ℕ) (ms : List ℕ) → m ≢ t + 1 → Unmarked ms → Unmarked (m ∷ ms)
   unmarked-next m ms e h zero = e
@@ -46,30 +46,30 @@ module _ (t : ℕ) where
       before zero h = e
       before (suc k) h = f .none k (omega arith)
 
-  in-queue : (l i : ℕ) (ms : List ℕ) (after : Found) → InQueue l i ms after (markerAmong t l i ms after)
+  in-queue : (q i : ℕ) (ms : List ℕ) (after : Found) → InQueue q i ms after (markerAmong t q i ms after)
   unfolding markerAmong pick
-  in-queue l i [] after = inr ((λ k e. omega arith), refl)
-  in-queue l i (m ∷ ms) after = go (eqb m (t + 1)) refl (in-queue l (suc i) ms after)
+  in-queue q i [] after = inr ((λ k e. omega arith), refl)
+  in-queue q i (m ∷ ms) after = go (eqb m (t + 1)) refl (in-queue q (suc i) ms after)
     where
-      later : m ≢ t + 1 → InQueue l (suc i) ms after (markerAmong t l (suc i) ms after)
-          → InQueue l i (m ∷ ms) after (markerAmong t l (suc i) ms after)
+      later : m ≢ t + 1 → InQueue q (suc i) ms after (markerAmong t q (suc i) ms after)
+          → InQueue q i (m ∷ ms) after (markerAmong t q (suc i) ms after)
       later n (inl (j, f, e)) =
           let same : suc i + j ≡ i + suc j = omega arith in
-          inl (suc j, first-next m ms j n f, e ∙ ap (λ k. At (record { 0 = l }) k) same)
+          inl (suc j, first-next m ms j n f, e ∙ ap (λ k. At (record { 0 = q }) k) same)
       later n (inr (h, e)) = inr (unmarked-next m ms n h, e)
 
-      go : (b : Bool) → eqb m (t + 1) ≡ b → InQueue l (suc i) ms after (markerAmong t l (suc i) ms after)
-          → InQueue l i (m ∷ ms) after (pick b (At (record { 0 = l }) i) (markerAmong t l (suc i) ms after))
+      go : (b : Bool) → eqb m (t + 1) ≡ b → InQueue q (suc i) ms after (markerAmong t q (suc i) ms after)
+          → InQueue q i (m ∷ ms) after (pick b (At (record { 0 = q }) i) (markerAmong t q (suc i) ms after))
       go true e r =
           let same : i ≡ i + 0 = omega arith in
           inl (
             0,
             record { within = omega arith; mark = eqb-true _ _ e; none = λ k h. absurd (omega arith) },
-            ap (λ k. At (record { 0 = l }) k) same,
+            ap (λ k. At (record { 0 = q }) k) same,
           )
       go false e r = later (eqb-false _ _ e) r
 
-  -- the n queues from l on
+  -- the n queues from q on
   module _ (marks lengths : List ℕ) where
     -- x is the first marker of the queues `from` to `end`, `end` left out
     record FirstFrom (from end : ℕ) (x : Found) : Type 0 where
@@ -78,35 +78,35 @@ module _ (t : ℕ) where
       not-before : from ≤ queue
       low : queue < end
       first : FirstMark (marksIn marks lengths queue) position
-      none : (l : ℕ) → from ≤ l → l < queue → Unmarked (marksIn marks lengths l)
+      none : (q : ℕ) → from ≤ q → q < queue → Unmarked (marksIn marks lengths q)
       is : x ≡ At (record { 0 = queue }) position
 
     abbrev InQueues : ℕ → ℕ → Found → Type 0
     InQueues from end x =
         FirstFrom from end x
-        ⊎ (((l : ℕ) → from ≤ l → l < end → Unmarked (marksIn marks lengths l)) × (x ≡ Nothing))
+        ⊎ (((q : ℕ) → from ≤ q → q < end → Unmarked (marksIn marks lengths q)) × (x ≡ Nothing))
 
-    in-queues : (n l end : ℕ) → end ≡ l + n → InQueues l end (markerFrom marks lengths t n l)
+    in-queues : (n q end : ℕ) → end ≡ q + n → InQueues q end (markerFrom marks lengths t n q)
     unfolding markerFrom
-    in-queues zero l end e = inr ((λ k a b. absurd (omega arith)), refl)
-    in-queues (suc n) l end e =
-        go (in-queue l 0 (marksIn marks lengths l) (markerFrom marks lengths t n (suc l)))
-        (in-queues n (suc l) end (omega arith))
+    in-queues zero q end e = inr ((λ k a b. absurd (omega arith)), refl)
+    in-queues (suc n) q end e =
+        go (in-queue q 0 (marksIn marks lengths q) (markerFrom marks lengths t n (suc q)))
+        (in-queues n (suc q) end (omega arith))
       where
         x : Found
-        x = markerAmong t l 0 (marksIn marks lengths l) (markerFrom marks lengths t n (suc l))
+        x = markerAmong t q 0 (marksIn marks lengths q) (markerFrom marks lengths t n (suc q))
 
-        beyond : Unmarked (marksIn marks lengths l) → (end : ℕ)
-            → ((k : ℕ) → suc l ≤ k → k < end → Unmarked (marksIn marks lengths k))
-            → (k : ℕ) → l ≤ k → k < end → Unmarked (marksIn marks lengths k)
-        beyond h top f k a b = at (ℕ-discrete k l)
+        beyond : Unmarked (marksIn marks lengths q) → (end : ℕ)
+            → ((k : ℕ) → suc q ≤ k → k < end → Unmarked (marksIn marks lengths k))
+            → (k : ℕ) → q ≤ k → k < end → Unmarked (marksIn marks lengths k)
+        beyond h top f k a b = at (ℕ-discrete k q)
           where
-            at : Dec (k ≡ l) → Unmarked (marksIn marks lengths k)
+            at : Dec (k ≡ q) → Unmarked (marksIn marks lengths k)
             at (yes d) = rw d h
             at (no d) = f k (omega arith) b
 
-        later : Unmarked (marksIn marks lengths l) → x ≡ markerFrom marks lengths t n (suc l)
-            → InQueues (suc l) end (markerFrom marks lengths t n (suc l)) → InQueues l end x
+        later : Unmarked (marksIn marks lengths q) → x ≡ markerFrom marks lengths t n (suc q)
+            → InQueues (suc q) end (markerFrom marks lengths t n (suc q)) → InQueues q end x
         later h d (inl f) =
             inl record {
               queue = f .queue;
@@ -119,18 +119,18 @@ module _ (t : ℕ) where
             }
         later h d (inr f) = inr (beyond h end (f .0), d ∙ f .1)
 
-        go : InQueue l 0 (marksIn marks lengths l) (markerFrom marks lengths t n (suc l)) x
-            → InQueues (suc l) end (markerFrom marks lengths t n (suc l))
-            → InQueues l end x
+        go : InQueue q 0 (marksIn marks lengths q) (markerFrom marks lengths t n (suc q)) x
+            → InQueues (suc q) end (markerFrom marks lengths t n (suc q))
+            → InQueues q end x
         go (inl (j, f, d)) r =
             inl record {
-              queue = l;
+              queue = q;
               position = j;
               not-before = omega arith;
               low = omega arith;
               first = f;
               none = λ k a b. absurd (omega arith);
-              is = d ∙ ap (λ k. At (record { 0 = l }) k) (zero-add j);
+              is = d ∙ ap (λ k. At (record { 0 = q }) k) (zero-add j);
             }
         go (inr (h, d)) r = later h d r
 
@@ -160,18 +160,18 @@ module _ (marks lengths : List ℕ) (t : ℕ) where
       rw (f .is) (f .low, f .first .within, f .first .mark)
 
   pub marker-first : isAt (markerOf marks lengths t) ≡ true
-      → ((l i : ℕ) → l < foundQueue (markerOf marks lengths t) → getD (marksIn marks lengths l) i 0 ≢ t + 1)
+      → ((q i : ℕ) → q < foundQueue (markerOf marks lengths t) → getD (marksIn marks lengths q) i 0 ≢ t + 1)
       × ((i : ℕ) → i < foundPosition (markerOf marks lengths t)
       → getD (marksIn marks lengths (foundQueue (markerOf marks lengths t))) i 0 ≢ t + 1)
   marker-first h =
       let f = stood h in
-      rw (f .is) ((λ l i a. f .none l (omega arith) a i), f .first .none)
+      rw (f .is) ((λ q i a. f .none q (omega arith) a i), f .first .none)
 
   pub marker-none : isAt (markerOf marks lengths t) ≡ false
-      → (l i : ℕ) → l < mostLocations → getD (marksIn marks lengths l) i 0 ≢ t + 1
-  marker-none h l i low = go looked
+      → (q i : ℕ) → q < mostLocations → getD (marksIn marks lengths q) i 0 ≢ t + 1
+  marker-none h q i low = go looked
     where
       go : InQueues t marks lengths 0 mostLocations (markerOf marks lengths t)
-          → getD (marksIn marks lengths l) i 0 ≢ t + 1
+          → getD (marksIn marks lengths q) i 0 ≢ t + 1
       go (inl f) = absurd (never-both (ap isAt (f .is)) h)
-      go (inr f) = f .0 l (omega arith) low i
+      go (inr f) = f .0 q (omega arith) low i

@@ -11,8 +11,6 @@ use borrow.Author.Tests.{eqb-true, eqb-false, eq-eqb, ne-eqb}
 use lib.Dec.{eqb}
 use lib.ListN.{length, getD, take}
 use Rattle.cases.specs.declared.case.Step.{Step}
-use Rattle.cases.specs.declared.case.Program.{Program}
-use Rattle.cases.specs.Checks.{stepFault}
 use Rattle.cases.specs.Draft.{noStep}
 use Rattle.cases.proofs.ChoiceLaws.{pick-true, pick-false, true-not}
 use Rattle.machine.specs.declared.cells.State.{State}
@@ -20,55 +18,55 @@ use Rattle.machine.specs.declared.steps.Ruling.the-variants.{Allowed}
 use Rattle.machine.specs.declared.runs.Verdict.{Verdict}
 use Rattle.machine.specs.declared.runs.Verdict.the-variants.{Legal, Illegal}
 use Rattle.machine.specs.declared.runs.Judged.{Judged}
-use Rattle.machine.specs.Rules.{ruleOf, nextOf}
-use Rattle.machine.specs.Judge.{Leads, StopsAt, told, steppedOf, judged, judgeFrom}
+use Rattle.machine.specs.Judge.{told, steppedOf, judged, judgeFrom}
+use Rattle.machine.specs.Model.{Model, Leads, StopsAt}
 
-module _ (p : Program) where
+module _ (m : Model State Step) where
   -- a turn of the judge: a legal step; an illegal one; none is left
   module _ (i : ℕ) (s : State) (k : Step) (ks : List Step) where
-    pub judge-next : ruleOf p s k ≡ 0 → judgeFrom p i s (k ∷ ks) ≡ judgeFrom p (suc i) (nextOf p s k) ks
+    pub judge-next : m .rule s k ≡ 0 → judgeFrom m i s (k ∷ ks) ≡ judgeFrom m (suc i) (m .after s k) ks
     unfolding judgeFrom
     judge-next h = pick-true _ _ _ (eq-eqb _ _ h)
 
-    pub judge-here : ruleOf p s k ≢ 0 → judgeFrom p i s (k ∷ ks) ≡ judged (Illegal (ruleOf p s k) i) s
+    pub judge-here : m .rule s k ≢ 0 → judgeFrom m i s (k ∷ ks) ≡ judged (Illegal (m .rule s k) i) s
     unfolding judgeFrom
     judge-here h = pick-false _ _ _ (ne-eqb _ _ h)
 
   -- every step is legal: the judge says so, with their number and the end state
-  pub leads-judged : (i : ℕ) (s : State) (ks : List Step) (u : State) → Leads p s ks u
-      → judgeFrom p i s ks ≡ judged (Legal (i + length ks)) u
+  pub leads-judged : (i : ℕ) (s : State) (ks : List Step) (u : State) → Leads m s ks u
+      → judgeFrom m i s ks ≡ judged (Legal (i + length ks)) u
   unfolding Leads judgeFrom
   leads-judged i s [] u h = rw (h, add-zero)
   leads-judged i s (k ∷ ks) u h =
-      judge-next i s k ks (h .0) ∙ leads-judged (suc i) (nextOf p s k) ks u (h .1) ∙ rw (add-suc, suc-add)
+      judge-next i s k ks (h .0) ∙ leads-judged (suc i) (m .after s k) ks u (h .1) ∙ rw (add-suc, suc-add)
 
   -- one is not: the judge names the first, its rule there, and the state before it
-  pub stops-judged : (i : ℕ) (s : State) (ks : List Step) (n : ℕ) (u : State) → StopsAt p s ks n u
-      → judgeFrom p i s ks ≡ judged (Illegal (ruleOf p u (getD ks n noStep)) (i + n)) u
+  pub stops-judged : (i : ℕ) (s : State) (ks : List Step) (n : ℕ) (u : State) → StopsAt m s ks n u
+      → judgeFrom m i s ks ≡ judged (Illegal (m .rule u (getD ks n noStep)) (i + n)) u
   stops-judged i s [] n u h = absurd (let w = h .within in omega arith)
   stops-judged i s (k ∷ ks) zero u h =
       let e : s ≡ u = unfold Leads in h .before in
-      let b : ruleOf p s k ≢ 0 = rw (sym e) at (h .broken) in
+      let b : m .rule s k ≢ 0 = rw (sym e) at (h .broken) in
       judge-here i s k ks b ∙ rw (e, add-zero)
   stops-judged i s (k ∷ ks) (suc n) u h =
-      let e : (ruleOf p s k ≡ 0) × Leads p (nextOf p s k) (take n ks) u = unfold Leads in h .before in
+      let e : (m .rule s k ≡ 0) × Leads m (m .after s k) (take n ks) u = unfold Leads in h .before in
       let w = h .within in
-      let rest : StopsAt p (nextOf p s k) ks n u
+      let rest : StopsAt m (m .after s k) ks n u
       = record { within = omega arith; before = e .1; broken = h .broken } in
-      judge-next i s k ks (e .0) ∙ stops-judged (suc i) (nextOf p s k) ks n u rest ∙ rw (add-suc, suc-add)
+      judge-next i s k ks (e .0) ∙ stops-judged (suc i) (m .after s k) ks n u rest ∙ rw (add-suc, suc-add)
 
   -- one of the two it is
   pub leads-or-stops : (s : State) (ks : List Step)
-      → ((u : State) × Leads p s ks u) ⊎ ((n : ℕ) × (u : State) × StopsAt p s ks n u)
+      → ((u : State) × Leads m s ks u) ⊎ ((n : ℕ) × (u : State) × StopsAt m s ks n u)
   unfolding Leads
   leads-or-stops s [] = inl (s, refl)
-  leads-or-stops s (k ∷ ks) = go (eqb (ruleOf p s k) 0) refl (leads-or-stops (nextOf p s k) ks)
+  leads-or-stops s (k ∷ ks) = go (eqb (m .rule s k) 0) refl (leads-or-stops (m .after s k) ks)
     where
-      go : (b : Bool) → eqb (ruleOf p s k) 0 ≡ b
-          → ((u : State) × Leads p (nextOf p s k) ks u) ⊎
-          ((n : ℕ) × (u : State) × StopsAt p (nextOf p s k) ks n u)
-          → ((u : State) × ((ruleOf p s k ≡ 0) × Leads p (nextOf p s k) ks u))
-          ⊎ ((n : ℕ) × (u : State) × StopsAt p s (k ∷ ks) n u)
+      go : (b : Bool) → eqb (m .rule s k) 0 ≡ b
+          → ((u : State) × Leads m (m .after s k) ks u) ⊎
+          ((n : ℕ) × (u : State) × StopsAt m (m .after s k) ks n u)
+          → ((u : State) × ((m .rule s k ≡ 0) × Leads m (m .after s k) ks u))
+          ⊎ ((n : ℕ) × (u : State) × StopsAt m s (k ∷ ks) n u)
       go true e (inl r) = inl (r .0, (eqb-true _ _ e, r .1))
       go true e (inr r) =
           inr (
@@ -84,27 +82,27 @@ module _ (p : Program) where
           inr (zero, s, record { within = omega arith; before = refl; broken = eqb-false _ _ e })
 
 -- From the start: what the judge says of a run, and what its saying so tells
-module _ (p : Program) (s : State) (ks : List Step) where
-  pub says-legal : (u : State) → Leads p s ks u → judgeFrom p 0 s ks ≡ judged (Legal (length ks)) u
-  says-legal u h = leads-judged p 0 s ks u h ∙ rw zero-add
+module _ (m : Model State Step) (s : State) (ks : List Step) where
+  pub says-legal : (u : State) → Leads m s ks u → judgeFrom m 0 s ks ≡ judged (Legal (length ks)) u
+  says-legal u h = leads-judged m 0 s ks u h ∙ rw zero-add
 
-  pub says-illegal : (n : ℕ) (u : State) → StopsAt p s ks n u
-      → judgeFrom p 0 s ks ≡ judged (Illegal (ruleOf p u (getD ks n noStep)) n) u
-  says-illegal n u h = stops-judged p 0 s ks n u h ∙ rw zero-add
+  pub says-illegal : (n : ℕ) (u : State) → StopsAt m s ks n u
+      → judgeFrom m 0 s ks ≡ judged (Illegal (m .rule u (getD ks n noStep)) n) u
+  says-illegal n u h = stops-judged m 0 s ks n u h ∙ rw zero-add
 
-  verdict-is : (v : Verdict) (u : State) → judgeFrom p 0 s ks ≡ judged v u → judgeFrom p 0 s ks .verdict ≡ v
+  verdict-is : (v : Verdict) (u : State) → judgeFrom m 0 s ks ≡ judged v u → judgeFrom m 0 s ks .verdict ≡ v
   unfolding judged
   verdict-is v u e = ap (λ (j : Judged). j .verdict) e
 
-  pub state-is : (v : Verdict) (u : State) → judgeFrom p 0 s ks ≡ judged v u → judgeFrom p 0 s ks .state ≡ u
+  pub state-is : (v : Verdict) (u : State) → judgeFrom m 0 s ks ≡ judged v u → judgeFrom m 0 s ks .state ≡ u
   unfolding judged
   state-is v u e = ap (λ (j : Judged). j .state) e
 
-  pub legal-says : (u : State) → Leads p s ks u → judgeFrom p 0 s ks .verdict ≡ Legal (length ks)
+  pub legal-says : (u : State) → Leads m s ks u → judgeFrom m 0 s ks .verdict ≡ Legal (length ks)
   legal-says u h = verdict-is _ u (says-legal u h)
 
-  pub illegal-says : (n : ℕ) (u : State) (r : ℕ) → StopsAt p s ks n u → ruleOf p u (getD ks n noStep) ≡ r
-      → judgeFrom p 0 s ks .verdict ≡ Illegal r n
+  pub illegal-says : (n : ℕ) (u : State) (r : ℕ) → StopsAt m s ks n u → m .rule u (getD ks n noStep) ≡ r
+      → judgeFrom m 0 s ks .verdict ≡ Illegal r n
   illegal-says n u r h e = verdict-is _ u (says-illegal n u h) ∙ ap (λ x. Illegal x n) e
 
   -- a verdict of one kind is none of the other
@@ -114,33 +112,33 @@ module _ (p : Program) (s : State) (ks : List Step) where
   index-is : (r i q j : ℕ) → Illegal r i ≡ Illegal q j → (r ≡ q) × (i ≡ j)
   index-is r i q j e = (cc, cc)
 
-  pub says-leads : (n : ℕ) → judgeFrom p 0 s ks .verdict ≡ Legal n → (u : State) × Leads p s ks u
-  says-leads n h = go (leads-or-stops p s ks)
+  pub says-leads : (n : ℕ) → judgeFrom m 0 s ks .verdict ≡ Legal n → (u : State) × Leads m s ks u
+  says-leads n h = go (leads-or-stops m s ks)
     where
-      go : ((u : State) × Leads p s ks u) ⊎ ((n : ℕ) × (u : State) × StopsAt p s ks n u)
-          → (u : State) × Leads p s ks u
+      go : ((u : State) × Leads m s ks u) ⊎ ((n : ℕ) × (u : State) × StopsAt m s ks n u)
+          → (u : State) × Leads m s ks u
       go (inl e) = e
       go (inr e) = absurd (legal-illegal n _ (e .0) (sym h ∙ illegal-says (e .0) (e .1) _ (e .2) refl))
 
-  pub says-stops : (r i : ℕ) → judgeFrom p 0 s ks .verdict ≡ Illegal r i
-      → (u : State) × StopsAt p s ks i u × (ruleOf p u (getD ks i noStep) ≡ r)
-  says-stops r i h = go (leads-or-stops p s ks)
+  pub says-stops : (r i : ℕ) → judgeFrom m 0 s ks .verdict ≡ Illegal r i
+      → (u : State) × StopsAt m s ks i u × (m .rule u (getD ks i noStep) ≡ r)
+  says-stops r i h = go (leads-or-stops m s ks)
     where
-      go : ((u : State) × Leads p s ks u) ⊎ ((n : ℕ) × (u : State) × StopsAt p s ks n u)
-          → (u : State) × StopsAt p s ks i u × (ruleOf p u (getD ks i noStep) ≡ r)
+      go : ((u : State) × Leads m s ks u) ⊎ ((n : ℕ) × (u : State) × StopsAt m s ks n u)
+          → (u : State) × StopsAt m s ks i u × (m .rule u (getD ks i noStep) ≡ r)
       go (inl e) = absurd (legal-illegal (length ks) r i (sym (legal-says (e .0) (e .1)) ∙ h))
       go (inr e) =
           let w = index-is _ (e .0) r i (sym (illegal-says (e .0) (e .1) _ (e .2) refl) ∙ h) in (
             e .1,
-            subst (λ n. StopsAt p s ks n (e .1)) (w .1) (e .2),
-            subst (λ n. ruleOf p (e .1) (getD ks n noStep) ≡ r) (w .1) (w .0),
+            subst (λ n. StopsAt m s ks n (e .1)) (w .1) (e .2),
+            subst (λ n. m .rule (e .1) (getD ks n noStep) ≡ r) (w .1) (w .0),
           )
 
 -- A single step that passes the checks 5 and 8 and breaks no rule
-pub stepped-legal : (p : Program) (s : State) (k : Step) (u : State) → stepFault p k ≡ 0 → ruleOf p s k ≡ 0
-    → u ≡ nextOf p s k
-    → told Allowed u ≡ steppedOf p s k
+pub stepped-legal : (m : Model State Step) (s : State) (k : Step) (u : State) → m .fault k ≡ 0 → m .rule s k ≡ 0
+    → u ≡ m .after s k
+    → told Allowed u ≡ steppedOf m s k
 unfolding steppedOf
-stepped-legal p s k u f r e =
+stepped-legal m s k u f r e =
     ap (told Allowed) e
     ∙ sym (pick-false _ _ _ (true-not _ (eq-eqb _ _ f)) ∙ pick-false _ _ _ (true-not _ (eq-eqb _ _ r)))

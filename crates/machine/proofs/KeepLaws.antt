@@ -8,6 +8,7 @@ use native.Mathlib.Decide.{ℕ-discrete}
 use lib.ListN.{length}
 use Rattle.cases.specs.declared.case.Program.{Program}
 use Rattle.cases.specs.Sizes.{mostThreads, mostInstructions, mostLocations}
+use Rattle.cases.specs.Checks.{queuesOf}
 use Rattle.machine.specs.declared.cells.State.{State}
 use Rattle.machine.specs.declared.cells.Waiting.{Waiting}
 use Rattle.machine.specs.Sizes.{room}
@@ -15,6 +16,7 @@ use Rattle.machine.specs.View.{Slot, marksOf, marksIn, queue, queueLen, 
 use Rattle.machine.specs.View.{buffer, bufferLen, withBuffer, withWord, withRegister}
 use Rattle.machine.specs.Fit.{sumTo, unissued, due, Fits, AllNamed, AllBorne}
 use Rattle.machine.proofs.SumLaws.{sum-change}
+use Rattle.machine.proofs.QueueOfLaws.{few-queues}
 use Rattle.machine.proofs.QueueLaws.{queue-length, queueLen-same, queueLen-other, marks-same}
 use Rattle.machine.proofs.QueueLaws.{marks-other, sized-queue}
 use Rattle.machine.proofs.ViewLaws.{buffer-length, bufferLen-same, bufferLen-other, buffer-same}
@@ -22,62 +24,62 @@ use Rattle.machine.proofs.ViewLaws.{buffer-other, sized-buffer, sized-w
 
 module _ (p : Program) (s : State) (f : Fits p s) where
   -- a queue and a buffer are within their room, and as long as their lengths say
-  pub queue-within : (l : ℕ) → l < mostLocations → queueLen s l ≤ room
-  queue-within l low = let w = f .few-queued l low in omega arith
+  pub queue-within : (q : ℕ) → q < mostLocations → queueLen s q ≤ room
+  queue-within q low = let w = f .few-queued q low in omega arith
 
   pub buffer-within : (t : ℕ) → t < mostThreads → bufferLen s t ≤ mostInstructions
   buffer-within t low = let w = f .few-waiting t low in omega arith
 
-  pub queue-long : (l : ℕ) → l < mostLocations → length (queue s l) ≡ queueLen s l
-  queue-long l low = queue-length s (f .sized) l low (queue-within l low)
+  pub queue-long : (q : ℕ) → q < mostLocations → length (queue s q) ≡ queueLen s q
+  queue-long q low = queue-length s (f .sized) q low (queue-within q low)
 
   pub buffer-long : (t : ℕ) → t < mostThreads → length (buffer s t) ≡ bufferLen s t
   buffer-long t low = buffer-length s (f .sized) t low (buffer-within t low)
 
   -- a queue that keeps within the bounds, with markers of threads that there are
-  module _ (l : ℕ) (low : l < p .locations) (q : List Slot) (few : length q + due p s ≤ room)
-      (borne : AllBorne (p .threads) (marksOf q)) where
-    in-range : l < mostLocations
-    in-range = let w = f .program .few-locations in omega arith
+  module _ (q : ℕ) (low : q < queuesOf p) (r : List Slot) (few : length r + due p s ≤ room)
+      (borne : AllBorne (p .threads) (marksOf r)) where
+    in-range : q < mostLocations
+    in-range = let w = few-queues p (f .program) in omega arith
 
-    short : length q ≤ room
+    short : length r ≤ room
     short = omega arith
 
-    pub fits-queue : Fits p (withQueue s l q)
+    pub fits-queue : Fits p (withQueue s q r)
     fits-queue =
         record {
           program = f .program;
-          sized = sized-queue s (f .sized) l in-range (queue-within l in-range) q short;
+          sized = sized-queue s (f .sized) q in-range (queue-within q in-range) r short;
           few-issued = unfold withQueue in f .few-issued;
           few-waiting = unfold withQueue unissued in f .few-waiting;
-          few-queued = λ k h. count k h (ℕ-discrete k l);
+          few-queued = λ k h. count k h (ℕ-discrete k q);
           no-buffer = unfold withQueue in f .no-buffer;
-          no-queue = λ k h a. none k h a (ℕ-discrete k l);
+          no-queue = λ k h a. none k h a (ℕ-discrete k q);
           named = unfold withQueue in f .named;
-          borne = λ k h. bear k h (ℕ-discrete k l);
+          borne = λ k h. bear k h (ℕ-discrete k q);
         }
       where
-        same : due p (withQueue s l q) ≡ due p s
+        same : due p (withQueue s q r) ≡ due p s
         same = unfold withQueue due unissued in refl
 
-        count : (k : ℕ) → k < mostLocations → Dec (k ≡ l)
-            → queueLen (withQueue s l q) k + due p (withQueue s l q) ≤ room
+        count : (k : ℕ) → k < mostLocations → Dec (k ≡ q)
+            → queueLen (withQueue s q r) k + due p (withQueue s q r) ≤ room
         count k h (yes e) =
-            rw (e, same, queueLen-same s (f .sized) l in-range (queue-within l in-range) q short) few
+            rw (e, same, queueLen-same s (f .sized) q in-range (queue-within q in-range) r short) few
         count k h (no e) =
-            rw (same, queueLen-other s (f .sized) l in-range (queue-within l in-range) q short k e)
+            rw (same, queueLen-other s (f .sized) q in-range (queue-within q in-range) r short k e)
             (f .few-queued k h)
 
-        none : (k : ℕ) → k < mostLocations → p .locations ≤ k → Dec (k ≡ l) → queueLen (withQueue s l q) k ≡ 0
+        none : (k : ℕ) → k < mostLocations → queuesOf p ≤ k → Dec (k ≡ q) → queueLen (withQueue s q r) k ≡ 0
         none k h a (yes e) = absurd (omega arith)
         none k h a (no e) =
-            queueLen-other s (f .sized) l in-range (queue-within l in-range) q short k e ∙ f .no-queue k h a
+            queueLen-other s (f .sized) q in-range (queue-within q in-range) r short k e ∙ f .no-queue k h a
 
-        bear : (k : ℕ) → k < mostLocations → Dec (k ≡ l)
-            → AllBorne (p .threads) (marksIn (withQueue s l q .marks) (withQueue s l q .lengths) k)
-        bear k h (yes e) = rw (e, marks-same s (f .sized) l in-range (queue-within l in-range) q short) borne
+        bear : (k : ℕ) → k < mostLocations → Dec (k ≡ q)
+            → AllBorne (p .threads) (marksIn (withQueue s q r .marks) (withQueue s q r .lengths) k)
+        bear k h (yes e) = rw (e, marks-same s (f .sized) q in-range (queue-within q in-range) r short) borne
         bear k h (no e) =
-            rw (marks-other s (f .sized) l in-range (queue-within l in-range) q short k e (queue-within k h))
+            rw (marks-other s (f .sized) q in-range (queue-within q in-range) r short k e (queue-within k h))
             (f .borne k h)
 
   -- a buffer that keeps within the bounds, with entries of locations that there are
@@ -100,7 +102,7 @@ module _ (p : Program) (s : State) (f : Fits p s) where
         = unfold withBuffer unissued in refl in
         omega arith
 
-    pub fits-buffer : ((l : ℕ) → l < mostLocations → queueLen s l + due p (withBuffer s t b) ≤ room)
+    pub fits-buffer : ((q : ℕ) → q < mostLocations → queueLen s q + due p (withBuffer s t b) ≤ room)
         → AllNamed (p .locations) b
         → Fits p (withBuffer s t b)
     fits-buffer queues named =
@@ -109,7 +111,7 @@ module _ (p : Program) (s : State) (f : Fits p s) where
           sized = sized-buffer s (f .sized) t in-threads within b fewer;
           few-issued = unfold withBuffer in f .few-issued;
           few-waiting = λ k h. count k h (ℕ-discrete k t);
-          few-queued = λ l h. unfold withBuffer in queues l h;
+          few-queued = λ q h. unfold withBuffer in queues q h;
           no-buffer = λ k h a. none k h a (ℕ-discrete k t);
           no-queue = unfold withBuffer in f .no-queue;
           named = λ k h. name k h (ℕ-discrete k t);

@@ -13,12 +13,14 @@ mod PutLaws
 mod SlotLaws
 mod QueueLaws
 mod ViewLaws
+mod QueueOfLaws
 mod SumLaws
 -- looks, changes, rules, each as the code meets them
 mod LookLaws
 mod MarkerLaws
 mod FoundLaws
 mod ChangeLaws
+mod PartsLaws
 mod MoveLaws
 mod CheckLaws
 mod WeighLaws
@@ -39,6 +41,7 @@ mod ProgressLaws
 mod AddLaws
 mod EffectLaws
 mod PersistLaws
+mod WordLaws
 -- what stands behind the entries
 mod BehindLaws
 mod BlankStepLaws
@@ -50,6 +53,9 @@ mod OfferLaws
 mod CandidateLaws
 mod OrderLaws
 mod RankLaws
+-- any machine, and that the one of document 01 is one
+mod ModelLaws
+mod PtsoLaws
 -- runs
 mod JudgeLaws
 mod RunLaws

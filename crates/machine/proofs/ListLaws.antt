@@ -4,7 +4,7 @@ use mathlib.Core.Path.{_≡_}
 use mathlib.Core.Logic.{_⊎_, inl, inr}
 use mathlib.Core.List.{List, [], _∷_, _++_}
 use lib.ListN.{drop}
-use Rattle.machine.specs.Next.{Listed}
+use Rattle.machine.specs.Model.{Listed}
 
 -- on the first of two lists; on the second; on one of them
 pub listed-left : {A : Type 0} (x : A) (xs ys : List A) → Listed x xs → Listed x (xs ++ ys)

@@ -7,6 +7,7 @@ use mathlib.Core.List.{List, [], _∷_}
 use native.Mathlib.Omega.{arith}
 use native.Mathlib.Nat.{zero-add, add-zero}
 use lib.ListN.{length, getD, take, drop}
+use Rattle.cases.specs.declared.case.Program.{Program}
 use Rattle.cases.specs.Choice.{pick}
 use Rattle.cases.specs.Sizes.{mostInstructions}
 use Rattle.machine.specs.declared.cells.Waiting.{Waiting}
@@ -60,12 +61,12 @@ newest-next {held} {marks} {base} {n} {i} {word} {other} o h next e =
       rest = rw e (rw (slots-next held marks base n (o .held-long) (o .marks-long) i h) at (o .rest));
     }
 
-pub newest-end : {held marks : List ℕ} (lengths : List ℕ) (l : ℕ) {i word other : ℕ}
-    → NewestSoFar held marks (l * room) (getD lengths l 0) i word other → getD lengths l 0 ≤ i
-    → word ≡ newestWrite (queueIn held marks lengths l) other
+pub newest-end : {held marks : List ℕ} (lengths : List ℕ) (q : ℕ) {i word other : ℕ}
+    → NewestSoFar held marks (q * room) (getD lengths q 0) i word other → getD lengths q 0 ≤ i
+    → word ≡ newestWrite (queueIn held marks lengths q) other
 unfolding newestWrite queueIn marksIn
-newest-end {held} {marks} lengths l {i} o h =
-    rw (slots-end held marks (l * room) (getD lengths l 0) (o .held-long) (o .marks-long) i h) at (o .rest)
+newest-end {held} {marks} lengths q {i} o h =
+    rw (slots-end held marks (q * room) (getD lengths q 0) (o .held-long) (o .marks-long) i h) at (o .rest)
 
 -- newestStore: the entries behind the first i say of the word so far what all of them say of the word given
 pub record StoreSoFar (l : ℕ) (b : List Waiting) (base n i word other : ℕ) : Type 0 where
@@ -94,39 +95,41 @@ store-end {l} {b} waiting t {i} o h =
     rw (part-end (t * mostInstructions) (getD waiting t 0) i b h) at (o .rest)
 
 -- firstBar: what the entries behind the first j say, counted from there, is what the first i say
-pub record BarSoFar (l : ℕ) (b : List Waiting) (base i j : ℕ) : Type 0 where
+pub record BarSoFar (p : Program) (q : ℕ) (b : List Waiting) (base i j : ℕ) : Type 0 where
   pub long : base + i ≤ length b
   pub within : j ≤ i
-  pub rest : j + firstBar l (drop j (part base i b)) ≡ firstBar l (part base i b)
+  pub rest : j + firstBar p q (drop j (part base i b)) ≡ firstBar p q (part base i b)
 
-pub bar-start : (l : ℕ) (b : List Waiting) (base i : ℕ) → base + i ≤ length b → BarSoFar l b base i 0
-bar-start l b base i h = record { long = h; within = omega arith; rest = zero-add _ }
+pub bar-start : (p : Program) (q : ℕ) (b : List Waiting) (base i : ℕ) → base + i ≤ length b
+    → BarSoFar p q b base i 0
+bar-start p q b base i h = record { long = h; within = omega arith; rest = zero-add _ }
 
-module _ {l : ℕ} {b : List Waiting} {base i j : ℕ} (o : BarSoFar l b base i j) where
-  pub bar-next : j < i → bars l (getD b (base + j) blankWaiting .entry) ≡ false → BarSoFar l b base i (j + 1)
+module _ {p : Program} {q : ℕ} {b : List Waiting} {base i j : ℕ} (o : BarSoFar p q b base i j) where
+  pub bar-next : j < i → bars p q (getD b (base + j) blankWaiting .entry) ≡ false
+      → BarSoFar p q b base i (j + 1)
   unfolding firstBar pick
   bar-next h e =
-      let r : j + suc (firstBar l (drop (j + 1) (part base i b))) ≡ firstBar l (part base i b)
+      let r : j + suc (firstBar p q (drop (j + 1) (part base i b))) ≡ firstBar p q (part base i b)
       = rw (part-next base i j b blankWaiting h (o .long), e) at (o .rest) in
       record { long = o .long; within = omega arith; rest = omega arith }
 
-module _ {l : ℕ} {b : List Waiting} (waiting : List ℕ) (t : ℕ) {i j : ℕ}
-    (o : BarSoFar l b (t * mostInstructions) i j) (few : i ≤ getD waiting t 0) where
-  bar-front : firstBar l (part (t * mostInstructions) i b) ≡ firstBar l (take i (bufferIn b waiting t))
+module _ {p : Program} {q : ℕ} {b : List Waiting} (waiting : List ℕ) (t : ℕ) {i j : ℕ}
+    (o : BarSoFar p q b (t * mostInstructions) i j) (few : i ≤ getD waiting t 0) where
+  bar-front : firstBar p q (part (t * mostInstructions) i b) ≡ firstBar p q (take i (bufferIn b waiting t))
   unfolding bufferIn
   bar-front = rw (take-part i (t * mostInstructions) (getD waiting t 0) b few)
 
-  pub bar-here : j < i → bars l (getD b (t * mostInstructions + j) blankWaiting .entry) ≡ true
-      → j ≡ firstBar l (take i (bufferIn b waiting t))
+  pub bar-here : j < i → bars p q (getD b (t * mostInstructions + j) blankWaiting .entry) ≡ true
+      → j ≡ firstBar p q (take i (bufferIn b waiting t))
   unfolding firstBar pick
   bar-here h e =
-      let r : j + 0 ≡ firstBar l (part (t * mostInstructions) i b)
+      let r : j + 0 ≡ firstBar p q (part (t * mostInstructions) i b)
       = rw (part-next (t * mostInstructions) i j b blankWaiting h (o .long), e) at (o .rest) in
       sym (add-zero j) ∙ r ∙ bar-front
 
-  pub bar-end : i ≤ j → j ≡ firstBar l (take i (bufferIn b waiting t))
+  pub bar-end : i ≤ j → j ≡ firstBar p q (take i (bufferIn b waiting t))
   unfolding firstBar
   bar-end h =
-      let r : j + 0 ≡ firstBar l (part (t * mostInstructions) i b)
+      let r : j + 0 ≡ firstBar p q (part (t * mostInstructions) i b)
       = rw (part-end (t * mostInstructions) i j b h) at (o .rest) in
       sym (add-zero j) ∙ r ∙ bar-front

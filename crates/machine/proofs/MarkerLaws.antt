@@ -20,26 +20,26 @@ use Rattle.machine.specs.Fit.{Shallow}
 use Rattle.machine.specs.Look.{markerAmong, markerFrom, markerOf}
 use Rattle.machine.proofs.PartLaws.{part-next, part-end}
 
--- markerOf, from queue to queue: the queues from l on say what all of them say
-pub record QueuesSoFar (marks lengths : List ℕ) (mark l : ℕ) (found : Found) : Type 0 where
+-- markerOf, from queue to queue: the queues from q on say what all of them say
+pub record QueuesSoFar (marks lengths : List ℕ) (mark q : ℕ) (found : Found) : Type 0 where
   pub long : length marks ≡ allSlots
   pub shallow : Shallow lengths
-  pub within : l ≤ mostLocations
+  pub within : q ≤ mostLocations
   pub none : found ≡ Nothing
   pub rest : (t : ℕ) → mark ≡ t + 1
-      → markerFrom marks lengths t (mostLocations - l) l ≡ markerOf marks lengths t
+      → markerFrom marks lengths t (mostLocations - q) q ≡ markerOf marks lengths t
 
--- and within queue l: its marks from position i on, and the queues behind it, say what all queues say
-pub record MarksSoFar (marks lengths : List ℕ) (mark l n i : ℕ) (found : Found) : Type 0 where
+-- and within queue q: its marks from position i on, and the queues behind it, say what all queues say
+pub record MarksSoFar (marks lengths : List ℕ) (mark q n i : ℕ) (found : Found) : Type 0 where
   pub long : length marks ≡ allSlots
   pub shallow : Shallow lengths
-  pub low : l < mostLocations
+  pub low : q < mostLocations
   pub few : n ≤ room
-  pub counted : n ≡ getD lengths l 0
+  pub counted : n ≡ getD lengths q 0
   pub none : found ≡ Nothing
   pub rest : (t : ℕ) → mark ≡ t + 1
-      → markerAmong t l i (drop i (marksIn marks lengths l))
-      (markerFrom marks lengths t (mostLocations - (l + 1)) (l + 1))
+      → markerAmong t q i (drop i (marksIn marks lengths q))
+      (markerFrom marks lengths t (mostLocations - (q + 1)) (q + 1))
       ≡ markerOf marks lengths t
 
 pub queues-start : (marks lengths : List ℕ) (mark : ℕ) → length marks ≡ allSlots → Shallow lengths
@@ -48,50 +48,50 @@ unfolding markerOf
 queues-start marks lengths mark h k =
     record { long = h; shallow = k; within = omega arith; none = refl; rest = λ t e. refl }
 
-marker-from-next : (marks lengths : List ℕ) (t n l : ℕ) → l < n
-    → markerAmong t l 0 (marksIn marks lengths l) (markerFrom marks lengths t (n - (l + 1)) (l + 1))
-    ≡ markerFrom marks lengths t (n - l) l
+marker-from-next : (marks lengths : List ℕ) (t n q : ℕ) → q < n
+    → markerAmong t q 0 (marksIn marks lengths q) (markerFrom marks lengths t (n - (q + 1)) (q + 1))
+    ≡ markerFrom marks lengths t (n - q) q
 unfolding markerFrom
-marker-from-next marks lengths t n l h =
-    let e : n - l ≡ suc (n - (l + 1)) = omega arith in
+marker-from-next marks lengths t n q h =
+    let e : n - q ≡ suc (n - (q + 1)) = omega arith in
     rw (e, add-one)
 
-module _ {marks lengths : List ℕ} {mark l : ℕ} {found : Found}
-    (o : QueuesSoFar marks lengths mark l found) where
-  pub marks-start : l < mostLocations → MarksSoFar marks lengths mark l (getD lengths l 0) 0 found
+module _ {marks lengths : List ℕ} {mark q : ℕ} {found : Found}
+    (o : QueuesSoFar marks lengths mark q found) where
+  pub marks-start : q < mostLocations → MarksSoFar marks lengths mark q (getD lengths q 0) 0 found
   unfolding Shallow
   marks-start h =
       record {
         long = o .long;
         shallow = o .shallow;
         low = h;
-        few = o .shallow l h;
+        few = o .shallow q h;
         counted = refl;
         none = o .none;
-        rest = λ t k. marker-from-next marks lengths t mostLocations l h ∙ o .rest t k;
+        rest = λ t k. marker-from-next marks lengths t mostLocations q h ∙ o .rest t k;
       }
 
-  pub marker-end : (t : ℕ) → mark ≡ t + 1 → mostLocations ≤ l → found ≡ markerOf marks lengths t
+  pub marker-end : (t : ℕ) → mark ≡ t + 1 → mostLocations ≤ q → found ≡ markerOf marks lengths t
   unfolding markerFrom
   marker-end t k h =
-      let e : mostLocations - l ≡ 0 = omega arith in
+      let e : mostLocations - q ≡ 0 = omega arith in
       o .none ∙ (rw e at (o .rest t k))
 
-module _ {marks lengths : List ℕ} {mark l n i : ℕ} {found : Found}
-    (o : MarksSoFar marks lengths mark l n i found) where
+module _ {marks lengths : List ℕ} {mark q n i : ℕ} {found : Found}
+    (o : MarksSoFar marks lengths mark q n i found) where
   module _ (h : i < n) where
-    marks-at : drop i (marksIn marks lengths l)
-        ≡ getD marks (l * room + i) 0 ∷ drop (i + 1) (marksIn marks lengths l)
+    marks-at : drop i (marksIn marks lengths q)
+        ≡ getD marks (q * room + i) 0 ∷ drop (i + 1) (marksIn marks lengths q)
     unfolding marksIn
-    marks-at = part-next (l * room) (getD lengths l 0) i marks 0 (omega arith) (omega arith)
+    marks-at = part-next (q * room) (getD lengths q 0) i marks 0 (omega arith) (omega arith)
 
-    marker-among-next : (t : ℕ) (after : Found) → eqb (getD marks (l * room + i) 0) (t + 1) ≡ false
-        → markerAmong t l (i + 1) (drop (i + 1) (marksIn marks lengths l)) after
-        ≡ markerAmong t l i (drop i (marksIn marks lengths l)) after
+    marker-among-next : (t : ℕ) (after : Found) → eqb (getD marks (q * room + i) 0) (t + 1) ≡ false
+        → markerAmong t q (i + 1) (drop (i + 1) (marksIn marks lengths q)) after
+        ≡ markerAmong t q i (drop i (marksIn marks lengths q)) after
     unfolding markerAmong pick
     marker-among-next t after e = rw (marks-at, e, add-one)
 
-    pub marks-next : (getD marks (l * room + i) 0 ≡ mark → ⊥) → MarksSoFar marks lengths mark l n (i + 1) found
+    pub marks-next : (getD marks (q * room + i) 0 ≡ mark → ⊥) → MarksSoFar marks lengths mark q n (i + 1) found
     marks-next f =
         record {
           long = o .long;
@@ -103,12 +103,12 @@ module _ {marks lengths : List ℕ} {mark l n i : ℕ} {found : Found}
           rest = λ t e. marker-among-next t _ (ne-eqb _ _ (λ p. f (p ∙ sym e))) ∙ o .rest t e;
         }
 
-    pub marker-here : (t : ℕ) → mark ≡ t + 1 → getD marks (l * room + i) 0 ≡ mark
-        → At (record { 0 = l }) i ≡ markerOf marks lengths t
+    pub marker-here : (t : ℕ) → mark ≡ t + 1 → getD marks (q * room + i) 0 ≡ mark
+        → At (record { 0 = q }) i ≡ markerOf marks lengths t
     unfolding markerAmong pick
     marker-here t e p = rw (marks-at, eq-eqb _ _ (p ∙ e)) at (o .rest t e)
 
-  pub queues-next : n ≤ i → QueuesSoFar marks lengths mark (l + 1) found
+  pub queues-next : n ≤ i → QueuesSoFar marks lengths mark (q + 1) found
   unfolding markerAmong marksIn
   queues-next h =
       record {
@@ -116,5 +116,5 @@ module _ {marks lengths : List ℕ} {mark l n i : ℕ} {found : Found}
         shallow = o .shallow;
         within = omega arith;
         none = o .none;
-        rest = λ t e. rw (part-end (l * room) (getD lengths l 0) i marks (omega arith)) at (o .rest t e);
+        rest = λ t e. rw (part-end (q * room) (getD lengths q 0) i marks (omega arith)) at (o .rest t e);
       }

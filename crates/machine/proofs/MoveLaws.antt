@@ -8,6 +8,7 @@ use native.Mathlib.Nat.{add-zero}
 use lib.ListN.{length, getD, drop}
 use Rattle.cases.specs.declared.case.Location.{Location}
 use Rattle.cases.specs.declared.case.Write.{Write}
+use Rattle.cases.specs.declared.case.Program.{Program}
 use Rattle.cases.specs.Sizes.{mostInstructions, mostLocations}
 use Rattle.cases.proofs.ChoiceLaws.{pick-here, pick-next, refuse-here, refuse-next}
 use borrow.Author.Tests.{eq-eqb, ne-eqb, lt-leb, lt-ltb, le-ltb}
@@ -16,13 +17,17 @@ use Rattle.machine.specs.declared.cells.Waiting.{Waiting}
 use Rattle.machine.specs.declared.cells.Entry.{Entry}
 use Rattle.machine.specs.declared.cells.Entry.the-variants.{Store, Flush, FlushOpt}
 use Rattle.machine.specs.Sizes.{room, allSlots}
+use Rattle.machine.specs.View.{queueOf, homeOf}
 use Rattle.machine.specs.View.{without, marksIn, queueIn, queue, queueLen, withQueue, wordOf, withWord}
 use Rattle.machine.specs.View.{blankWaiting, bufferIn, buffer, bufferLen, withBuffer}
+use Rattle.machine.specs.Parts.{Parts}
 use Rattle.machine.specs.Look.{wordOr}
 use Rattle.machine.specs.Rules.{entryAt, effectRule, effectOf, passRule, moveRule, moveOf}
 use Rattle.machine.specs.Rules.{persistFirst, persistOf}
-use Rattle.machine.specs.Fit.{Named, Roomy}
+use Rattle.machine.specs.Fit.{ProgramFits, Named, Roomy}
 use Rattle.machine.proofs.PartLaws.{getD-part}
+use Rattle.machine.proofs.QueueOfLaws.{queue-low, home-low}
+use Rattle.machine.proofs.PartsLaws.{effectParts, effect-lent}
 use Rattle.machine.proofs.LookLaws.{slots-next}
 
 -- Named: what it says of each entry that names a location
@@ -31,7 +36,7 @@ module _ {n : ℕ} {e : Entry} (h : Named n e) where
   unfolding Named
   store-named w p = rw p at h
 
-  pub flush-named : (l : Location) → e ≡ Flush l → l .0 < n
+  flush-named : (l : Location) → e ≡ Flush l → l .0 < n
   unfolding Named
   flush-named l p = rw p at h
 
@@ -39,20 +44,30 @@ module _ {n : ℕ} {e : Entry} (h : Named n e) where
   unfolding Named
   flush-opt-named l p = rw p at h
 
+-- the queue of a flush's location is one that there is room for
+pub flush-low : (p : Program) → ProgramFits p → {e : Entry} → Named mostLocations e
+    → (l : Location) → e ≡ Flush l
+    → (q : ℕ) → q ≡ queueOf p (l .0)
+    → q < mostLocations
+flush-low p g h l is q goes = rw goes (queue-low p g (l .0) (flush-named h l is))
+
 -- effectRule of a flush: something is queued; nothing is
-module _ (marks lengths : List ℕ) (t : ℕ) (l : Location) (e : Entry) (is : e ≡ Flush l) where
-  pub flush-held : 0 < getD lengths (l .0) 0 → 27 ≡ effectRule marks lengths t e
+module _ (p : Program) (x : Parts) (t : ℕ) (l : Location) (e : Entry) (is : e ≡ Flush l) (q : ℕ)
+    (goes : q ≡ queueOf p (l .0)) where
+  pub flush-held : 0 < getD (x .lengths) q 0 → 27 ≡ effectRule p x t e
   unfolding effectRule
-  flush-held h = rw is (refuse-here _ 27 0 (lt-ltb _ _ h))
+  flush-held h = rw (is, ← goes) (refuse-here _ 27 0 (lt-ltb _ _ h))
 
-  pub flush-free : getD lengths (l .0) 0 ≤ 0 → 0 ≡ effectRule marks lengths t e
+  pub flush-free : getD (x .lengths) q 0 ≤ 0 → 0 ≡ effectRule p x t e
   unfolding effectRule
-  flush-free h = rw is (refuse-next _ 0 27 0 (le-ltb _ _ h) refl)
+  flush-free h = rw (is, ← goes) (refuse-next _ 0 27 0 (le-ltb _ _ h) refl)
 
--- Roomy: there is room for an entry of a location; taking an entry out of a buffer leaves it
-pub roomy-is : (s : State) → Roomy s → (l : ℕ) → l < mostLocations → (l < mostLocations) × (queueLen s l < room)
+-- Roomy: there is room for an entry in the queue of a location; taking an entry out of a buffer leaves it
+pub roomy-is : (p : Program) → ProgramFits p → (s : State) → Roomy s → (l : ℕ) → l < mostLocations → (q : ℕ)
+    → q ≡ queueOf p l
+    → (q < mostLocations) × (queueLen s q < room)
 unfolding Roomy
-roomy-is s r l h = (h, r l h)
+roomy-is p g s r l h q e = let low = queue-low p g l h in rw e (low, r _ low)
 
 pub roomy-buffer : (s : State) (t : ℕ) (b : List Waiting) (u : State) → u ≡ withBuffer s t b → Roomy s → Roomy u
 unfolding Roomy withBuffer
@@ -73,42 +88,52 @@ module _ (b : List Waiting) (waiting : List ℕ) (t i : ℕ) (h : i < getD waiti
   first-named z n k = entry-named n (rw z k)
 
   -- moveRule: at position 0; behind it
-  pub move-first : (marks lengths : List ℕ) (r : ℕ) → i ≡ 0
-      → r ≡ effectRule marks lengths t (getD b (t * mostInstructions + i) blankWaiting .entry)
-      → r ≡ moveRule b waiting marks lengths t i
-  unfolding moveRule
-  move-first marks lengths r z e =
-      refuse-next _ _ _ _ (lt-leb _ _ h) (pick-here _ _ _ _ (eq-eqb _ _ z) (rw entry-is e))
+  module _ (p : Program) (issued marks lengths : List ℕ) (r : ℕ) where
+    abbrev parts : Parts
+    parts = record { buffers = b; issued = issued; waiting = waiting; marks = marks; lengths = lengths }
 
-  pub move-behind : (marks lengths : List ℕ) (r : ℕ) → (i ≡ 0 → ⊥)
-      → r ≡ passRule (bufferIn b waiting t) i (getD b (t * mostInstructions + i) blankWaiting .entry)
-      → r ≡ moveRule b waiting marks lengths t i
-  unfolding moveRule
-  move-behind marks lengths r z e =
-      refuse-next _ _ _ _ (lt-leb _ _ h) (pick-next _ _ _ _ (ne-eqb _ _ z) (rw entry-is e))
+    pub move-first : i ≡ 0
+        → r ≡ effectRule p (effectParts parts) t (getD b (t * mostInstructions + i) blankWaiting .entry)
+        → r ≡ moveRule p parts t i
+    unfolding moveRule
+    move-first z e =
+        refuse-next _ _ _ _ (lt-leb _ _ h)
+        (pick-here _ _ _ _ (eq-eqb _ _ z) (rw entry-is (e ∙ effect-lent parts p t _)))
+
+    pub move-behind : (i ≡ 0 → ⊥)
+        → r ≡ passRule p (bufferIn b waiting t) i (getD b (t * mostInstructions + i) blankWaiting .entry)
+        → r ≡ moveRule p parts t i
+    unfolding moveRule
+    move-behind z e =
+        refuse-next _ _ _ _ (lt-leb _ _ h) (pick-next _ _ _ _ (ne-eqb _ _ z) (rw entry-is e))
 
 -- moveOf: the entry is taken out, then it takes effect
-pub move-taken : (s : State) (t i : ℕ) (u r : State) → i < bufferLen s t
+pub move-taken : (p : Program) (s : State) (t i : ℕ) (u r : State) → i < bufferLen s t
     → u ≡ withBuffer s t (without i (buffer s t))
-    → r ≡ effectOf u t (getD (s .buffers) (t * mostInstructions + i) blankWaiting .entry)
-    → r ≡ moveOf s t i
+    → r ≡ effectOf p u t (getD (s .buffers) (t * mostInstructions + i) blankWaiting .entry)
+    → r ≡ moveOf p s t i
 unfolding moveOf
-move-taken s t i u r h e f = f ∙ rw (e, entry-is (s .buffers) (s .waiting) t i h)
+move-taken p s t i u r h e f = f ∙ rw (e, entry-is (s .buffers) (s .waiting) t i h)
+
+-- the location that a write of a queue goes to is one that there is room for
+pub home-there : (q mark : ℕ) → q < mostLocations → (l : ℕ) → l ≡ homeOf q mark → l < mostLocations
+home-there q mark h l e = rw e (home-low q mark h)
 
 -- persistOf: the oldest entry is taken out, then its word is written
-module _ (s : State) (l : ℕ) (low : l < mostLocations) (some : 0 < queueLen s l) (fits : queueLen s l ≤ room)
+module _ (s : State) (q : ℕ) (low : q < mostLocations) (some : 0 < queueLen s q) (fits : queueLen s q ≤ room)
     (held-long : length (s .held) ≡ allSlots) (marks-long : length (s .marks) ≡ allSlots) where
-  oldest : queue s l
-      ≡ record { word = getD (s .held) (l * room) 0; mark = getD (s .marks) (l * room) 0 }
-      ∷ drop 1 (queue s l)
+  oldest : queue s q
+      ≡ record { word = getD (s .held) (q * room) 0; mark = getD (s .marks) (q * room) 0 }
+      ∷ drop 1 (queue s q)
   unfolding queueIn marksIn
   oldest =
       rw add-zero
-      at (slots-next (s .held) (s .marks) (l * room) (queueLen s l) (omega arith) (omega arith) 0 some)
+      at (slots-next (s .held) (s .marks) (q * room) (queueLen s q) (omega arith) (omega arith) 0 some)
 
-  pub persist-some : (u : State) (w : ℕ) → u ≡ withQueue s l (drop 1 (queue s l))
+  pub persist-some : (u : State) (l w : ℕ) → u ≡ withQueue s q (drop 1 (queue s q))
+      → l ≡ homeOf q (getD (s .marks) (q * room) 0)
       → w
-      ≡ wordOr (record { word = getD (s .held) (l * room) 0; mark = getD (s .marks) (l * room) 0 }) (wordOf s l)
-      → withWord u l w ≡ persistOf s l
+      ≡ wordOr (record { word = getD (s .held) (q * room) 0; mark = getD (s .marks) (q * room) 0 }) (wordOf s l)
+      → withWord u l w ≡ persistOf s q
   unfolding persistOf persistFirst withQueue withWord
-  persist-some u w e f = rw (e, f) (sym (ap (persistFirst s l) oldest))
+  persist-some u l w e g f = rw (e, f, g) (sym (ap (persistFirst s q) oldest))

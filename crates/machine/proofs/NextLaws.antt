@@ -2,44 +2,51 @@
 -- And how many candidates there are. Assumes nothing.
 use Prim.Native.Nat.{ℕ, zero, suc, _+_, _*_, _≤_}
 use mathlib.Core.Path.{_≡_, refl, sym, ap, _∙_}
-use mathlib.Core.List.{List, [], _++_}
+use mathlib.Core.List.{[], _++_}
 use native.Mathlib.Omega.{arith}
 use lib.ListN.{length, replicate, length-append}
-use Rattle.cases.specs.declared.case.Step.{Step}
 use Rattle.cases.specs.declared.case.Program.{Program}
 use Rattle.cases.specs.Choice.{pick}
 use Rattle.cases.specs.Sizes.{mostInstructions}
-use Rattle.machine.specs.declared.cells.Waiting.{Waiting}
+use Rattle.cases.specs.Checks.{queuesOf}
 use Rattle.machine.specs.declared.next.Next.{Next}
 use Rattle.machine.specs.Sizes.{mostCandidates}
+use Rattle.machine.specs.Parts.{Parts}
 use Rattle.machine.specs.Rules.{ruleIn}
 use Rattle.machine.specs.Fit.{ProgramFits}
-use Rattle.machine.specs.Next.{issuesFrom, movesAt, movesFrom, persistsFrom, candidates, listed, nextIn}
-use Rattle.machine.specs.Offer.{nextWith, offeredAll, issueRuleAt, moveRuleAt, persistRuleAt}
+use Rattle.machine.specs.Next.{issueStep, moveStep, persistStep, issuesFrom, movesAt, movesFrom}
+use Rattle.machine.specs.Next.{persistsFrom, candidates, listed, nextIn}
+use Rattle.machine.specs.Offer.{nextWith, offered, offeredAll, issueRuleAt, moveRuleAt, persistRuleAt}
+use Rattle.machine.proofs.QueueOfLaws.{few-queues}
+use Rattle.machine.proofs.PartsLaws.{issueParts, moveParts, persistParts}
+use Rattle.machine.proofs.PartsLaws.{issue-lent, move-lent, persist-lent}
 use Rattle.machine.proofs.OfferedLaws.{offered-all-listed, offered-append}
 
 -- The rule of a step by its code is the rule over the parts it looks at
-module _ (p : Program) (buffers : List Waiting) (issued waiting marks lengths : List ℕ) where
-  abbrev by : Step → ℕ
-  by = ruleIn p buffers issued waiting marks lengths
-
+module _ (p : Program) (x : Parts) where
   issues-same : (t m : ℕ) (n : Next)
-      → offeredAll (issueRuleAt p issued waiting marks lengths) (issuesFrom t m) n
-      ≡ offeredAll by (issuesFrom t m) n
+      → offeredAll (issueRuleAt p (issueParts x)) (issuesFrom t m) n
+      ≡ offeredAll (ruleIn p x) (issuesFrom t m) n
   unfolding issuesFrom offeredAll issueRuleAt ruleIn pick
   issues-same t zero n = refl
-  issues-same t (suc m) n = issues-same (suc t) m _
+  issues-same t (suc m) n =
+      ap (λ r. offeredAll (issueRuleAt p (issueParts x)) (issuesFrom (suc t) m) (offered r (issueStep t) n))
+      (issue-lent x p t)
+      ∙ issues-same (suc t) m _
 
   positions-same : (t i m : ℕ) (n : Next)
-      → offeredAll (moveRuleAt buffers waiting marks lengths) (movesAt t i m) n
-      ≡ offeredAll by (movesAt t i m) n
+      → offeredAll (moveRuleAt p (moveParts x)) (movesAt t i m) n
+      ≡ offeredAll (ruleIn p x) (movesAt t i m) n
   unfolding movesAt offeredAll moveRuleAt ruleIn pick
   positions-same t i zero n = refl
-  positions-same t i (suc m) n = positions-same t (suc i) m _
+  positions-same t i (suc m) n =
+      ap (λ r. offeredAll (moveRuleAt p (moveParts x)) (movesAt t (suc i) m) (offered r (moveStep t i) n))
+      (move-lent x p t i)
+      ∙ positions-same t (suc i) m _
 
   moves-same : (t m : ℕ) (n : Next)
-      → offeredAll (moveRuleAt buffers waiting marks lengths) (movesFrom t m) n
-      ≡ offeredAll by (movesFrom t m) n
+      → offeredAll (moveRuleAt p (moveParts x)) (movesFrom t m) n
+      ≡ offeredAll (ruleIn p x) (movesFrom t m) n
   unfolding movesFrom
   moves-same t zero n = unfold offeredAll in refl
   moves-same t (suc m) n =
@@ -47,12 +54,16 @@ module _ (p : Program) (buffers : List Waiting) (issued waiting marks lengths : 
       ∙ rw (positions-same t 0 mostInstructions n)
       (moves-same (suc t) m _ ∙ sym (offered-append _ (movesAt t 0 mostInstructions) (movesFrom (suc t) m) n))
 
-  persists-same : (l m : ℕ) (n : Next)
-      → offeredAll (persistRuleAt lengths) (persistsFrom l m) n
-      ≡ offeredAll by (persistsFrom l m) n
+  persists-same : (q m : ℕ) (n : Next)
+      → offeredAll (persistRuleAt (persistParts x)) (persistsFrom q m) n
+      ≡ offeredAll (ruleIn p x) (persistsFrom q m) n
   unfolding persistsFrom offeredAll persistRuleAt ruleIn pick
-  persists-same l zero n = refl
-  persists-same l (suc m) n = persists-same (suc l) m _
+  persists-same q zero n = refl
+  persists-same q (suc m) n =
+      ap
+      (λ r. offeredAll (persistRuleAt (persistParts x)) (persistsFrom (suc q) m) (offered r (persistStep q) n))
+      (persist-lent x q)
+      ∙ persists-same (suc q) m _
 
 -- how many candidates there are
 pub length-issues : (t n : ℕ) → length (issuesFrom t n) ≡ n
@@ -74,50 +85,49 @@ length-moves t (suc n) =
     let c = length-moves (suc t) n in
     omega arith
 
-length-persists : (l n : ℕ) → length (persistsFrom l n) ≡ n
+length-persists : (q n : ℕ) → length (persistsFrom q n) ≡ n
 unfolding persistsFrom
-length-persists l zero = refl
-length-persists l (suc n) = ap suc (length-persists (suc l) n)
+length-persists q zero = refl
+length-persists q (suc n) = ap suc (length-persists (suc q) n)
 
 module _ (p : Program) (g : ProgramFits p) where
   pub few-candidates : length (candidates p) ≤ mostCandidates
   unfolding candidates
   few-candidates =
       let a = length-append (issuesFrom 0 (p .threads) ++ movesFrom 0 (p .threads))
-      (persistsFrom 0 (p .locations)) in
+      (persistsFrom 0 (queuesOf p)) in
       let b = length-append (issuesFrom 0 (p .threads)) (movesFrom 0 (p .threads)) in
       let c = length-issues 0 (p .threads) in
       let d = length-moves 0 (p .threads) in
-      let e = length-persists 0 (p .locations) in
+      let e = length-persists 0 (queuesOf p) in
       let f = g .few-threads in
-      let h = g .few-locations in
+      let h = few-queues p g in
       omega arith
 
   -- issues, then moves, then persists, offered to the empty list
-  pub next-made : (buffers : List Waiting) (issued waiting marks lengths : List ℕ) (issues moves all : Next)
+  pub next-made : (x : Parts) (issues moves all : Next)
       → issues
-      ≡ offeredAll (issueRuleAt p issued waiting marks lengths) (issuesFrom 0 (p .threads))
+      ≡ offeredAll (issueRuleAt p (issueParts x)) (issuesFrom 0 (p .threads))
       (nextWith 0 (replicate mostCandidates 0))
-      → moves ≡ offeredAll (moveRuleAt buffers waiting marks lengths) (movesFrom 0 (p .threads)) issues
-      → all ≡ offeredAll (persistRuleAt lengths) (persistsFrom 0 (p .locations)) moves
-      → all ≡ nextIn p buffers issued waiting marks lengths
+      → moves ≡ offeredAll (moveRuleAt p (moveParts x)) (movesFrom 0 (p .threads)) issues
+      → (queues : ℕ) → queues ≡ queuesOf p
+      → all ≡ offeredAll (persistRuleAt (persistParts x)) (persistsFrom 0 queues) moves
+      → all ≡ nextIn p x
   unfolding nextIn listed
-  next-made buffers issued waiting marks lengths issues moves all a b c =
+  next-made x issues moves all a b queues q c =
       let few : 0 + length (candidates p) ≤ mostCandidates = let f = few-candidates in omega arith in
-      let made = offered-all-listed rule (candidates p) [] few in
+      let made = offered-all-listed (ruleIn p x) (candidates p) [] few in
       rw (
         c,
+        q,
         b,
         a,
-        issues-same p buffers issued waiting marks lengths 0 (p .threads),
-        moves-same p buffers issued waiting marks lengths 0 (p .threads),
-        persists-same p buffers issued waiting marks lengths 0 (p .locations),
+        issues-same p x 0 (p .threads),
+        moves-same p x 0 (p .threads),
+        persists-same p x 0 (queuesOf p),
       )
-      (sym (offered-append rule (issuesFrom 0 (p .threads) ++ movesFrom 0 (p .threads))
-      (persistsFrom 0 (p .locations)) (listed [])
-      ∙ ap (offeredAll rule (persistsFrom 0 (p .locations)))
-      (offered-append rule (issuesFrom 0 (p .threads)) (movesFrom 0 (p .threads)) (listed [])))
+      (sym (offered-append (ruleIn p x) (issuesFrom 0 (p .threads) ++ movesFrom 0 (p .threads))
+      (persistsFrom 0 (queuesOf p)) (listed [])
+      ∙ ap (offeredAll (ruleIn p x) (persistsFrom 0 (queuesOf p)))
+      (offered-append (ruleIn p x) (issuesFrom 0 (p .threads)) (movesFrom 0 (p .threads)) (listed [])))
       ∙ (unfold candidates in made))
-    where
-      rule : Step → ℕ
-      rule = ruleIn p buffers issued waiting marks lengths

@@ -16,11 +16,13 @@ use Rattle.machine.specs.declared.cells.Waiting.{Waiting}
 use Rattle.machine.specs.declared.next.Next.{Next}
 use Rattle.machine.specs.Sizes.{mostCandidates}
 use Rattle.machine.specs.View.{bufferIn}
+use Rattle.machine.specs.Parts.{Parts}
 use Rattle.machine.specs.Rules.{instructionAt, operationRule, issueRule, entryAt}
 use Rattle.machine.specs.Fit.{Named, ProgramFits}
 use Rattle.machine.specs.Next.{issueStep, moveStep, persistStep, issuesFrom, movesAt, movesFrom}
 use Rattle.machine.specs.Next.{persistsFrom}
 use Rattle.machine.specs.Offer.{offered, offeredAll, issueRuleAt, moveRuleAt, Movable}
+use Rattle.machine.proofs.PartsLaws.{operationParts, operation-lent}
 use Rattle.machine.proofs.OfferedLaws.{count-offered, count-offered-all, issues-next, issues-end}
 use Rattle.machine.proofs.OfferedLaws.{positions-next, positions-end, moves-next, moves-end}
 use Rattle.machine.proofs.OfferedLaws.{persists-next, persists-end}
@@ -57,7 +59,7 @@ few-next : (broken : ℕ) (k : Step) (most i : ℕ) (n next : Next) → i < most
     → next .count + (most - (i + 1)) * 1 ≤ mostCandidates
 few-next broken k most i n next h e w = rw e (let a = count-offered broken k n in omega arith)
 
--- a turn goes on, the loop ends: issues by thread, moves by position, moves by thread, persists by location
+-- a turn goes on, the loop ends: issues by thread, moves by position, moves by thread, persists by queue
 module _ {rule : Step → ℕ} {most i : ℕ} {n start : Next} where
   pub issue-next : OfferedSoFar rule issuesFrom 1 most i n start → i < most
       → (broken : ℕ) → broken ≡ rule (issueStep i) → (next : Next) → next ≡ offered broken (issueStep i) n
@@ -108,24 +110,23 @@ module _ {rule : Step → ℕ} {most i : ℕ} {n start : Next} where
   persist-end o h = sym (persists-end rule i most n h) ∙ o .rest
 
 -- the rule against a thread's issue: no instruction is left, or its operation decides
-module _ (p : Program) (issued waiting marks lengths : List ℕ) (t : ℕ) where
-  pub issue-none : countAt p t ≤ getD issued t 0 → 21 ≡ issueRuleAt p issued waiting marks lengths (issueStep t)
+module _ (p : Program) (x : Parts) (t : ℕ) where
+  pub issue-none : countAt p t ≤ getD (x .issued) t 0 → 21 ≡ issueRuleAt p x (issueStep t)
   unfolding issueRuleAt issueRule refuse
   issue-none h = rw (le-leb _ _ h)
 
-  pub issue-some : (broken : ℕ) → getD issued t 0 < countAt p t
-      → broken ≡ operationRule (instructionAt p t (getD issued t 0) .operation) waiting marks lengths t
-      → broken ≡ issueRuleAt p issued waiting marks lengths (issueStep t)
+  pub issue-some : (broken : ℕ) → getD (x .issued) t 0 < countAt p t
+      → broken ≡ operationRule (instructionAt p t (getD (x .issued) t 0) .operation) (operationParts x) t
+      → broken ≡ issueRuleAt p x (issueStep t)
   unfolding issueRuleAt issueRule refuse
-  issue-some broken h e = rw (lt-leb _ _ h) e
+  issue-some broken h e = rw (lt-leb _ _ h) (e ∙ operation-lent x _ t)
 
 -- behind a buffer's entries there is nothing to move
-pub position-end : (buffers : List Waiting) (waiting marks lengths : List ℕ) (t : ℕ) {most i : ℕ}
-    {n start : Next} → OfferedSoFar (moveRuleAt buffers waiting marks lengths) (movesAt t) 1 most i n start
-    → getD waiting t 0 ≤ i
-    → n ≡ offeredAll (moveRuleAt buffers waiting marks lengths) (movesAt t 0 most) start
-position-end buffers waiting marks lengths t {most} {i} {n} o h =
-    sym (positions-end buffers waiting marks lengths t (most - i) i n h) ∙ o .rest
+pub position-end : (p : Program) (x : Parts) (t : ℕ) {most i : ℕ} {n start : Next}
+    → OfferedSoFar (moveRuleAt p x) (movesAt t) 1 most i n start
+    → getD (x .waiting) t 0 ≤ i
+    → n ≡ offeredAll (moveRuleAt p x) (movesAt t 0 most) start
+position-end p x t {most} {i} {n} o h = sym (positions-end p x t (most - i) i n h) ∙ o .rest
 
 -- all issues make the list longer by one a thread at most, all moves by a buffer's depth a thread
 issues-few : (rule : Step → ℕ) (most : ℕ) (n next : Next) → next ≡ offeredAll rule (issuesFrom 0 most) n

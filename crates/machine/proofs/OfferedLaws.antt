@@ -11,15 +11,17 @@ use borrow.Author.Tests.{eq-eqb, ne-eqb, le-leb}
 use lib.Dec.{eqb}
 use lib.ListN.{length, getD, set, replicate, length-append, length-map}
 use Rattle.cases.specs.declared.case.Step.{Step}
+use Rattle.cases.specs.declared.case.Program.{Program}
 use Rattle.cases.specs.Choice.{pick, refuse}
 use Rattle.cases.specs.Sizes.{mostInstructions}
 use Rattle.cases.proofs.ChoiceLaws.{pick-true, pick-false, pick-cases}
-use Rattle.machine.specs.declared.cells.Waiting.{Waiting}
 use Rattle.machine.specs.declared.next.Next.{Next}
 use Rattle.machine.specs.Sizes.{mostCandidates}
+use Rattle.machine.specs.Parts.{Parts}
 use Rattle.machine.specs.Rules.{moveRule}
 use Rattle.machine.specs.Next.{issueStep, moveStep, persistStep, issuesFrom, movesAt, movesFrom}
-use Rattle.machine.specs.Next.{persistsFrom, allowed, rankOf, listed}
+use Rattle.machine.specs.Next.{persistsFrom, rankOf, listed}
+use Rattle.machine.specs.Model.{allowed}
 use Rattle.machine.specs.Offer.{nextWith, offered, offeredAll, moveRuleAt}
 
 -- one more on the list
@@ -151,17 +153,15 @@ module _ (rule : Step → ℕ) (i most : ℕ) (n : Next) where
   positions-next t h = let e : most - i ≡ suc (most - (i + 1)) = omega arith in rw (e, add-one)
 
 -- behind a buffer's entries there is nothing to move
-no-entry : (buffers : List Waiting) (waiting marks lengths : List ℕ) (t i : ℕ) → getD waiting t 0 ≤ i
-    → moveRuleAt buffers waiting marks lengths (moveStep t i) ≢ 0
-unfolding moveRuleAt moveRule refuse
-no-entry buffers waiting marks lengths t i h = rw (le-leb _ _ h) (λ e. omega arith)
+module _ (p : Program) (x : Parts) (t : ℕ) where
+  no-entry : (i : ℕ) → getD (x .waiting) t 0 ≤ i → moveRuleAt p x (moveStep t i) ≢ 0
+  unfolding moveRuleAt moveRule refuse
+  no-entry i h = rw (le-leb _ _ h) (λ e. omega arith)
 
-pub positions-end : (buffers : List Waiting) (waiting marks lengths : List ℕ) (t : ℕ) (m i : ℕ) (n : Next)
-    → getD waiting t 0 ≤ i
-    → offeredAll (moveRuleAt buffers waiting marks lengths) (movesAt t i m) n ≡ n
-unfolding movesAt offeredAll
-positions-end buffers waiting marks lengths t zero i n h = refl
-positions-end buffers waiting marks lengths t (suc m) i n h =
-    let e = offered-none _ (moveStep t i) n (no-entry buffers waiting marks lengths t i h) in
-    ap (offeredAll (moveRuleAt buffers waiting marks lengths) (movesAt t (suc i) m)) e
-    ∙ positions-end buffers waiting marks lengths t m (suc i) n (omega arith)
+  pub positions-end : (m i : ℕ) (n : Next) → getD (x .waiting) t 0 ≤ i
+      → offeredAll (moveRuleAt p x) (movesAt t i m) n ≡ n
+  unfolding movesAt offeredAll
+  positions-end zero i n h = refl
+  positions-end (suc m) i n h =
+      let e = offered-none _ (moveStep t i) n (no-entry i h) in
+      ap (offeredAll (moveRuleAt p x) (movesAt t (suc i) m)) e ∙ positions-end m (suc i) n (omega arith)

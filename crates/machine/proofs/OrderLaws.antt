@@ -2,19 +2,16 @@
 use Prim.Native.Nat.{ℕ, zero, suc, _+_, _*_, _≤_}
 use mathlib.Core.Path.{_≡_}
 use mathlib.Core.Logic.{inl, inr}
-use mathlib.Core.Bool.{Bool, true, false}
 use mathlib.Core.List.{List, [], _∷_, _++_, append-assoc}
 use native.Mathlib.Omega.{arith}
-use lib.Dec.{eqb}
 use Rattle.cases.specs.declared.case.Step.{Step}
 use Rattle.cases.specs.declared.case.Program.{Program}
-use Rattle.cases.specs.Choice.{pick}
 use Rattle.cases.specs.Sizes.{mostInstructions, mostLocations, allCode}
-use Rattle.machine.specs.declared.cells.State.{State}
-use Rattle.machine.specs.Rules.{ruleOf}
+use Rattle.cases.specs.Checks.{queuesOf}
 use Rattle.machine.specs.Fit.{ProgramFits}
 use Rattle.machine.specs.Next.{issueStep, moveStep, persistStep, issuesFrom, movesAt, movesFrom}
-use Rattle.machine.specs.Next.{persistsFrom, candidates, allowed, legalSteps, rankOf, Listed, Ascending}
+use Rattle.machine.specs.Next.{persistsFrom, candidates, rankOf}
+use Rattle.machine.specs.Model.{Listed, Ascending}
 
 -- each step's rank is above the one before, the first one's at least n
 unfoldable Rising : ℕ → List Step → Type 0
@@ -53,9 +50,9 @@ move-rank : (t i : ℕ) → rankOf (moveStep t i) ≡ allCode + mostLocations + 
 unfolding rankOf
 move-rank t i = omega arith
 
-persist-rank : (l : ℕ) → rankOf (persistStep l) ≡ 2 * (allCode + mostLocations) + l
+persist-rank : (q : ℕ) → rankOf (persistStep q) ≡ 2 * (allCode + mostLocations) + q
 unfolding rankOf
-persist-rank l = omega arith
+persist-rank q = omega arith
 
 -- one kind rises, and what comes behind it begins above it
 rising-issues : (t m n : ℕ) (rest : List Step) → n ≤ t * mostInstructions
@@ -90,21 +87,11 @@ rising-moves t (suc m) n rest h r =
     (rising-positions t 0 mostInstructions n _ (omega arith)
     (rising-moves (suc t) m _ rest (omega arith) (rising-low _ _ rest (omega arith) r)))
 
-rising-persists : (l m n : ℕ) → n ≤ 2 * (allCode + mostLocations) + l → Rising n (persistsFrom l m)
+rising-persists : (q m n : ℕ) → n ≤ 2 * (allCode + mostLocations) + q → Rising n (persistsFrom q m)
 unfolding persistsFrom Rising
-rising-persists l zero n h = tt
-rising-persists l (suc m) n h =
-    let e = persist-rank l in (omega arith, rising-persists (suc l) m _ (omega arith))
-
-rising-allowed : (rule : Step → ℕ) (n : ℕ) (ks : List Step) → Rising n ks → Rising n (allowed rule ks)
-unfolding allowed Rising pick
-rising-allowed rule n [] r = tt
-rising-allowed rule n (k ∷ ks) r = go (eqb (rule k) 0) (rising-allowed rule (suc (rankOf k)) ks (r .1))
-  where
-    go : (b : Bool) → Rising (suc (rankOf k)) (allowed rule ks)
-        → Rising n (pick b (k ∷ allowed rule ks) (allowed rule ks))
-    go true ih = (r .0, ih)
-    go false ih = rising-low n (suc (rankOf k)) (allowed rule ks) (let a = r .0 in omega arith) ih
+rising-persists q zero n h = tt
+rising-persists q (suc m) n h =
+    let e = persist-rank q in (omega arith, rising-persists (suc q) m _ (omega arith))
 
 candidates-rising : (p : Program) → ProgramFits p → Rising 0 (candidates p)
 unfolding candidates
@@ -113,9 +100,7 @@ candidates-rising p g =
     rw (append-assoc (issuesFrom 0 (p .threads)))
     (rising-issues 0 (p .threads) 0 _ (omega arith)
     (rising-moves 0 (p .threads) _ _ (omega arith)
-    (rising-persists 0 (p .locations) _ (omega arith))))
+    (rising-persists 0 (queuesOf p) _ (omega arith))))
 
-pub legal-ascending : (p : Program) (s : State) → ProgramFits p → Ascending rankOf (legalSteps p s)
-unfolding legalSteps
-legal-ascending p s g =
-    rising-ascending 0 _ (rising-allowed (ruleOf p s) 0 (candidates p) (candidates-rising p g))
+pub candidates-rise : (p : Program) → ProgramFits p → Ascending rankOf (candidates p)
+candidates-rise p g = rising-ascending 0 (candidates p) (candidates-rising p g)

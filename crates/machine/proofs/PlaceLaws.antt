@@ -18,8 +18,10 @@ use Rattle.machine.specs.declared.cells.State.{State}
 use Rattle.machine.specs.declared.runs.Verdict.{Verdict}
 use Rattle.machine.specs.declared.runs.Judged.{Judged}
 use Rattle.machine.specs.Rules.{ruleOf}
-use Rattle.machine.specs.Judge.{Leads, StopsAt, verdictNo, verdictPlace, judged, judgeFrom}
+use Rattle.machine.specs.Judge.{verdictNo, verdictPlace, judged, judgeFrom}
+use Rattle.machine.specs.Model.{Leads, StopsAt}
 use Rattle.machine.specs.Judge.{runOf, judgeRun, stopped, judgeBytes}
+use Rattle.machine.specs.Ptso.{ptso}
 use Rattle.machine.proofs.RuleLaws.{rule-table}
 use Rattle.machine.proofs.JudgeLaws.{leads-or-stops, legal-says, illegal-says}
 
@@ -34,15 +36,15 @@ rule-low p s k = go (rule-table p s k)
     go (inr e) = let h = e .1 in omega arith
 
 -- a run of 96 steps at most: the place is their number, or an index below it
-run-low : (p : Program) (s : State) (ks : List Step) → length ks ≤ mostSteps → Low (judgeFrom p 0 s ks .verdict)
-run-low p s ks h = go (leads-or-stops p s ks)
+run-low : (p : Program) (s : State) (ks : List Step) → length ks ≤ mostSteps → Low (judgeFrom (ptso p) 0 s ks .verdict)
+run-low p s ks h = go (leads-or-stops (ptso p) s ks)
   where
-    go : ((u : State) × Leads p s ks u) ⊎ ((n : ℕ) × (u : State) × StopsAt p s ks n u)
-        → Low (judgeFrom p 0 s ks .verdict)
-    go (inl e) = rw (legal-says p s ks (e .0) (e .1)) (omega arith, omega arith)
+    go : ((u : State) × Leads (ptso p) s ks u) ⊎ ((n : ℕ) × (u : State) × StopsAt (ptso p) s ks n u)
+        → Low (judgeFrom (ptso p) 0 s ks .verdict)
+    go (inl e) = rw (legal-says (ptso p) s ks (e .0) (e .1)) (omega arith, omega arith)
     go (inr e) =
         let w = e .2 .within in
-        rw (illegal-says p s ks (e .0) (e .1) _ (e .2) refl) (rule-low p (e .1) _, omega arith)
+        rw (illegal-says (ptso p) s ks (e .0) (e .1) _ (e .2) refl) (rule-low p (e .1) _, omega arith)
 
 -- a run that was read has no more
 run-short : (c : Case) → Ranged c → length (runOf c) ≤ mostSteps

@@ -12,7 +12,7 @@ use lib.ListN.{length, getD}
 use Rattle.cases.specs.declared.case.Step.{Step}
 use Rattle.cases.specs.declared.case.Program.{Program}
 use Rattle.cases.specs.Choice.{pick, refuse}
-use Rattle.cases.specs.Checks.{stepFault, countAt}
+use Rattle.cases.specs.Checks.{limitsOf, queuesOf, stepFault, countAt}
 use Rattle.cases.specs.Sizes.{mostThreads, mostLocations}
 use Rattle.cases.proofs.ChoiceLaws.{pick-cases}
 use Rattle.cases.proofs.ArrayLaws.{length-none}
@@ -20,43 +20,45 @@ use Rattle.machine.specs.declared.cells.State.{State}
 use Rattle.machine.specs.declared.cells.Entry.{Entry}
 use Rattle.machine.specs.declared.cells.Entry.the-variants.{Store, Flush, FlushOpt, Sfence}
 use Rattle.machine.specs.declared.look.Found.the-variants.{Nothing}
-use Rattle.machine.specs.View.{part, marksIn, queue, queueLen, bufferIn, buffer, bufferLen, issuedOf}
+use Rattle.machine.specs.View.{part, queueOf, marksIn, queue, queueLen, bufferIn, buffer, bufferLen}
+use Rattle.machine.specs.View.{issuedOf}
+use Rattle.machine.specs.Parts.{Parts, partsOf}
 use Rattle.machine.specs.Look.{markerAmong, markerFrom, markerOf, marked}
 use Rattle.machine.specs.Rules.{barrierRule, operationRule, issueRule, effectRule, moveRule}
 use Rattle.machine.specs.Rules.{persistRule, ruleIn, ruleOf}
-use Rattle.machine.specs.Fit.{unissued, Fits, Named}
+use Rattle.machine.specs.Fit.{unissued, ProgramFits, Fits, Named}
 use Rattle.machine.specs.Work.{weighCode, weighBuffer, unissuedCode, threadWork, work, Unfinished}
 use Rattle.machine.specs.Next.{issueStep, moveStep, persistStep}
 use Rattle.machine.specs.Offer.{Movable}
 use Rattle.machine.proofs.SumLaws.{sum-none, some-or-none}
 use Rattle.machine.proofs.PartLaws.{lt-or-ge}
+use Rattle.machine.proofs.QueueOfLaws.{few-queues, queue-low}
 use Rattle.machine.proofs.KeepLaws.{queue-long, buffer-long}
 use Rattle.machine.proofs.ReadyLaws.{movable}
 use Rattle.machine.proofs.CandidateLaws.{issue-fault, move-fault, persist-fault}
 
 -- Where no queue holds anything: no marker is found, every entry may take effect, every operation may be issued
 -- with an empty buffer
-module _ (marks lengths : List ℕ) (none : (l : ℕ) → l < mostLocations → getD lengths l 0 ≡ 0) (t : ℕ) where
-  empty-none : (k l : ℕ) → l + k ≤ mostLocations → markerFrom marks lengths t k l ≡ Nothing
+module _ (x : Parts) (none : (q : ℕ) → q < mostLocations → getD (x .lengths) q 0 ≡ 0) (t : ℕ) where
+  empty-none : (k q : ℕ) → q + k ≤ mostLocations → markerFrom (x .marks) (x .lengths) t k q ≡ Nothing
   unfolding markerFrom markerAmong marksIn part
-  empty-none zero l h = refl
-  empty-none (suc k) l h = rw (none l (omega arith)) (empty-none k (suc l) (omega arith))
+  empty-none zero q h = refl
+  empty-none (suc k) q h = rw (none q (omega arith)) (empty-none k (suc q) (omega arith))
 
-  marked-none : marked marks lengths t ≡ false
+  marked-none : marked (x .marks) (x .lengths) t ≡ false
   unfolding marked markerOf
   marked-none = rw (empty-none mostLocations 0 (omega arith))
 
-  effect-none : (e : Entry) → Named mostLocations e → effectRule marks lengths t e ≡ 0
+  effect-none : (p : Program) → ProgramFits p → (e : Entry) → Named mostLocations e → effectRule p x t e ≡ 0
   unfolding effectRule refuse Named
-  effect-none (Store w) h = refl
-  effect-none (Flush l) h = rw (none (l .0) h)
-  effect-none (FlushOpt l) h = refl
-  effect-none Sfence h = rw marked-none
+  effect-none p g (Store w) h = refl
+  effect-none p g (Flush l) h = rw (none (queueOf p (l .0)) (queue-low p g (l .0) h))
+  effect-none p g (FlushOpt l) h = refl
+  effect-none p g Sfence h = rw marked-none
 
-  operation-none : (op : ℕ) (waiting : List ℕ) → getD waiting t 0 ≡ 0
-      → operationRule op waiting marks lengths t ≡ 0
+  operation-none : (op : ℕ) → getD (x .waiting) t 0 ≡ 0 → operationRule op x t ≡ 0
   unfolding operationRule barrierRule refuse
-  operation-none op waiting h = pick-cases (λ n. n ≡ 0) _ _ _ (λ b. rw (h, marked-none)) (λ b. refl)
+  operation-none op h = pick-cases (λ n. n ≡ 0) _ _ _ (λ b. rw (h, marked-none)) (λ b. refl)
 
 -- one of n lists is not empty, or each is
 abbrev EmptyOrNot : {A : Type 0} → ℕ → (ℕ → List A) → Type 0
@@ -70,7 +72,7 @@ empty-or-not n f = go (some-or-none n (λ i. length (f i)))
     go (inr r) = inr (λ i h. length-none (f i) (r i h))
 
 -- no work is left where nothing is queued, nothing waits and nothing is unissued
-work-none : (p : Program) (s : State) → ((l : ℕ) → l < mostLocations → queueLen s l ≡ 0)
+work-none : (p : Program) (s : State) → ((q : ℕ) → q < mostLocations → queueLen s q ≡ 0)
     → ((t : ℕ) → t < mostThreads → bufferLen s t ≡ 0)
     → ((t : ℕ) → t < mostThreads → unissued p s t ≡ 0)
     → work p s ≡ 0
@@ -82,10 +84,10 @@ work-none p s queues buffers code =
 
 module _ (p : Program) (s : State) (f : Fits p s) where
   -- where the program's own are empty, every queue's length is 0, and every buffer's
-  queues-none : ((l : ℕ) → l < p .locations → queue s l ≡ []) → (l : ℕ) → l < mostLocations → queueLen s l ≡ 0
-  queues-none quiet l low =
-      ⊎-elim (λ h. sym (queue-long p s f l low) ∙ ap length (quiet l h)) (f .no-queue l low)
-      (lt-or-ge l (p .locations))
+  queues-none : ((q : ℕ) → q < queuesOf p → queue s q ≡ []) → (q : ℕ) → q < mostLocations → queueLen s q ≡ 0
+  queues-none quiet q low =
+      ⊎-elim (λ h. sym (queue-long p s f q low) ∙ ap length (quiet q h)) (f .no-queue q low)
+      (lt-or-ge q (queuesOf p))
 
   buffers-none : ((t : ℕ) → t < p .threads → buffer s t ≡ []) → (t : ℕ) → t < mostThreads → bufferLen s t ≡ 0
   buffers-none still t low =
@@ -93,18 +95,18 @@ module _ (p : Program) (s : State) (f : Fits p s) where
       (lt-or-ge t (p .threads))
 
   -- a queue that holds something: its oldest may persist
-  pub persist-legal : (l : ℕ) → l < p .locations → queue s l ≢ []
-      → (stepFault p (persistStep l) ≡ 0) × (ruleOf p s (persistStep l) ≡ 0)
+  pub persist-legal : (q : ℕ) → q < queuesOf p → queue s q ≢ []
+      → (stepFault (limitsOf p) (persistStep q) ≡ 0) × (ruleOf p s (persistStep q) ≡ 0)
   unfolding ruleOf ruleIn pick persistRule refuse
-  persist-legal l low h =
-      let few = f .program .few-locations in
-      let n = queue-long p s f l (omega arith) in
-      (persist-fault p l low, rw (ne-eqb _ _ (λ e. h (length-none _ (n ∙ e)))))
+  persist-legal q low h =
+      let few = few-queues p (f .program) in
+      let n = queue-long p s f q (omega arith) in
+      (persist-fault p q low, rw (ne-eqb _ _ (λ e. h (length-none _ (n ∙ e)))))
 
   -- where every queue is empty any thread's first entry may move, and a thread with an empty buffer may issue
-  module _ (quiet : (l : ℕ) → l < p .locations → queue s l ≡ []) where
+  module _ (quiet : (q : ℕ) → q < queuesOf p → queue s q ≡ []) where
     pub move-legal : (t : ℕ) → t < p .threads → buffer s t ≢ []
-        → (stepFault p (moveStep t 0) ≡ 0) × (ruleOf p s (moveStep t 0) ≡ 0)
+        → (stepFault (limitsOf p) (moveStep t 0) ≡ 0) × (ruleOf p s (moveStep t 0) ≡ 0)
     unfolding ruleOf ruleIn pick moveRule refuse Movable
     move-legal t low h =
         let few = f .program .few-threads in
@@ -113,26 +115,26 @@ module _ (p : Program) (s : State) (f : Fits p s) where
         let some : 0 < bufferLen s t = omega arith in
         let named = movable p s f t (omega arith) .1 in (
           move-fault p t 0 low (omega arith),
-          rw (lt-leb _ _ some) (effect-none (s .marks) (s .lengths) (queues-none quiet) t _ named),
+          rw (lt-leb _ _ some) (effect-none (partsOf s) (queues-none quiet) t p (f .program) _ named),
         )
 
     pub issue-legal : (t : ℕ) → t < p .threads → buffer s t ≡ [] → issuedOf s t < countAt p t
-        → (stepFault p (issueStep t) ≡ 0) × (ruleOf p s (issueStep t) ≡ 0)
+        → (stepFault (limitsOf p) (issueStep t) ≡ 0) × (ruleOf p s (issueStep t) ≡ 0)
     unfolding ruleOf ruleIn pick issueRule refuse
     issue-legal t low h left =
         let few = f .program .few-threads in
         let n = sym (buffer-long p s f t (omega arith)) ∙ ap length h in (
           issue-fault p t low,
-          rw (lt-leb _ _ left) (operation-none (s .marks) (s .lengths) (queues-none quiet) t _ (s .waiting) n),
+          rw (lt-leb _ _ left) (operation-none (partsOf s) (queues-none quiet) t _ n),
         )
 
   -- while an instruction is unissued or an entry waits, some step is legal
-  pub progress : Unfinished p s → (k : Step) × (stepFault p k ≡ 0) × (ruleOf p s k ≡ 0)
+  pub progress : Unfinished p s → (k : Step) × (stepFault (limitsOf p) k ≡ 0) × (ruleOf p s k ≡ 0)
   unfolding Unfinished
-  progress u = go (empty-or-not (p .locations) (queue s)) (empty-or-not (p .threads) (buffer s)) u
+  progress u = go (empty-or-not (queuesOf p) (queue s)) (empty-or-not (p .threads) (buffer s)) u
     where
-      go : EmptyOrNot (p .locations) (queue s) → EmptyOrNot (p .threads) (buffer s) → Unfinished p s
-          → (k : Step) × (stepFault p k ≡ 0) × (ruleOf p s k ≡ 0)
+      go : EmptyOrNot (queuesOf p) (queue s) → EmptyOrNot (p .threads) (buffer s) → Unfinished p s
+          → (k : Step) × (stepFault (limitsOf p) k ≡ 0) × (ruleOf p s k ≡ 0)
       go (inl x) y u = let k = persist-legal (x .0) (x .1) (x .2) in (persistStep (x .0), k .0, k .1)
       go (inr q) (inl x) u = let k = move-legal q (x .0) (x .1) (x .2) in (moveStep (x .0) 0, k .0, k .1)
       go (inr q) (inr b) (inl x) =
@@ -152,10 +154,10 @@ module _ (p : Program) (s : State) (f : Fits p s) where
   pub work-some : 0 < work p s → Unfinished p s
   unfolding Unfinished
   work-some h =
-      go (empty-or-not (p .locations) (queue s)) (empty-or-not (p .threads) (buffer s))
+      go (empty-or-not (queuesOf p) (queue s)) (empty-or-not (p .threads) (buffer s))
       (some-or-none mostThreads (unissued p s))
     where
-      go : EmptyOrNot (p .locations) (queue s) → EmptyOrNot (p .threads) (buffer s)
+      go : EmptyOrNot (queuesOf p) (queue s) → EmptyOrNot (p .threads) (buffer s)
           → ((t : ℕ) × (t < mostThreads) × (0 < unissued p s t))
           ⊎ ((t : ℕ) → t < mostThreads → unissued p s t ≡ 0)
           → Unfinished p s

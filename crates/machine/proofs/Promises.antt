@@ -3,7 +3,8 @@
 use Prim.Native.Nat.{ℕ, _+_, _<_, _≤_}
 use mathlib.Core.Path.{_≡_, refl, sym, _∙_}
 use mathlib.Core.Logic.{_⊎_, _≢_, _↔_}
-use mathlib.Core.List.{List, [], _∷_, map}
+use mathlib.Core.List.{List, [], _∷_, _++_, map}
+use native.Mathlib.Omega.{arith}
 use mathlib.Core.Bool.{true, false}
 use lib.ListN.{length, getD, take, drop}
 use borrow.Author.Tests.{eq-eqb, ne-eqb}
@@ -11,9 +12,9 @@ use Rattle.cases.specs.declared.case.Step.{Step}
 use Rattle.cases.specs.declared.case.Program.{Program}
 use Rattle.cases.specs.declared.case.Ask.{Ask}
 use Rattle.cases.specs.declared.case.Case.{Case}
-use Rattle.cases.specs.Sizes.{mostThreads, mostLocations, mostSteps, longest}
+use Rattle.cases.specs.Sizes.{mostThreads, mostLocations, longest}
 use Rattle.cases.specs.Bytes.{IsBytes}
-use Rattle.cases.specs.Checks.{stepFault, countAt}
+use Rattle.cases.specs.Checks.{limitsOf, queuesOf, stepFault, countAt}
 use Rattle.cases.specs.Draft.{noStep, runWith, withAsk, withRun}
 use Rattle.cases.specs.Reading.{numberOf, offsetOf, readOf}
 use Rattle.cases.specs.Writing.{readsBack}
@@ -22,31 +23,34 @@ use Rattle.cases.proofs.ChoiceLaws.{pick-true, pick-false, pick-cases, true-not
 use Rattle.machine.specs.declared.cells.State.{State}
 use Rattle.machine.specs.declared.steps.Stepped.{Stepped}
 use Rattle.machine.specs.declared.runs.Verdict.the-variants.{Legal, Illegal}
-use Rattle.machine.specs.View.{marksIn, queue, buffer, issuedOf}
+use Rattle.machine.specs.View.{queueOf, marksIn, queue, buffer, issuedOf}
 use Rattle.machine.specs.Behind.{BlankBehind, SameEntries}
 use Rattle.machine.specs.Look.{markerOf, isAt, foundQueue, foundPosition}
 use Rattle.machine.specs.Rules.{ruleOf, nextOf, startOf}
 use Rattle.machine.specs.Fit.{sumTo, misfits, Sized, ProgramFits, Fits, Shallow}
-use Rattle.machine.specs.Work.{work, Unfinished, fullLength, programWeight, cost}
-use Rattle.machine.specs.Judge.{Leads, Faultless, StopsAt, rulingNo, told, steppedOf, stepOf, verdictNo}
+use Rattle.machine.specs.Work.{work, Unfinished, programWeight, cost}
+use Rattle.machine.specs.Model.{Model, Lawful, EachCostsOne, spent}
+use Rattle.machine.specs.Model.{fullLength, Leads, Faultless, StopsAt, legalSteps, Listed, Ascending}
+use Rattle.machine.specs.Judge.{rulingNo, told, steppedOf, stepOf, verdictNo}
 use Rattle.machine.specs.Judge.{verdictPlace, judged, judgeFrom, runOf, judgeRun, stopped, judgeOf}
 use Rattle.machine.specs.Judge.{judgeBytes}
-use Rattle.machine.specs.Next.{issueStep, moveStep, persistStep, legalSteps, rankOf, stepAt, nextSteps}
-use Rattle.machine.specs.Next.{Listed, Ascending}
+use Rattle.machine.specs.Next.{issueStep, moveStep, persistStep, rankOf, stepAt, nextSteps}
+use Rattle.machine.specs.Ptso.{ptso}
 use Rattle.machine.specs.Offer.{Movable}
-use Rattle.machine.specs.Sizes.{allSlots, mostCandidates}
+use Rattle.machine.specs.Sizes.{allSlots, mostCandidates, mostWork}
+use Rattle.machine.proofs.QueueOfLaws as QueueOfLaws
 use Rattle.machine.proofs.StartLaws as StartLaws
 use Rattle.machine.proofs.RangeLaws.{fault-none}
 use Rattle.machine.proofs.StepLaws as StepLaws
 use Rattle.machine.proofs.ProgressLaws as ProgressLaws
 use Rattle.machine.proofs.RunLaws as RunLaws
-use Rattle.machine.proofs.OrderLaws as OrderLaws
+use Rattle.machine.proofs.ModelLaws as ModelLaws
+use Rattle.machine.proofs.PtsoLaws as PtsoLaws
 use Rattle.machine.proofs.RankLaws as RankLaws
 use Rattle.machine.proofs.ReadyLaws as ReadyLaws
 use Rattle.machine.proofs.RuleLaws as RuleLaws
 use Rattle.machine.proofs.FitLaws as FitLaws
 use Rattle.machine.proofs.FoundLaws as FoundLaws
-use Rattle.machine.proofs.CandidateLaws as CandidateLaws
 use Rattle.machine.proofs.PlaceLaws as PlaceLaws
 use Rattle.machine.proofs.BlankStepLaws as BlankStepLaws
 use Rattle.machine.proofs.SameEntryLaws as SameEntryLaws
@@ -57,30 +61,87 @@ use Rattle.machine.proofs.JudgeLaws.{illegal-says, says-leads, says-sto
 pub read-fits : (s : List ℕ) → numberOf (readOf s .answer) ≡ 0 → ProgramFits (readOf s .case .program)
 read-fits s h = StartLaws.ranged-fits (readOf s .case) (read-ranged s h)
 
+-- Any machine
+module _ {S K : Type 0} (m : Model S K) where
+  -- a run behind a run
+  pub leads-append : (s : S) (ks : List K) (u : S) (js : List K) (v : S) → Leads m s ks u → Leads m u js v
+      → Leads m s (ks ++ js) v
+  leads-append = ModelLaws.leads-append m
+
+  pub faultless-append : (ks js : List K) → Faultless m ks → Faultless m js → Faultless m (ks ++ js)
+  faultless-append = ModelLaws.faultless-append m
+
+  -- where every step uses up one, so many steps use up so much
+  pub spent-length : EachCostsOne m → (s : S) (ks : List K) → spent m s ks ≡ length ks
+  spent-length = ModelLaws.spent-length m
+
+  -- that has its laws
+  module _ {Fit : S → Type 0} {rank : K → ℕ} (laws : Lawful m Fit rank) where
+    -- the list of next steps holds the legal ones, exactly, in 01's order, each once
+    pub next-legal : (s : S) (k : K) → Listed k (legalSteps m s) ↔ ((m .fault k ≡ 0) × (m .rule s k ≡ 0))
+    next-legal s k =
+        (ModelLaws.listed-legal m laws s k, (λ h. ModelLaws.legal-listed m laws s k (h .0) (h .1)))
+
+    pub next-rising : (s : S) → Ascending rank (legalSteps m s)
+    next-rising = ModelLaws.legal-rises m laws
+
+    -- a legal step lowers the work left
+    pub step-lowers : (s : S) → Fit s → (k : K) → m .fault k ≡ 0 → m .rule s k ≡ 0
+        → m .left (m .after s k) < m .left s
+    step-lowers = ModelLaws.step-lowers m laws
+
+    -- a legal run keeps the fit, and lowers the work left by what its steps use up together, which is at least
+    -- their number
+    pub leads-fits : (s : S) (ks : List K) (u : S) → Fit s → Faultless m ks → Leads m s ks u → Fit u
+    leads-fits = ModelLaws.leads-fits m laws
+
+    pub leads-work : (s : S) (ks : List K) (u : S) → Fit s → Faultless m ks → Leads m s ks u
+        → m .left u + spent m s ks ≡ m .left s
+    leads-work = ModelLaws.leads-work m laws
+
+    pub spent-least : (s : S) (ks : List K) (u : S) → Fit s → Faultless m ks → Leads m s ks u
+        → length ks ≤ spent m s ks
+    spent-least = ModelLaws.spent-least m laws
+
+-- each step of the machine of document 01 uses up one
+pub each-costs-one : (p : Program) → EachCostsOne (ptso p)
+each-costs-one = PtsoLaws.each-costs-one
+
 -- A program that the machine can run
 module _ (p : Program) (fits : ProgramFits p) where
+  -- the machine of document 01, for it, is one that has its laws
+  pub ptso-lawful : Lawful (ptso p) (Fits p) rankOf
+  ptso-lawful = PtsoLaws.ptso-lawful p fits
+
+  -- it has no more queues than there is room for, and each location's queue is one of them
+  pub few-queues : queuesOf p ≤ mostLocations
+  few-queues = QueueOfLaws.few-queues p fits
+
+  pub queue-there : (l : ℕ) → l < p .locations → queueOf p l < queuesOf p
+  queue-there = QueueOfLaws.queue-there p fits
+
   -- its start fits it
   pub start-fits : Fits p (startOf p)
   start-fits = StartLaws.start-fits p fits
 
   -- "The sum at the start is the program's full length, at most 96."
-  pub full-length-most : fullLength p ≤ mostSteps
+  pub full-length-most : fullLength (ptso p) ≤ mostWork
   full-length-most = StartLaws.full-most p fits
 
   -- every state that a legal run from its start reaches is blank behind its entries
-  pub run-blank : (ks : List Step) (u : State) → Faultless p ks → Leads p (startOf p) ks u → BlankBehind u
+  pub run-blank : (ks : List Step) (u : State) → Faultless (ptso p) ks → Leads (ptso p) (startOf p) ks u → BlankBehind u
   run-blank ks u = BlankStepLaws.run-blank p ks u fits
 
   -- and two of them that have the same entries are the same state
   pub run-same : (ks js : List Step) (s u : State)
-      → Faultless p ks → Leads p (startOf p) ks s
-      → Faultless p js → Leads p (startOf p) js u
+      → Faultless (ptso p) ks → Leads (ptso p) (startOf p) ks s
+      → Faultless (ptso p) js → Leads (ptso p) (startOf p) js u
       → SameEntries s u
       → s ≡ u
   run-same ks js s u faultless leads other goes =
       SameEntryLaws.blank-same s u
-      (RunLaws.leads-fits p _ ks s start-fits faultless leads .sized)
-      (RunLaws.leads-fits p _ js u start-fits other goes .sized)
+      (leads-fits (ptso p) ptso-lawful _ ks s start-fits faultless leads .sized)
+      (leads-fits (ptso p) ptso-lawful _ js u start-fits other goes .sized)
       (run-blank ks s faultless leads) (run-blank js u other goes)
 
 -- the start of any program is blank behind its entries
@@ -93,7 +154,7 @@ pub blank-same : (s u : State) → Sized s → Sized u → BlankBehind s → Bla
 blank-same = SameEntryLaws.blank-same
 
 -- "known from the program alone": it is what the threads' instructions weigh
-pub full-length-weighs : (p : Program) → fullLength p ≡ sumTo mostThreads (programWeight p)
+pub full-length-weighs : (p : Program) → fullLength (ptso p) ≡ sumTo mostThreads (programWeight p)
 full-length-weighs = StartLaws.full-weighs
 
 -- A case that passes the test for 32
@@ -102,21 +163,21 @@ module _ (c : Case) (readable : readsBack c ≡ true) where
   pub program-fits : ProgramFits (c .program)
   program-fits = StartLaws.ranged-fits c (readable-ranged c readable)
 
-  judge-is : judgeOf c ≡ judgeFrom (c .program) 0 (startOf (c .program)) (runOf c)
+  judge-is : judgeOf c ≡ judgeFrom (ptso (c .program)) 0 (startOf (c .program)) (runOf c)
   unfolding judgeOf judgeRun
   judge-is = pick-false _ _ _ (true-not _ readable)
 
   -- "It passes a run exactly when every step is legal": with their number, and the end state
   pub judge-legal :
       (judgeOf c .verdict ≡ Legal (length (runOf c)))
-      ↔ ((u : State) × Leads (c .program) (startOf (c .program)) (runOf c) u)
+      ↔ ((u : State) × Leads (ptso (c .program)) (startOf (c .program)) (runOf c) u)
   judge-legal =
       rw judge-is (
-        says-leads (c .program) (startOf (c .program)) (runOf c) (length (runOf c)),
-        (λ e. legal-says (c .program) (startOf (c .program)) (runOf c) (e .0) (e .1)),
+        says-leads (ptso (c .program)) (startOf (c .program)) (runOf c) (length (runOf c)),
+        (λ e. legal-says (ptso (c .program)) (startOf (c .program)) (runOf c) (e .0) (e .1)),
       )
 
-  pub judge-legal-state : (u : State) → Leads (c .program) (startOf (c .program)) (runOf c) u
+  pub judge-legal-state : (u : State) → Leads (ptso (c .program)) (startOf (c .program)) (runOf c) u
       → judgeOf c .state ≡ u
   judge-legal-state u h = rw judge-is (state-is _ _ _ _ u (says-legal _ _ _ u h))
 
@@ -124,38 +185,42 @@ module _ (c : Case) (readable : readsBack c ≡ true) where
   -- steps before it lead to, and that state
   pub judge-illegal : (r i : ℕ) →
       (judgeOf c .verdict ≡ Illegal r i)
-      ↔ ((u : State) × StopsAt (c .program) (startOf (c .program)) (runOf c) i u
+      ↔ ((u : State) × StopsAt (ptso (c .program)) (startOf (c .program)) (runOf c) i u
       × (ruleOf (c .program) u (getD (runOf c) i noStep) ≡ r))
   judge-illegal r i =
       rw judge-is (
-        says-stops (c .program) (startOf (c .program)) (runOf c) r i,
-        (λ e. illegal-says (c .program) (startOf (c .program)) (runOf c) i (e .0) r (e .1) (e .2)),
+        says-stops (ptso (c .program)) (startOf (c .program)) (runOf c) r i,
+        (λ e. illegal-says (ptso (c .program)) (startOf (c .program)) (runOf c) i (e .0) r (e .1) (e .2)),
       )
 
-  pub judge-illegal-state : (i : ℕ) (u : State) → StopsAt (c .program) (startOf (c .program)) (runOf c) i u
+  pub judge-illegal-state : (i : ℕ) (u : State) → StopsAt (ptso (c .program)) (startOf (c .program)) (runOf c) i u
       → judgeOf c .state ≡ u
   judge-illegal-state i u h = rw judge-is (state-is _ _ _ _ u (says-illegal _ _ _ i u h))
 
   -- its steps pass the checks 5 and 8
-  pub run-faultless : Faultless (c .program) (runOf c)
+  pub run-faultless : Faultless (ptso (c .program)) (runOf c)
   run-faultless = RunLaws.run-faultless c (readable-ranged c readable)
 
   -- a legal run of it ends in a state that fits, and has used up one of the full length for each of its steps
-  pub legal-run-fits : (u : State) → Leads (c .program) (startOf (c .program)) (runOf c) u → Fits (c .program) u
+  pub legal-run-fits : (u : State) → Leads (ptso (c .program)) (startOf (c .program)) (runOf c) u → Fits (c .program) u
   legal-run-fits u h =
-      RunLaws.leads-fits (c .program) _ (runOf c) u (start-fits (c .program) program-fits) run-faultless h
+      leads-fits (ptso (c .program)) (ptso-lawful (c .program) program-fits) _ (runOf c) u
+      (start-fits (c .program) program-fits) run-faultless h
 
-  pub legal-run-work : (u : State) → Leads (c .program) (startOf (c .program)) (runOf c) u
-      → work (c .program) u + length (runOf c) ≡ fullLength (c .program)
+  pub legal-run-work : (u : State) → Leads (ptso (c .program)) (startOf (c .program)) (runOf c) u
+      → work (c .program) u + length (runOf c) ≡ fullLength (ptso (c .program))
   unfolding fullLength
   legal-run-work u h =
-      RunLaws.leads-work (c .program) _ (runOf c) u (start-fits (c .program) program-fits) run-faultless h
+      let one = spent-length (ptso (c .program)) (each-costs-one (c .program)) (startOf (c .program)) (runOf c) in
+      let all = leads-work (ptso (c .program)) (ptso-lawful (c .program) program-fits) _ (runOf c) u
+      (start-fits (c .program) program-fits) run-faultless h in
+      omega arith
 
   -- a run is legal to its end, or stops at one step
   pub legal-or-not :
-      ((u : State) × Leads (c .program) (startOf (c .program)) (runOf c) u)
-      ⊎ ((i : ℕ) × (u : State) × StopsAt (c .program) (startOf (c .program)) (runOf c) i u)
-  legal-or-not = leads-or-stops (c .program) (startOf (c .program)) (runOf c)
+      ((u : State) × Leads (ptso (c .program)) (startOf (c .program)) (runOf c) u)
+      ⊎ ((i : ℕ) × (u : State) × StopsAt (ptso (c .program)) (startOf (c .program)) (runOf c) i u)
+  legal-or-not = leads-or-stops (ptso (c .program)) (startOf (c .program)) (runOf c)
 
 -- Where 32 or reading stops the judge: the number, the offset, the empty case's start
 pub judge-unreadable : (c : Case) → readsBack c ≡ false → judgeOf c ≡ stopped 32 0
@@ -190,7 +255,7 @@ run-again = RunLaws.run-again
 -- where they are a legal run of a case that passes the test for 32: the case with them passes it too, and the
 -- judge passes them, with their number and their end
 module _ (c : Case) (readable : readsBack c ≡ true) (ks : List Step) (u : State)
-    (faultless : Faultless (c .program) ks) (legal : Leads (c .program) (startOf (c .program)) ks u) where
+    (faultless : Faultless (ptso (c .program)) ks) (legal : Leads (ptso (c .program)) (startOf (c .program)) ks u) where
   pub rerun-reads : readsBack (withRun c (runWith ks)) ≡ true
   rerun-reads = RunLaws.rerun-reads c readable ks u faultless legal
 
@@ -199,7 +264,7 @@ module _ (c : Case) (readable : readsBack c ≡ true) (ks : List Step) (u : Stat
 
 -- A state that fits its program
 module _ (p : Program) (s : State) (fit : Fits p s) where
-  module _ (k : Step) (faultless : stepFault p k ≡ 0) (legal : ruleOf p s k ≡ 0) where
+  module _ (k : Step) (faultless : stepFault (limitsOf p) k ≡ 0) (legal : ruleOf p s k ≡ 0) where
     -- a legal step leads to a state that fits
     pub step-fits : Fits p (nextOf p s k)
     step-fits = StepLaws.step-fits p s fit k (fault-none p k faultless) legal
@@ -212,66 +277,49 @@ module _ (p : Program) (s : State) (fit : Fits p s) where
     pub step-blank : BlankBehind s → BlankBehind (nextOf p s k)
     step-blank blank = BlankStepLaws.step-blank p s fit blank k (fault-none p k faultless) legal
 
-  -- so does a run of them: the fit stays, its length is used up, and what is blank stays blank
-  pub leads-fits : (ks : List Step) (u : State) → Faultless p ks → Leads p s ks u → Fits p u
-  leads-fits ks u = RunLaws.leads-fits p s ks u fit
-
-  pub leads-work : (ks : List Step) (u : State) → Faultless p ks → Leads p s ks u
-      → work p u + length ks ≡ work p s
-  leads-work ks u = RunLaws.leads-work p s ks u fit
-
-  pub leads-blank : (ks : List Step) (u : State) → BlankBehind s → Faultless p ks → Leads p s ks u
+  -- so does a run of them
+  pub leads-blank : (ks : List Step) (u : State) → BlankBehind s → Faultless (ptso p) ks → Leads (ptso p) s ks u
       → BlankBehind u
   leads-blank ks u = BlankStepLaws.leads-blank p s ks u fit
 
   -- a queue that holds something: its oldest may persist
-  pub persist-legal : (l : ℕ) → l < p .locations → queue s l ≢ []
-      → (stepFault p (persistStep l) ≡ 0) × (ruleOf p s (persistStep l) ≡ 0)
+  pub persist-legal : (q : ℕ) → q < queuesOf p → queue s q ≢ []
+      → (stepFault (limitsOf p) (persistStep q) ≡ 0) × (ruleOf p s (persistStep q) ≡ 0)
   persist-legal = ProgressLaws.persist-legal p s fit
 
-  module _ (quiet : (l : ℕ) → l < p .locations → queue s l ≡ []) where
+  module _ (quiet : (q : ℕ) → q < queuesOf p → queue s q ≡ []) where
     -- where every queue is empty any thread's first entry may move
     pub move-legal : (t : ℕ) → t < p .threads → buffer s t ≢ []
-        → (stepFault p (moveStep t 0) ≡ 0) × (ruleOf p s (moveStep t 0) ≡ 0)
+        → (stepFault (limitsOf p) (moveStep t 0) ≡ 0) × (ruleOf p s (moveStep t 0) ≡ 0)
     move-legal = ProgressLaws.move-legal p s fit quiet
 
     -- and a thread with an empty buffer may issue what it has left
     pub issue-legal : (t : ℕ) → t < p .threads → buffer s t ≡ [] → issuedOf s t < countAt p t
-        → (stepFault p (issueStep t) ≡ 0) × (ruleOf p s (issueStep t) ≡ 0)
+        → (stepFault (limitsOf p) (issueStep t) ≡ 0) × (ruleOf p s (issueStep t) ≡ 0)
     issue-legal = ProgressLaws.issue-legal p s fit quiet
 
   -- while an instruction is unissued or an entry waits, some step is legal
-  pub progress : Unfinished p s → (k : Step) × (stepFault p k ≡ 0) × (ruleOf p s k ≡ 0)
+  pub progress : Unfinished p s → (k : Step) × (stepFault (limitsOf p) k ≡ 0) × (ruleOf p s k ≡ 0)
   progress = ProgressLaws.progress p s fit
 
   -- work is left only where there is something to do
   pub work-some : 0 < work p s → Unfinished p s
   work-some = ProgressLaws.work-some p s fit
 
-  -- the list of next steps holds the legal ones, exactly, in 01's order, each once
-  pub next-legal : (k : Step) →
-      Listed k (legalSteps p s) ↔ ((stepFault p k ≡ 0) × (ruleOf p s k ≡ 0))
-  next-legal k = (
-    CandidateLaws.listed-legal p s k,
-    (λ h. CandidateLaws.legal-listed p s k (h .0) (h .1)),
-  )
-
-  pub next-rising : Ascending rankOf (legalSteps p s)
-  next-rising = OrderLaws.legal-ascending p s (fit .program)
-
-  pub next-steps-are : map stepAt (take (nextSteps p s .count) (nextSteps p s .ranks)) ≡ legalSteps p s
+  -- the array of ranks that the code makes stands for the list of next steps
+  pub next-steps-are : map stepAt (take (nextSteps p s .count) (nextSteps p s .ranks)) ≡ legalSteps (ptso p) s
   next-steps-are = RankLaws.next-steps-are p s (fit .program)
 
   -- the code's way through it: step i is the one of rank i, and the others stand behind it
   pub next-step-here : (i : ℕ) → i < nextSteps p s .count
-      → drop i (legalSteps p s)
-      ≡ stepAt (getD (nextSteps p s .ranks) i 0) ∷ drop (i + 1) (legalSteps p s)
+      → drop i (legalSteps (ptso p) s)
+      ≡ stepAt (getD (nextSteps p s .ranks) i 0) ∷ drop (i + 1) (legalSteps (ptso p) s)
   next-step-here = RankLaws.next-step-here p s (fit .program)
 
   pub next-steps-few : nextSteps p s .count ≤ mostCandidates
   next-steps-few = RankLaws.next-steps-few p s (fit .program)
 
-  pub next-steps-end : drop (nextSteps p s .count) (legalSteps p s) ≡ []
+  pub next-steps-end : drop (nextSteps p s .count) (legalSteps (ptso p) s) ≡ []
   next-steps-end = RankLaws.next-steps-end p s
 
   -- and what the code that lists them asks for
@@ -296,14 +344,14 @@ module _ (marks lengths : List ℕ) (t : ℕ) where
 
   -- it is the first: no earlier queue holds one of that thread, and no earlier position of its own queue does
   pub marker-first : isAt (markerOf marks lengths t) ≡ true
-      → ((l i : ℕ) → l < foundQueue (markerOf marks lengths t) → getD (marksIn marks lengths l) i 0 ≢ t + 1)
+      → ((q i : ℕ) → q < foundQueue (markerOf marks lengths t) → getD (marksIn marks lengths q) i 0 ≢ t + 1)
       × ((i : ℕ) → i < foundPosition (markerOf marks lengths t)
       → getD (marksIn marks lengths (foundQueue (markerOf marks lengths t))) i 0 ≢ t + 1)
   marker-first = FoundLaws.marker-first marks lengths t
 
   -- where none is found no queue holds one
   pub marker-none : isAt (markerOf marks lengths t) ≡ false
-      → (l i : ℕ) → l < mostLocations → getD (marksIn marks lengths l) i 0 ≢ t + 1
+      → (q i : ℕ) → q < mostLocations → getD (marksIn marks lengths q) i 0 ≢ t + 1
   marker-none = FoundLaws.marker-none marks lengths t
 
 -- a step breaks no rule, or one of 21 to 29

@@ -9,7 +9,7 @@ use lib.Dec.{eqb}
 use Rattle.cases.specs.declared.case.Step.{Step}
 use Rattle.cases.specs.declared.case.Program.{Program}
 use Rattle.cases.specs.Choice.{both}
-use Rattle.cases.specs.Checks.{stepFault, stepOut, stepLeft, beyond, leftOver}
+use Rattle.cases.specs.Checks.{limitsOf, queuesOf, stepFault, stepOut, stepLeft, beyond, leftOver}
 use Rattle.cases.specs.Sizes.{mostInstructions}
 use Rattle.cases.proofs.ChoiceLaws.{refuse-none, either-false}
 use Rattle.cases.specs.Operations.{issue, move, persist, lastCode}
@@ -20,7 +20,7 @@ pub record InRange (p : Program) (k : Step) : Type 0 where
   pub low-code : k .code ≤ lastCode
   pub low-thread : k .code ≤ 1 → k .thread .0 < p .threads
   pub low-position : k .code ≡ move → k .position < mostInstructions
-  pub low-location : k .code ≡ persist → k .location .0 < p .locations
+  pub low-location : k .code ≡ persist → k .location .0 < queuesOf p
   pub no-thread : 2 ≤ k .code → k .thread .0 ≡ 0
   pub no-position : k .code ≢ 1 → k .position ≡ 0
   pub no-location : k .code ≢ 2 → k .location .0 ≡ 0
@@ -33,8 +33,8 @@ unused-none : (x : ℕ) (used : Bool) → leftOver used x ≡ false → used ≡
 unfolding leftOver both
 unused-none x used h e = eqb-true _ _ (not-false _ (rw e at h))
 
-pub fault-none : (p : Program) (k : Step) → stepFault p k ≡ 0 → InRange p k
-unfolding stepFault stepOut stepLeft
+pub fault-none : (p : Program) (k : Step) → stepFault (limitsOf p) k ≡ 0 → InRange p k
+unfolding stepFault stepOut stepLeft queuesOf
 fault-none p k h =
     let chain = refuse-none _ 4 _ h in
     let code = either-false _ _ (chain .0) in
@@ -86,14 +86,14 @@ module _ (p : Program) (k : Step) (r : InRange p k) where
         location = k .location;
       }
 
--- and so it is the issue or a move of a thread that there is, or the persist of a location that there is
+-- and so it is the issue or a move of a thread that there is, or the persist of a queue that there is
 abbrev pub StepKinds : Program → Step → Type 0
 StepKinds p k =
     ((t : ℕ) × (t < p .threads) × (k ≡ issueStep t))
     ⊎ ((t : ℕ) × (i : ℕ) × (t < p .threads) × (k ≡ moveStep t i))
-    ⊎ ((l : ℕ) × (l < p .locations) × (k ≡ persistStep l))
+    ⊎ ((q : ℕ) × (q < queuesOf p) × (k ≡ persistStep q))
 
-pub step-kinds : (p : Program) (k : Step) → stepFault p k ≡ 0 → StepKinds p k
+pub step-kinds : (p : Program) (k : Step) → stepFault (limitsOf p) k ≡ 0 → StepKinds p k
 step-kinds p k h = go (eqb (k .code) issue) refl (eqb (k .code) move) refl (fault-none p k h)
   where
     go : (a : Bool) → eqb (k .code) issue ≡ a → (b : Bool) → eqb (k .code) move ≡ b → InRange p k

@@ -14,12 +14,16 @@ use Rattle.cases.proofs.ChoiceLaws.{pick-true, pick-false, pick-cases}
 use Rattle.cases.specs.Sizes.{mostThreads, mostInstructions}
 use Rattle.machine.specs.declared.cells.State.{State}
 use Rattle.machine.specs.Sizes.{mostCandidates, kindRanks}
+use Rattle.machine.specs.Parts.{partsOf}
 use Rattle.machine.specs.Rules.{ruleIn, ruleOf}
 use Rattle.machine.specs.Fit.{ProgramFits}
-use Rattle.machine.specs.Next.{issueStep, moveStep, persistStep, candidates, allowed, legalSteps}
-use Rattle.machine.specs.Next.{rankOf, stepAt, listed, nextIn, nextSteps, Listed}
+use Rattle.machine.specs.Next.{issueStep, moveStep, persistStep, candidates}
+use Rattle.machine.specs.Model.{allowed, legalSteps, Listed}
+use Rattle.machine.specs.Next.{rankOf, stepAt, listed, nextIn, nextSteps}
+use Rattle.machine.specs.Ptso.{ptso}
 use Rattle.machine.proofs.NextLaws.{few-candidates}
-use Rattle.machine.proofs.CandidateLaws.{candidates-all, listed-allowed}
+use Rattle.machine.proofs.CandidateLaws.{candidates-all}
+use Rattle.machine.proofs.ModelLaws.{listed-allowed}
 
 -- the step of a step's rank is that step: of each kind
 issue-back : (t : ℕ) → t < mostThreads → stepAt (rankOf (issueStep t)) ≡ issueStep t
@@ -37,24 +41,24 @@ move-back t i h k =
     ∙ pick-true _ _ _ (lt-ltb (rankOf (moveStep t i)) (2 * kindRanks) (omega arith))
     ∙ (λ j. moveStep (e j) (f j))
 
-persist-back : (l : ℕ) → stepAt (rankOf (persistStep l)) ≡ persistStep l
+persist-back : (q : ℕ) → stepAt (rankOf (persistStep q)) ≡ persistStep q
 unfolding stepAt rankOf
-persist-back l =
-    let e : rankOf (persistStep l) - 2 * kindRanks ≡ l = omega arith in
-    pick-false _ _ _ (le-ltb (rankOf (persistStep l)) kindRanks (omega arith))
-    ∙ pick-false _ _ _ (le-ltb (rankOf (persistStep l)) (2 * kindRanks) (omega arith))
+persist-back q =
+    let e : rankOf (persistStep q) - 2 * kindRanks ≡ q = omega arith in
+    pick-false _ _ _ (le-ltb (rankOf (persistStep q)) kindRanks (omega arith))
+    ∙ pick-false _ _ _ (le-ltb (rankOf (persistStep q)) (2 * kindRanks) (omega arith))
     ∙ ap persistStep e
 
 -- of every legal next step
 legal-back : (p : Program) (s : State) → ProgramFits p
-    → (k : Step) → Listed k (legalSteps p s) → stepAt (rankOf k) ≡ k
+    → (k : Step) → Listed k (legalSteps (ptso p) s) → stepAt (rankOf k) ≡ k
 unfolding legalSteps
 legal-back p s g k h =
     let w = g .few-threads in
     candidates-all p (λ j. stepAt (rankOf j) ≡ j)
     (λ t a. issue-back t (omega arith))
     (λ t i a b. move-back t i (omega arith) b)
-    (λ l a. persist-back l) k (listed-allowed (ruleOf p s) k (candidates p) h .0)
+    (λ q a. persist-back q) k (listed-allowed (ruleOf p s) k (candidates p) h .0)
 
 -- a list whose every step comes back: whole, and from a position on
 all-back : (ks : List Step) → ((k : Step) → Listed k ks → stepAt (rankOf k) ≡ k)
@@ -83,7 +87,7 @@ few-allowed rule (k ∷ ks) =
     pick-cases (λ (js : List Step). length js ≤ suc (length ks)) _ _ _ (λ h. omega arith) (λ h. omega arith)
 
 -- the array holds the list's ranks in front
-next-is : (p : Program) (s : State) → nextSteps p s ≡ listed (legalSteps p s)
+next-is : (p : Program) (s : State) → nextSteps p s ≡ listed (legalSteps (ptso p) s)
 unfolding nextSteps nextIn legalSteps ruleOf
 next-is p s = refl
 
@@ -94,24 +98,23 @@ ranks-front ks =
 
 module _ (p : Program) (s : State) where
   pub next-steps-are : ProgramFits p
-      → map stepAt (take (nextSteps p s .count) (nextSteps p s .ranks)) ≡ legalSteps p s
+      → map stepAt (take (nextSteps p s .count) (nextSteps p s .ranks)) ≡ legalSteps (ptso p) s
   next-steps-are g =
-      rw (next-is p s, ranks-front (legalSteps p s)) (all-back (legalSteps p s) (legal-back p s g))
+      rw (next-is p s, ranks-front (legalSteps (ptso p) s)) (all-back (legalSteps (ptso p) s) (legal-back p s g))
 
   pub next-step-here : ProgramFits p → (i : ℕ) → i < nextSteps p s .count
-      → drop i (legalSteps p s)
-      ≡ stepAt (getD (nextSteps p s .ranks) i 0) ∷ drop (i + 1) (legalSteps p s)
+      → drop i (legalSteps (ptso p) s)
+      ≡ stepAt (getD (nextSteps p s .ranks) i 0) ∷ drop (i + 1) (legalSteps (ptso p) s)
   unfolding nextSteps nextIn legalSteps ruleOf listed
-  next-step-here g i h = rw add-one (here-back (legalSteps p s) _ i h (legal-back p s g))
+  next-step-here g i h = rw add-one (here-back (legalSteps (ptso p) s) _ i h (legal-back p s g))
 
   pub next-steps-few : ProgramFits p → nextSteps p s .count ≤ mostCandidates
   unfolding nextSteps nextIn listed
   next-steps-few g =
-      let a = few-allowed (ruleIn p (s .buffers) (s .issued) (s .waiting) (s .marks) (s .lengths))
-      (candidates p) in
+      let a = few-allowed (ruleIn p (partsOf s)) (candidates p) in
       let b = few-candidates p g in
       omega arith
 
-  pub next-steps-end : drop (nextSteps p s .count) (legalSteps p s) ≡ []
+  pub next-steps-end : drop (nextSteps p s .count) (legalSteps (ptso p) s) ≡ []
   unfolding nextSteps nextIn legalSteps ruleOf listed
-  next-steps-end = drop-length (legalSteps p s)
+  next-steps-end = drop-length (legalSteps (ptso p) s)

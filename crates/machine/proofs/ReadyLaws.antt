@@ -9,7 +9,7 @@ use mathlib.Core.List.{List, [], _∷_}
 use lib.ListN.{length, getD}
 use Rattle.cases.specs.declared.case.Step.{Step}
 use Rattle.cases.specs.declared.case.Program.{Program}
-use Rattle.cases.specs.Checks.{stepFault, countAt}
+use Rattle.cases.specs.Checks.{limitsOf, stepFault, countAt}
 use Rattle.cases.specs.Sizes.{mostThreads, mostInstructions, mostLocations, mostRegisters}
 use Rattle.cases.proofs.ChoiceLaws.{pick-true, pick-false}
 use Rattle.cases.specs.Operations.{issue, move}
@@ -18,13 +18,15 @@ use Rattle.machine.specs.declared.cells.Waiting.{Waiting}
 use Rattle.machine.specs.declared.cells.Entry.{Entry}
 use Rattle.machine.specs.declared.cells.Entry.the-variants.{Store, Flush, FlushOpt, Sfence}
 use Rattle.machine.specs.Sizes.{room, allSlots}
-use Rattle.machine.specs.View.{queueLen, buffer, bufferIn, bufferLen, issuedOf}
+use Rattle.machine.specs.View.{queueOf, queueLen, buffer, bufferIn, bufferLen, issuedOf}
+use Rattle.machine.specs.Parts.{partsOf}
 use Rattle.machine.specs.Rules.{instructionAt, issueRule, moveRule, persistRule, ruleIn}
 use Rattle.machine.specs.Rules.{ruleOf}
 use Rattle.machine.specs.Rules.{entryAt}
 use Rattle.machine.specs.Fit.{ProgramFits, Fits, Named, AllNamed, Shallow, Roomy, unissued, due}
 use Rattle.machine.specs.Offer.{Movable}
 use Rattle.machine.proofs.SumLaws.{sum-part}
+use Rattle.machine.proofs.QueueOfLaws.{few-queues, queue-low}
 use Rattle.machine.proofs.KeepLaws.{queue-within, buffer-within}
 use Rattle.machine.proofs.RangeLaws.{fault-none}
 use Rattle.machine.proofs.IssueLaws.{issue-left}
@@ -45,7 +47,7 @@ first-entry n [] h a = unfold Named in omega arith
 first-entry n (w ∷ b) h a = named-low n (w .entry) h (a .0)
 
 -- the rules by their codes, over the parts they look at
-module _ (p : Program) (g : ProgramFits p) (k : Step) (faultless : stepFault p k ≡ 0) where
+module _ (p : Program) (g : ProgramFits p) (k : Step) (faultless : stepFault (limitsOf p) k ≡ 0) where
   thread-low : k .code ≤ 1 → k .thread .0 < mostThreads
   thread-low h =
       let a = fault-none p k faultless .low-thread h in
@@ -57,7 +59,7 @@ module _ (p : Program) (g : ProgramFits p) (k : Step) (faultless : stepFault p k
       let r = fault-none p k faultless in
       let c = r .low-code in
       let a = r .low-location (omega arith) in
-      let b = g .few-locations in
+      let b = few-queues p g in
       omega arith
 
   module _ (marks lengths : List ℕ) (deep : Shallow lengths) (long : length marks ≡ allSlots) where
@@ -67,19 +69,19 @@ module _ (p : Program) (g : ProgramFits p) (k : Step) (faultless : stepFault p k
     issue-rule-ready h = (thread-low (omega arith), g .few-instructions (k .thread .0), deep, long)
 
     pub move-rule-ready : (buffers : List Waiting) (waiting : List ℕ) → Movable buffers waiting → k .code ≡ move
-        → (k .thread .0 < mostThreads) × (getD waiting (k .thread .0) 0 ≤ mostInstructions)
+        → ProgramFits p × (k .thread .0 < mostThreads) × (getD waiting (k .thread .0) 0 ≤ mostInstructions)
         × Named mostLocations (entryAt (bufferIn buffers waiting (k .thread .0)) 0) × Shallow lengths
         × (length marks ≡ allSlots)
     unfolding Movable
     move-rule-ready buffers waiting m h =
         let low = thread-low (omega arith) in
         let at = m (k .thread .0) low in
-        (low, at .0, at .1, deep, long)
+        (g, low, at .0, at .1, deep, long)
 
 module _ (p : Program) (s : State) (f : Fits p s) where
   pub shallow : Shallow (s .lengths)
   unfolding Shallow
-  shallow l h = queue-within p s f l h
+  shallow q h = queue-within p s f q h
 
   head-named : (t : ℕ) → t < mostThreads → Named mostLocations (entryAt (buffer s t) 0)
   head-named t h = first-entry (p .locations) (buffer s t) (f .program .few-locations) (f .named t h)
@@ -89,8 +91,8 @@ module _ (p : Program) (s : State) (f : Fits p s) where
   movable t h = (buffer-within p s f t h, head-named t h)
 
   -- while something is due, no queue is full
-  queue-room : 0 < due p s → (l : ℕ) → l < mostLocations → queueLen s l < room
-  queue-room h l low = let w = f .few-queued l low in omega arith
+  queue-room : 0 < due p s → (q : ℕ) → q < mostLocations → queueLen s q < room
+  queue-room h q low = let w = f .few-queued q low in omega arith
 
   roomy : 0 < due p s → Roomy s
   unfolding Roomy
@@ -104,27 +106,25 @@ module _ (p : Program) (s : State) (f : Fits p s) where
   unfolding due
   due-unissued t low h = let w = sum-part mostThreads t (unissued p s) low in omega arith
 
-  module _ (k : Step) (faultless : stepFault p k ≡ 0) where
+  module _ (k : Step) (faultless : stepFault (limitsOf p) k ≡ 0) where
     -- what `rule` asks for
     pub rule-ready : ProgramFits p × Movable (s .buffers) (s .waiting) × Shallow (s .lengths)
-        × (length (s .marks) ≡ allSlots) × (stepFault p k ≡ 0)
+        × (length (s .marks) ≡ allSlots) × (stepFault (limitsOf p) k ≡ 0)
     rule-ready = (f .program, movable, shallow, f .sized .marks-long, faultless)
 
     -- the three steps, where they are legal
     module _ (legal : ruleOf p s k ≡ 0) where
-      issue-legal : k .code ≡ issue
-          → issueRule p (s .issued) (s .waiting) (s .marks) (s .lengths) (k .thread .0) ≡ 0
+      issue-legal : k .code ≡ issue → issueRule p (partsOf s) (k .thread .0) ≡ 0
       unfolding ruleOf ruleIn
       issue-legal h = sym (pick-true _ _ _ (eq-eqb _ _ h)) ∙ legal
 
-      move-legal : k .code ≡ move
-          → moveRule (s .buffers) (s .waiting) (s .marks) (s .lengths) (k .thread .0) (k .position) ≡ 0
+      move-legal : k .code ≡ move → moveRule p (partsOf s) (k .thread .0) (k .position) ≡ 0
       unfolding ruleOf ruleIn
       move-legal h =
           let n : k .code ≢ 0 = λ z. omega arith in
           sym (pick-false _ _ _ (ne-eqb _ _ n) ∙ pick-true _ _ _ (eq-eqb _ _ h)) ∙ legal
 
-      persist-legal : k .code ≢ 0 → k .code ≢ 1 → persistRule (s .lengths) (k .location .0) ≡ 0
+      persist-legal : k .code ≢ 0 → k .code ≢ 1 → persistRule (partsOf s) (k .location .0) ≡ 0
       unfolding ruleOf ruleIn
       persist-legal h g =
           sym (pick-false _ _ _ (ne-eqb _ _ h) ∙ pick-false _ _ _ (ne-eqb _ _ g)) ∙ legal
@@ -134,7 +134,10 @@ module _ (p : Program) (s : State) (f : Fits p s) where
           × (bufferLen s (k .thread .0) < mostInstructions)
           × (instructionAt p (k .thread .0) (issuedOf s (k .thread .0)) .location .0 < mostLocations)
           × (instructionAt p (k .thread .0) (issuedOf s (k .thread .0)) .register .0 < mostRegisters)
-          × (queueLen s (instructionAt p (k .thread .0) (issuedOf s (k .thread .0)) .location .0) < room)
+          × (queueOf p (instructionAt p (k .thread .0) (issuedOf s (k .thread .0)) .location .0)
+          < mostLocations)
+          × (queueLen s (queueOf p (instructionAt p (k .thread .0) (issuedOf s (k .thread .0)) .location .0))
+          < room)
       issue-ready h =
           let low = thread-low p (f .program) k faultless (omega arith) in
           let left : issuedOf s (k .thread .0) < countAt p (k .thread .0)
@@ -148,10 +151,11 @@ module _ (p : Program) (s : State) (f : Fits p s) where
           let reg = fits .low-register in
           let l : instructionAt p (k .thread .0) (issuedOf s (k .thread .0)) .location .0 < mostLocations
           = omega arith in
-          (low, omega arith, omega arith, l, reg, queue-room (due-unissued (k .thread .0) low some) _ l)
+          let q = queue-low p (f .program) _ l in
+          (low, omega arith, omega arith, l, reg, q, queue-room (due-unissued (k .thread .0) low some) _ q)
 
       pub move-ready : k .code ≡ move
-          → (k .thread .0 < mostThreads) × (k .position < bufferLen s (k .thread .0))
+          → ProgramFits p × (k .thread .0 < mostThreads) × (k .position < bufferLen s (k .thread .0))
           × (bufferLen s (k .thread .0) ≤ mostInstructions)
           × Named mostLocations (entryAt (buffer s (k .thread .0)) (k .position)) × Roomy s
       move-ready h =
@@ -159,6 +163,7 @@ module _ (p : Program) (s : State) (f : Fits p s) where
           let range = fault-none p k faultless .low-thread (omega arith) in
           let there = move-there p s f (k .thread .0) (k .position) range (move-legal h) in
           let named = move-named p s f (k .thread .0) (k .position) range (move-legal h) in (
+            f .program,
             low,
             there,
             buffer-within p s f (k .thread .0) low,

@@ -13,6 +13,7 @@ use Rattle.machine.specs.declared.cells.State.{State}
 use Rattle.machine.specs.declared.cells.Waiting.{Waiting}
 use Rattle.machine.specs.declared.cells.Entry.{Entry}
 use Rattle.machine.specs.declared.cells.Entry.the-variants.{Store, Flush, FlushOpt, Sfence}
+use Rattle.machine.specs.Parts.{Parts}
 use Rattle.machine.specs.Rules.{barrierRule, operationRule, issueRule, effectRule, passRule, moveRule}
 use Rattle.machine.specs.Rules.{persistRule, ruleIn, ruleOf}
 
@@ -25,19 +26,19 @@ unfolding refuse
 refuse-table true n rest h k r = inr (h, k)
 refuse-table false n rest h k r = r
 
-effect-table : (marks lengths : List ℕ) (t : ℕ) (e : Entry) → InTable (effectRule marks lengths t e)
+effect-table : (p : Program) (x : Parts) (t : ℕ) (e : Entry) → InTable (effectRule p x t e)
 unfolding effectRule
-effect-table marks lengths t (Store w) = inl refl
-effect-table marks lengths t (Flush l) = refuse-table _ 27 0 (omega arith) (omega arith) (inl refl)
-effect-table marks lengths t (FlushOpt l) = inl refl
-effect-table marks lengths t Sfence = refuse-table _ 28 0 (omega arith) (omega arith) (inl refl)
+effect-table p x t (Store w) = inl refl
+effect-table p x t (Flush l) = refuse-table _ 27 0 (omega arith) (omega arith) (inl refl)
+effect-table p x t (FlushOpt l) = inl refl
+effect-table p x t Sfence = refuse-table _ 28 0 (omega arith) (omega arith) (inl refl)
 
-pass-table : (b : List Waiting) (i : ℕ) (e : Entry) → InTable (passRule b i e)
+pass-table : (p : Program) (b : List Waiting) (i : ℕ) (e : Entry) → InTable (passRule p b i e)
 unfolding passRule
-pass-table b i (Store w) = inr (omega arith, omega arith)
-pass-table b i (Flush l) = inr (omega arith, omega arith)
-pass-table b i (FlushOpt l) = refuse-table _ 26 0 (omega arith) (omega arith) (inl refl)
-pass-table b i Sfence = inr (omega arith, omega arith)
+pass-table p b i (Store w) = inr (omega arith, omega arith)
+pass-table p b i (Flush l) = inr (omega arith, omega arith)
+pass-table p b i (FlushOpt l) = refuse-table _ 26 0 (omega arith) (omega arith) (inl refl)
+pass-table p b i Sfence = inr (omega arith, omega arith)
 
 pub rule-table : (p : Program) (s : State) (k : Step) → InTable (ruleOf p s k)
 unfolding ruleOf ruleIn issueRule operationRule barrierRule moveRule persistRule
@@ -50,5 +51,5 @@ rule-table p s k =
     (λ h. inl refl)))
     (λ h. pick-cases InTable _ _ _
     (λ h. refuse-table _ 24 _ (omega arith) (omega arith)
-    (pick-cases InTable _ _ _ (λ h. effect-table _ _ _ _) (λ h. pass-table _ _ _)))
+    (pick-cases InTable _ _ _ (λ h. effect-table _ _ _ _) (λ h. pass-table _ _ _ _)))
     (λ h. refuse-table _ 29 0 (omega arith) (omega arith) (inl refl)))

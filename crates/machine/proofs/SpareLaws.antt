@@ -10,7 +10,7 @@ use native.Mathlib.Decide.{ℕ-discrete}
 use lib.ListN.{length, getD, length-append}
 use Rattle.cases.specs.declared.case.Program.{Program}
 use Rattle.cases.specs.Sizes.{mostThreads, mostInstructions, mostLocations}
-use Rattle.cases.specs.Checks.{countAt}
+use Rattle.cases.specs.Checks.{countAt, queuesOf}
 use Rattle.machine.specs.declared.cells.State.{State}
 use Rattle.machine.specs.declared.cells.Waiting.{Waiting}
 use Rattle.machine.specs.declared.cells.Entry.{Entry}
@@ -23,6 +23,7 @@ use Rattle.machine.proofs.SumLaws.{sum-change}
 use Rattle.machine.proofs.PutLaws.{length-without}
 use Rattle.machine.proofs.SlotLaws.{marks-append}
 use Rattle.machine.proofs.QueueLaws.{marks-queue}
+use Rattle.machine.proofs.QueueOfLaws.{few-queues}
 use Rattle.machine.proofs.ViewLaws.{bufferLen-same, sized-issued, issued-same, issued-other}
 use Rattle.machine.proofs.KeepLaws.{queue-within, buffer-within, queue-long, buffer-long, fits-queue}
 use Rattle.machine.proofs.KeepLaws.{due-buffer, fits-buffer, fits-register}
@@ -56,16 +57,16 @@ named-without n (w ∷ b) (suc i) a = rw add-one (a .0, rw add-one at (named-wit
 pub record Spare (p : Program) (s : State) (t : ℕ) : Type 0 where
   pub fit : Fits p s
   pub space : bufferLen s t + unissued p s t < mostInstructions
-  pub queues : (l : ℕ) → l < mostLocations → queueLen s l + due p s < room
+  pub queues : (q : ℕ) → q < mostLocations → queueLen s q + due p s < room
 
 -- the marks of a queue of a state that fits are its slots' marks
-pub marks-fit : (p : Program) (s : State) (f : Fits p s) (l : ℕ) → l < mostLocations
-    → marksOf (queue s l) ≡ marksIn (s .marks) (s .lengths) l
-marks-fit p s f l low =
+pub marks-fit : (p : Program) (s : State) (f : Fits p s) (q : ℕ) → q < mostLocations
+    → marksOf (queue s q) ≡ marksIn (s .marks) (s .lengths) q
+marks-fit p s f q low =
     let h = f .sized .held-long in
     let m = f .sized .marks-long in
-    let n = queue-within p s f l low in
-    marks-queue (s .held) (s .marks) (s .lengths) l (omega arith) (omega arith)
+    let n = queue-within p s f q low in
+    marks-queue (s .held) (s .marks) (s .lengths) q (omega arith) (omega arith)
 
 -- an entry taken out of a buffer
 module _ (p : Program) (s : State) (f : Fits p s) (t i : ℕ) (low : t < p .threads)
@@ -81,10 +82,10 @@ module _ (p : Program) (s : State) (f : Fits p s) (t i : ℕ) (low : t < p .thre
   pub taken-spare : Spare p (withBuffer s t (without i (buffer s t))) t
   taken-spare =
       record {
-        fit = fits-buffer p s f t low b few (λ l h. let w = f .few-queued l h in let e = lower in omega arith)
+        fit = fits-buffer p s f t low b few (λ q h. let w = f .few-queued q h in let e = lower in omega arith)
             (named-without (p .locations) (buffer s t) i (f .named t in-threads));
         space = room-left;
-        queues = λ l h. unfold withBuffer in (let w = f .few-queued l h in let e = lower in omega arith);
+        queues = λ q h. unfold withBuffer in (let w = f .few-queued q h in let e = lower in omega arith);
       }
     where
       b : List Waiting
@@ -141,7 +142,7 @@ module _ (p : Program) (s : State) (f : Fits p s) (t : ℕ) (low : t < p .thread
           few-issued = λ k h. count k h (ℕ-discrete k t);
           few-waiting = λ k h. wait k h (ℕ-discrete k t);
           few-queued =
-              λ l h. unfold withIssued in (let w = f .few-queued l h in let e = due-counted in omega arith);
+              λ q h. unfold withIssued in (let w = f .few-queued q h in let e = due-counted in omega arith);
           no-buffer = unfold withIssued in f .no-buffer;
           no-queue = unfold withIssued in f .no-queue;
           named = unfold withIssued in f .named;
@@ -149,7 +150,7 @@ module _ (p : Program) (s : State) (f : Fits p s) (t : ℕ) (low : t < p .thread
         };
         space =
             unfold withIssued in (let w = f .few-waiting t in-range in let e = unissued-same in omega arith);
-        queues = λ l h. unfold withIssued in (let w = f .few-queued l h in let e = due-counted in omega arith);
+        queues = λ q h. unfold withIssued in (let w = f .few-queued q h in let e = due-counted in omega arith);
       }
     where
       count : (k : ℕ) → k < mostThreads → Dec (k ≡ t) → issuedOf counted k ≤ countAt p k
@@ -174,20 +175,20 @@ module _ (p : Program) (s : State) (t : ℕ) (o : Spare p s t) where
       let w = o .space in
       let d = due-buffer p s (o .fit) t low (buffer s t ++ (record { entry = e } ∷ [])) (omega arith) in
       fits-buffer p s (o .fit) t low (buffer s t ++ (record { entry = e } ∷ [])) (omega arith)
-      (λ l h. let q = o .queues l h in omega arith)
+      (λ q h. let w = o .queues q h in omega arith)
       (named-append (p .locations) (buffer s t) _ (o .fit .named t (omega arith))
       (unfold AllNamed in (named, tt)))
 
-  pub enqueue-fits : (l : ℕ) → l < p .locations → (h : Slot) → h .mark ≤ p .threads → Fits p (enqueue s l h)
+  pub enqueue-fits : (q : ℕ) → q < queuesOf p → (h : Slot) → h .mark ≤ p .threads → Fits p (enqueue s q h)
   unfolding enqueue
-  enqueue-fits l low h few =
-      let z = o .fit .program .few-locations in
-      let n = queue-long p s (o .fit) l (omega arith) in
-      let k : length (queue s l ++ (h ∷ [])) ≡ suc (queueLen s l) = simp (length-append, n) (omega arith) in
-      let w = o .queues l (omega arith) in
-      fits-queue p s (o .fit) l low (queue s l ++ (h ∷ [])) (omega arith)
-      (rw (marks-append (queue s l) (h ∷ []), marks-fit p s (o .fit) l (omega arith))
-      (borne-append (p .threads) _ _ (o .fit .borne l (omega arith)) (unfold AllBorne marksOf in (few, tt))))
+  enqueue-fits q low h few =
+      let z = few-queues p (o .fit .program) in
+      let n = queue-long p s (o .fit) q (omega arith) in
+      let k : length (queue s q ++ (h ∷ [])) ≡ suc (queueLen s q) = simp (length-append, n) (omega arith) in
+      let w = o .queues q (omega arith) in
+      fits-queue p s (o .fit) q low (queue s q ++ (h ∷ [])) (omega arith)
+      (rw (marks-append (queue s q) (h ∷ []), marks-fit p s (o .fit) q (omega arith))
+      (borne-append (p .threads) _ _ (o .fit .borne q (omega arith)) (unfold AllBorne marksOf in (few, tt))))
 
   pub register-spare : (r w : ℕ) → Spare p (withRegister s t r w) t
   register-spare r w =

@@ -9,18 +9,20 @@ use lib.ListN.{length, getD, length-replicate}
 use Rattle.cases.specs.declared.case.Instruction.{Instruction}
 use Rattle.cases.specs.declared.case.Program.{Program}
 use Rattle.cases.specs.declared.case.Case.{Case}
-use Rattle.cases.specs.Sizes.{mostThreads, mostInstructions, mostLocations, mostSteps, allCode}
+use Rattle.cases.specs.Sizes.{mostThreads, mostInstructions, mostLocations, allCode}
 use Rattle.cases.specs.Ranges.{Ranged}
 use Rattle.cases.proofs.ChoiceLaws.{pick-cases}
 use Rattle.cases.proofs.ArrayLaws.{getD-blank}
 use Rattle.cases.specs.Checks.{countAt}
-use Rattle.machine.specs.Sizes.{room, allSlots, allRegisters}
+use Rattle.machine.specs.Sizes.{room, allSlots, allRegisters, mostWork}
 use Rattle.machine.specs.View.{part, slots, marksIn, queue, queueIn, queueLen, buffer, bufferIn}
 use Rattle.machine.specs.View.{bufferLen, blankWaiting, issuedOf, wordOf}
 use Rattle.machine.specs.Rules.{startOf}
 use Rattle.machine.specs.Fit.{sumTo, unissued, due, Sized, ProgramFits, Fits, AllNamed, AllBorne}
 use Rattle.machine.specs.Work.{unissuedWeight, weighCode, weighBuffer, unissuedCode, threadWork, work}
-use Rattle.machine.specs.Work.{fullLength, programWeight}
+use Rattle.machine.specs.Work.{programWeight}
+use Rattle.machine.specs.Model.{fullLength}
+use Rattle.machine.specs.Ptso.{ptso}
 use Rattle.machine.proofs.PartLaws.{length-part, part-none}
 use Rattle.machine.proofs.SumLaws.{sum-same, sum-none, sum-most}
 
@@ -38,28 +40,28 @@ ranged-fits c r =
 
 -- the start's parts: nothing queued, waiting or issued, the first contents
 module _ (p : Program) where
-  no-queue : (l : ℕ) → queueLen (startOf p) l ≡ 0
+  no-queue : (q : ℕ) → queueLen (startOf p) q ≡ 0
   unfolding startOf
-  no-queue l = getD-blank {A = ℕ} mostLocations l 0
+  no-queue q = getD-blank {A = ℕ} mostLocations q 0
 
   no-buffer : (t : ℕ) → bufferLen (startOf p) t ≡ 0
   unfolding startOf
   no-buffer t = getD-blank {A = ℕ} mostThreads t 0
 
-  no-words : (l : ℕ) → part (l * room) (queueLen (startOf p) l) (startOf p .held) ≡ []
-  no-words l = part-none _ _ _ (no-queue l)
+  no-words : (q : ℕ) → part (q * room) (queueLen (startOf p) q) (startOf p .held) ≡ []
+  no-words q = part-none _ _ _ (no-queue q)
 
-  no-marks : (l : ℕ) → marksIn (startOf p .marks) (startOf p .lengths) l ≡ []
+  no-marks : (q : ℕ) → marksIn (startOf p .marks) (startOf p .lengths) q ≡ []
   unfolding marksIn
-  no-marks l = part-none _ _ _ (no-queue l)
+  no-marks q = part-none _ _ _ (no-queue q)
 
   pub start-buffer : (t : ℕ) → buffer (startOf p) t ≡ []
   unfolding bufferIn
   start-buffer t = part-none _ _ _ (no-buffer t)
 
-  pub start-queue : (l : ℕ) → queue (startOf p) l ≡ []
+  pub start-queue : (q : ℕ) → queue (startOf p) q ≡ []
   unfolding queueIn slots
-  start-queue l = rw (no-words l)
+  start-queue q = rw (no-words q)
 
   pub start-issued : (t : ℕ) → issuedOf (startOf p) t ≡ 0
   unfolding startOf
@@ -105,11 +107,11 @@ module _ (p : Program) (g : ProgramFits p) where
         few-issued = λ t h. rw (start-issued p t) (omega arith);
         few-waiting =
             λ t h. rw (no-buffer p t, unissued-all p t) (let n = g .few-instructions t in omega arith);
-        few-queued = λ l h. rw (no-queue p l) (let n = start-due in omega arith);
+        few-queued = λ q h. rw (no-queue p q) (let n = start-due in omega arith);
         no-buffer = λ t h a. no-buffer p t;
-        no-queue = λ l h a. no-queue p l;
+        no-queue = λ q h a. no-queue p q;
         named = λ t h. rw (start-buffer p t) (unfold AllNamed in tt);
-        borne = λ l h. rw (no-marks p l) (unfold AllBorne in tt);
+        borne = λ q h. rw (no-marks p q) (unfold AllBorne in tt);
       }
 
 -- no instruction weighs more than 3
@@ -145,11 +147,11 @@ module _ (p : Program) (g : ProgramFits p) where
       let b : weighBuffer (buffer (startOf p) t) ≡ 0 = rw (start-buffer p t) (unfold weighBuffer in refl) in
       omega arith
 
-  pub full-most : fullLength p ≤ mostSteps
+  pub full-most : fullLength (ptso p) ≤ mostWork
   unfolding fullLength work
   full-most =
       let a = sum-most mostThreads (3 * mostInstructions) (threadWork p (startOf p)) start-thread in
-      let b = sum-none mostLocations (queueLen (startOf p)) (λ l h. no-queue p l) in
+      let b = sum-none mostLocations (queueLen (startOf p)) (λ q h. no-queue p q) in
       omega arith
 
 -- the full length is what the program's instructions weigh, and nothing else
@@ -158,9 +160,9 @@ module _ (p : Program) where
   unfolding threadWork unissuedCode programWeight weighBuffer
   start-weight t = rw (start-issued p t, unissued-all p t, start-buffer p t, add-zero, add-zero)
 
-  pub full-weighs : fullLength p ≡ sumTo mostThreads (programWeight p)
+  pub full-weighs : fullLength (ptso p) ≡ sumTo mostThreads (programWeight p)
   unfolding fullLength work
   full-weighs =
       let a = sum-same mostThreads (threadWork p (startOf p)) (programWeight p) (λ t h. start-weight t) in
-      let b = sum-none mostLocations (queueLen (startOf p)) (λ l h. no-queue p l) in
+      let b = sum-none mostLocations (queueLen (startOf p)) (λ q h. no-queue p q) in
       omega arith

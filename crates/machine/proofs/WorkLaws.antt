@@ -53,26 +53,26 @@ weigh-cons x xs = refl
 
 module _ (p : Program) (s : State) (f : Fits p s) where
   -- a queue put
-  module _ (l : ℕ) (low : l < mostLocations) (q : List Slot) (m : length q ≤ room) where
-    pub work-queue : work p (withQueue s l q) + queueLen s l ≡ work p s + length q
+  module _ (q : ℕ) (low : q < mostLocations) (r : List Slot) (m : length r ≤ room) where
+    pub work-queue : work p (withQueue s q r) + queueLen s q ≡ work p s + length r
     unfolding work
     work-queue =
-        let n = queue-within p s f l low in
-        let c = sum-change mostLocations l (queueLen (withQueue s l q)) (queueLen s) low
-        (λ k a e. queueLen-other s (f .sized) l low n q m k e) in
-        let e = queueLen-same s (f .sized) l low n q m in
-        let b : sumTo mostThreads (threadWork p (withQueue s l q)) ≡ sumTo mostThreads (threadWork p s)
+        let n = queue-within p s f q low in
+        let c = sum-change mostLocations q (queueLen (withQueue s q r)) (queueLen s) low
+        (λ k a e. queueLen-other s (f .sized) q low n r m k e) in
+        let e = queueLen-same s (f .sized) q low n r m in
+        let b : sumTo mostThreads (threadWork p (withQueue s q r)) ≡ sumTo mostThreads (threadWork p s)
         = unfold withQueue threadWork unissuedCode unissued in refl in
         omega arith
 
   -- one more at a queue's end
-  pub work-enqueue : (l : ℕ) → l < mostLocations → queueLen s l < room → (h : Slot)
-      → work p (enqueue s l h) ≡ suc (work p s)
+  pub work-enqueue : (q : ℕ) → q < mostLocations → queueLen s q < room → (h : Slot)
+      → work p (enqueue s q h) ≡ suc (work p s)
   unfolding enqueue
-  work-enqueue l low less h =
-      let n = queue-long p s f l low in
-      let k : length (queue s l ++ (h ∷ [])) ≡ suc (queueLen s l) = simp (length-append, n) (omega arith) in
-      let w = work-queue l low (queue s l ++ (h ∷ [])) (omega arith) in
+  work-enqueue q low less h =
+      let n = queue-long p s f q low in
+      let k : length (queue s q ++ (h ∷ [])) ≡ suc (queueLen s q) = simp (length-append, n) (omega arith) in
+      let w = work-queue q low (queue s q ++ (h ∷ [])) (omega arith) in
       omega arith
 
   -- a buffer put

@@ -18,7 +18,7 @@ use Rattle.cases.specs.declared.case.Program.{Program}
 use Rattle.cases.specs.Choice.{both, either}
 use Rattle.cases.specs.Sizes.{mostThreads, mostInstructions, mostLocations, allCode}
 use Rattle.cases.specs.Ranges.{InstructionFits}
-use Rattle.cases.specs.Checks.{countAt}
+use Rattle.cases.specs.Checks.{countAt, queuesOf}
 use Rattle.machine.specs.declared.cells.State.{State}
 use Rattle.machine.specs.declared.cells.Waiting.{Waiting}
 use Rattle.machine.specs.declared.cells.Entry.{Entry}
@@ -68,13 +68,13 @@ threadMisfits p s t =
     (either (ltb mostInstructions (bufferLen s t + unissued p s t))
     (anyStrays (p .locations) (buffer s t))))
 
--- an entry "that stands in the .. queue of .. a .. location the program lacks"; "a queue's entries plus all
--- entries in store buffers plus all unissued instructions above 32"
+-- an entry "that stands in the .. queue of .. a .. location the program lacks": in a queue that it lacks; "a
+-- queue's entries plus all entries in store buffers plus all unissued instructions above 32"
 unfoldable pub queueMisfits : Program → State → ℕ → Bool
-queueMisfits p s l =
-    either (both (leb (p .locations) l) (ltb 0 (queueLen s l)))
-    (either (ltb room (queueLen s l + due p s))
-    (anyForeign (p .threads) (marksIn (s .marks) (s .lengths) l)))
+queueMisfits p s q =
+    either (both (leb (queuesOf p) q) (ltb 0 (queueLen s q)))
+    (either (ltb room (queueLen s q + due p s))
+    (anyForeign (p .threads) (marksIn (s .marks) (s .lengths) q)))
 
 unfoldable pub misfits : Program → State → Bool
 misfits p s =
@@ -123,7 +123,7 @@ pub record Fits (p : Program) (s : State) : Type 0 where
   pub few-waiting : (t : ℕ) → t < mostThreads → bufferLen s t + unissued p s t ≤ mostInstructions
   pub few-queued : (l : ℕ) → l < mostLocations → queueLen s l + due p s ≤ room
   pub no-buffer : (t : ℕ) → t < mostThreads → p .threads ≤ t → bufferLen s t ≡ 0
-  pub no-queue : (l : ℕ) → l < mostLocations → p .locations ≤ l → queueLen s l ≡ 0
+  pub no-queue : (q : ℕ) → q < mostLocations → queuesOf p ≤ q → queueLen s q ≡ 0
   pub named : (t : ℕ) → t < mostThreads → AllNamed (p .locations) (buffer s t)
   pub borne : (l : ℕ) → l < mostLocations → AllBorne (p .threads) (marksIn (s .marks) (s .lengths) l)
 

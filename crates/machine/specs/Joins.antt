@@ -1,19 +1,29 @@
 -- Document 01, "The machine's steps", seen as lists: what a step puts at the end of a store buffer or of a
 -- queue.
 --   joins registers t x   what instruction x of thread t puts at the end of its buffer as it is issued
---   exchanges l x         what it puts at the end of location l's queue
---   enters t l e          what the entry e of thread t puts at the end of location l's queue as it moves
+--   exchanges p q x       what it puts at the end of queue q
+--   enters p t q e        what the entry e of thread t puts at the end of queue q as it moves
+-- And as words on their way to a location, whichever queue they go through:
+--   onlyIf b w            the word w, or none
+--   writesOf q            the words of a queue's writes, oldest first
+--   storeOf l e           the word that the entry e brings to location l
+--   swapOf l x            the word that instruction x puts straight on its way to location l
+--   onWay p s l           the words on their way to location l, oldest first
+--   lastOr ws w           the last of the words ws, else w
 -- Assumes nothing.
 use Prim.Native.Nat.{ℕ}
-use mathlib.Core.List.{List, [], _∷_}
+use mathlib.Core.Bool.{Bool}
+use mathlib.Core.List.{List, [], _∷_, _++_}
 use lib.Dec.{eqb}
 use Rattle.cases.specs.declared.case.Instruction.{Instruction}
+use Rattle.cases.specs.declared.case.Program.{Program}
 use Rattle.cases.specs.Operations.{load, exchange}
 use Rattle.cases.specs.Choice.{pick, both, either}
 use Rattle.machine.specs.declared.cells.Waiting.{Waiting}
 use Rattle.machine.specs.declared.cells.Entry.{Entry}
 use Rattle.machine.specs.declared.cells.Entry.the-variants.{Store, Flush, FlushOpt, Sfence}
-use Rattle.machine.specs.View.{Slot, queueOf, writeSlot, markerSlot}
+use Rattle.machine.specs.declared.cells.State.{State}
+use Rattle.machine.specs.View.{Slot, queueOf, queue, writeSlot, markerSlot}
 use Rattle.machine.specs.Rules.{isBarrier, entryOf}
 
 -- "stores, flushes, flush-opts and sfences join the end of the thread's buffer": all but load, exchange
@@ -24,13 +34,36 @@ joins registers t x =
     (record { entry = entryOf registers t x } ∷ [])
 
 -- "Exchange .. puts its write at the queue's end."
-unfoldable pub exchanges : ℕ → Instruction → List Slot
-exchanges l x =
-    pick (both (eqb (x .operation) exchange) (eqb (queueOf (x .location .0)) l)) (writeSlot (x .word) ∷ []) []
+unfoldable pub exchanges : Program → ℕ → Instruction → List Slot
+exchanges p q x =
+    pick (both (eqb (x .operation) exchange) (eqb (queueOf p (x .location .0)) q)) (writeSlot (x .word) ∷ []) []
 
 -- "A store becomes a write at its queue's end." "A flush-opt becomes a marker at its queue's end."
-unfoldable pub enters : ℕ → ℕ → Entry → List Slot
-enters t l (Store w) = pick (eqb (queueOf (w .location .0)) l) (writeSlot (w .word) ∷ []) []
-enters t l (Flush m) = []
-enters t l (FlushOpt m) = pick (eqb (queueOf (m .0)) l) (markerSlot t ∷ []) []
-enters t l Sfence = []
+unfoldable pub enters : Program → ℕ → ℕ → Entry → List Slot
+enters p t q (Store w) = pick (eqb (queueOf p (w .location .0)) q) (writeSlot (w .word) ∷ []) []
+enters p t q (Flush m) = []
+enters p t q (FlushOpt m) = pick (eqb (queueOf p (m .0)) q) (markerSlot t ∷ []) []
+enters p t q Sfence = []
+
+unfoldable pub onlyIf : Bool → ℕ → List ℕ
+onlyIf b w = pick b (w ∷ []) []
+
+unfoldable pub writesOf : List Slot → List ℕ
+writesOf [] = []
+writesOf (h ∷ q) = onlyIf (eqb (h .mark) 0) (h .word) ++ writesOf q
+
+unfoldable pub storeOf : ℕ → Entry → List ℕ
+storeOf l (Store x) = onlyIf (eqb (x .location .0) l) (x .word)
+storeOf l (Flush m) = []
+storeOf l (FlushOpt m) = []
+storeOf l Sfence = []
+
+unfoldable pub swapOf : ℕ → Instruction → List ℕ
+swapOf l x = onlyIf (both (eqb (x .operation) exchange) (eqb (x .location .0) l)) (x .word)
+
+unfoldable pub onWay : Program → State → ℕ → List ℕ
+onWay p s l = writesOf (queue s (queueOf p l))
+
+unfoldable pub lastOr : List ℕ → ℕ → ℕ
+lastOr [] w = w
+lastOr (x ∷ xs) w = lastOr xs x

@@ -1,25 +1,20 @@
--- Document 01, "The machine's steps": a single step given with a state, and a run, judged.
---   Leads p s ks u    the steps ks, each legal where it is taken, lead from the state s to u
---   StopsAt p s ks n u   the first n of them do, and the next one breaks a rule there
---   Faultless p ks    each of the steps passes the checks 5 and 8
+-- Document 01, "The machine's steps": a single step given with a state, the work left there, and a run, judged.
 --   rulingNo, verdictNo, verdictPlace   01's number of an answer, and its place
 --   told r s, judged v s   an answer with its state
---   stepOf c s k      a single step
---   judgeFrom p i s ks, judgeRun c, judgeOf c, judgeBytes s   a run; i steps are taken already
+--   steppedOf m s k, stepOf c s k   a single step, of a machine, of a case
+--   workOf, fullOf    the work left, and the full length, as they are told
+--   weighedNo, weighedWork   of such an answer: 01's number, and the work left
+--   judgeFrom m i s ks, judgeRun c, judgeOf c, judgeBytes s   a run; i steps are taken already
 -- Assumes nothing.
-use Prim.Native.Nat.{ℕ, suc, _<_}
-use mathlib.Core.Path.{_≡_}
-use mathlib.Core.Logic.{_≢_}
+use Prim.Native.Nat.{ℕ, suc}
 use mathlib.Core.Bool.{not}
 use mathlib.Core.List.{List, [], _∷_}
-use lib.ListN.{length, getD, take}
+use lib.ListN.{take}
 use lib.Dec.{eqb}
 use Rattle.cases.specs.declared.case.Step.{Step}
-use Rattle.cases.specs.declared.case.Program.{Program}
 use Rattle.cases.specs.declared.case.Case.{Case}
 use Rattle.cases.specs.Choice.{pick}
-use Rattle.cases.specs.Checks.{stepFault}
-use Rattle.cases.specs.Draft.{emptyCase, noStep}
+use Rattle.cases.specs.Draft.{emptyCase}
 use Rattle.cases.specs.Reading.{numberOf, offsetOf, readOf}
 use Rattle.cases.specs.Writing.{readsBack}
 use Rattle.machine.specs.declared.cells.State.{State}
@@ -29,24 +24,13 @@ use Rattle.machine.specs.declared.steps.Stepped.{Stepped}
 use Rattle.machine.specs.declared.runs.Verdict.{Verdict}
 use Rattle.machine.specs.declared.runs.Verdict.the-variants.{Legal, Illegal, Refused}
 use Rattle.machine.specs.declared.runs.Judged.{Judged}
-use Rattle.machine.specs.Rules.{ruleOf, nextOf, startOf}
+use Rattle.machine.specs.declared.work.Weighed.{Weighed}
+use Rattle.machine.specs.declared.work.Weighed.the-variants.{Left, Unweighed}
+use Rattle.machine.specs.Model.{Model, fullLength}
+use Rattle.machine.specs.Rules.{startOf}
 use Rattle.machine.specs.Fit.{misfits}
-
--- A run is legal when every step is, in the state that the steps before it lead to.
-unfoldable pub Leads : Program → State → List Step → State → Type 0
-Leads p s [] u = s ≡ u
-Leads p s (k ∷ ks) u = (ruleOf p s k ≡ 0) × Leads p (nextOf p s k) ks u
-
--- each of the steps passes the checks 5 and 8
-unfoldable pub Faultless : Program → List Step → Type 0
-Faultless p [] = Unit {0}
-Faultless p (k ∷ ks) = (stepFault p k ≡ 0) × Faultless p ks
-
--- the first n steps are legal and lead from s to u, and the step behind them breaks a rule there
-pub record StopsAt (p : Program) (s : State) (ks : List Step) (n : ℕ) (u : State) : Type 0 where
-  pub within : n < length ks
-  pub before : Leads p s (take n ks) u
-  pub broken : ruleOf p u (getD ks n noStep) ≢ 0
+use Rattle.machine.specs.Work.{work}
+use Rattle.machine.specs.Ptso.{ptso}
 
 -- 01's number of a ruling: legal is 103
 abbrev pub rulingNo : Ruling → ℕ
@@ -58,11 +42,11 @@ unfoldable pub told : Ruling → State → Stepped
 told r s = record { ruling = r; state = s }
 
 -- "then 5 and 8 as for a kind 6 record, then the step rules"
-unfoldable pub steppedOf : Program → State → Step → Stepped
-steppedOf p s k =
-    pick (not (eqb (stepFault p k) 0)) (told (Declined (stepFault p k)) s)
-    (pick (not (eqb (ruleOf p s k) 0)) (told (Broken (ruleOf p s k)) s)
-    (told Allowed (nextOf p s k)))
+unfoldable pub steppedOf : Model State Step → State → Step → Stepped
+steppedOf m s k =
+    pick (not (eqb (m .fault k) 0)) (told (Declined (m .fault k)) s)
+    (pick (not (eqb (m .rule s k) 0)) (told (Broken (m .rule s k)) s)
+    (told Allowed (m .after s k)))
 
 -- "a single step given with a state tests 32, 33," and then those. "It gives back the state unchanged when it
 -- refuses."
@@ -70,13 +54,31 @@ unfoldable pub stepOf : Case → State → Step → Stepped
 stepOf c s k =
     pick (not (readsBack c)) (told (Declined 32) s)
     (pick (misfits (c .program) s) (told (Declined 33) s)
-    (steppedOf (c .program) s k))
+    (steppedOf (ptso (c .program)) s k))
 
 -- the empty case's start, where 32 stops it
 unfoldable pub startedOf : Case → Stepped
 startedOf c =
     pick (not (readsBack c)) (told (Declined 32) (startOf (emptyCase .program)))
     (told Allowed (startOf (c .program)))
+
+-- the work left in a state of a case: 0 and the work, or the refusal's number
+abbrev pub weighedNo : Weighed → ℕ
+weighedNo (Left n) = 0
+weighedNo (Unweighed m) = m
+
+abbrev pub weighedWork : Weighed → ℕ
+weighedWork (Left n) = n
+weighedWork (Unweighed m) = 0
+
+unfoldable pub workOf : Case → State → Weighed
+workOf c s =
+    pick (not (readsBack c)) (Unweighed 32)
+    (pick (misfits (c .program) s) (Unweighed 33)
+    (Left (work (c .program) s)))
+
+unfoldable pub fullOf : Case → Weighed
+fullOf c = pick (not (readsBack c)) (Unweighed 32) (Left (fullLength (ptso (c .program))))
 
 -- "The judge answers legal (103) with the end state, or the rule number, the index of the first illegal step
 -- from 0, and the state before it."
@@ -94,18 +96,18 @@ verdictPlace (Refused m at) = at
 unfoldable pub judged : Verdict → State → Judged
 judged v s = record { verdict = v; state = s }
 
-unfoldable pub judgeFrom : Program → ℕ → State → List Step → Judged
-judgeFrom p i s [] = judged (Legal i) s
-judgeFrom p i s (k ∷ ks) =
-    pick (eqb (ruleOf p s k) 0) (judgeFrom p (suc i) (nextOf p s k) ks)
-    (judged (Illegal (ruleOf p s k) i) s)
+unfoldable pub judgeFrom : Model State Step → ℕ → State → List Step → Judged
+judgeFrom m i s [] = judged (Legal i) s
+judgeFrom m i s (k ∷ ks) =
+    pick (eqb (m .rule s k) 0) (judgeFrom m (suc i) (m .after s k) ks)
+    (judged (Illegal (m .rule s k) i) s)
 
 -- the run of a case, from its start
 abbrev pub runOf : Case → List Step
 runOf c = take (c .run .count) (c .run .steps)
 
 unfoldable pub judgeRun : Case → Judged
-judgeRun c = judgeFrom (c .program) 0 (startOf (c .program)) (runOf c)
+judgeRun c = judgeFrom (ptso (c .program)) 0 (startOf (c .program)) (runOf c)
 
 -- "Where reading or 32 stops it, its state is the empty case's start."
 unfoldable pub stopped : ℕ → ℕ → Judged

@@ -2,16 +2,18 @@
 -- where.
 --   newestWrite q w          the newest write of the queue q, else w
 --   newestStore l b w        the newest store to location l in the buffer b, else w
---   loadOf s t l             what a load takes
+--   queuedWord p s l         what stands for location l where no store buffer is looked at
+--   loadOf p s t l           what a load takes
 --   markerOf marks lengths t the first marker of thread t, by queue and then by position
 --   isAt, foundQueue, foundPosition   of what it answers: whether there is one, and where; 0 and 0 where not
---   bars l e                 the entry e keeps a flush-opt of location l behind it
---   firstBar l b             the position of the first entry of b that does; how many there are where none does
+--   bars p q e               the entry e keeps a flush-opt of queue q behind it
+--   firstBar p q b           the position of the first entry of b that does; how many there are where none does
 -- Assumes nothing.
 use Prim.Native.Nat.{ℕ, zero, suc, _+_}
 use mathlib.Core.Bool.{Bool, true, false}
 use mathlib.Core.List.{List, [], _∷_}
 use lib.Dec.{eqb}
+use Rattle.cases.specs.declared.case.Program.{Program}
 use Rattle.cases.specs.Choice.{pick}
 use Rattle.cases.specs.Sizes.{mostLocations}
 use Rattle.machine.specs.declared.cells.State.{State}
@@ -43,52 +45,52 @@ newestStore l (e ∷ b) w = newestStore l b (storedOr l (e .entry) w)
 
 -- "A load takes the newest store to that location in its own buffer, else the newest write in the location's
 -- queue, else the persistent word."
-unfoldable pub queuedWord : State → ℕ → ℕ
-queuedWord s l = newestWrite (queue s (queueOf l)) (wordOf s l)
+unfoldable pub queuedWord : Program → State → ℕ → ℕ
+queuedWord p s l = newestWrite (queue s (queueOf p l)) (wordOf s l)
 
-unfoldable pub loadOf : State → ℕ → ℕ → ℕ
-loadOf s t l = newestStore l (buffer s t) (queuedWord s l)
+unfoldable pub loadOf : Program → State → ℕ → ℕ → ℕ
+loadOf p s t l = newestStore l (buffer s t) (queuedWord p s l)
 
 -- "Looking for a thread's marker goes through every queue and stops at the first one found." The marks of
--- queue l from position i on, and what comes after that queue.
+-- queue q from position i on, and what comes after that queue.
 unfoldable pub markerAmong : ℕ → ℕ → ℕ → List ℕ → Found → Found
-markerAmong t l i [] after = after
-markerAmong t l i (m ∷ ms) after =
-    pick (eqb m (t + 1)) (At (record { 0 = l }) i) (markerAmong t l (suc i) ms after)
+markerAmong t q i [] after = after
+markerAmong t q i (m ∷ ms) after =
+    pick (eqb m (t + 1)) (At (record { 0 = q }) i) (markerAmong t q (suc i) ms after)
 
--- the k queues from location l on
+-- the k queues from queue q on
 unfoldable pub markerFrom : List ℕ → List ℕ → ℕ → ℕ → ℕ → Found
-markerFrom marks lengths t zero l = Nothing
-markerFrom marks lengths t (suc k) l =
-    markerAmong t l 0 (marksIn marks lengths l) (markerFrom marks lengths t k (suc l))
+markerFrom marks lengths t zero q = Nothing
+markerFrom marks lengths t (suc k) q =
+    markerAmong t q 0 (marksIn marks lengths q) (markerFrom marks lengths t k (suc q))
 
 unfoldable pub markerOf : List ℕ → List ℕ → ℕ → Found
 markerOf marks lengths t = markerFrom marks lengths t mostLocations 0
 
 abbrev pub isAt : Found → Bool
-isAt (At l i) = true
+isAt (At q i) = true
 isAt Nothing = false
 
--- its queue, by location, and its position there
+-- its queue and its position there
 abbrev pub foundQueue : Found → ℕ
-foundQueue (At l i) = l .0
+foundQueue (At q i) = q .0
 foundQueue Nothing = 0
 
 abbrev pub foundPosition : Found → ℕ
-foundPosition (At l i) = i
+foundPosition (At q i) = i
 foundPosition Nothing = 0
 
 -- some queue holds a marker of thread t
 unfoldable pub marked : List ℕ → List ℕ → ℕ → Bool
 marked marks lengths t = isAt (markerOf marks lengths t)
 
--- "a store or flush of its location or an sfence"
-unfoldable pub bars : ℕ → Entry → Bool
-bars l (Store x) = eqb (x .location .0) l
-bars l (Flush m) = eqb (m .0) l
-bars l (FlushOpt m) = false
-bars l Sfence = true
+-- "a store or flush of its location or an sfence": of a location with the same queue
+unfoldable pub bars : Program → ℕ → Entry → Bool
+bars p q (Store x) = eqb (queueOf p (x .location .0)) q
+bars p q (Flush m) = eqb (queueOf p (m .0)) q
+bars p q (FlushOpt m) = false
+bars p q Sfence = true
 
-unfoldable pub firstBar : ℕ → List Waiting → ℕ
-firstBar l [] = 0
-firstBar l (w ∷ b) = pick (bars l (w .entry)) 0 (suc (firstBar l b))
+unfoldable pub firstBar : Program → ℕ → List Waiting → ℕ
+firstBar p q [] = 0
+firstBar p q (w ∷ b) = pick (bars p q (w .entry)) 0 (suc (firstBar p q b))

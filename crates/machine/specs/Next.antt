@@ -1,33 +1,31 @@
 -- Document 01, "Work left and the walk": "next steps in the order issue by thread, move by thread then
 -- position, persist by location".
---   issueStep t, moveStep t i, persistStep l   a step of each code
+--   issueStep t, moveStep t i, persistStep q   a step of each code
 --   issuesFrom t n   the issues of n threads from t on
 --   movesAt t i n    the moves of thread t at n positions from i on
 --   movesFrom t n    those of n threads from t on, at every position
---   persistsFrom l n the persists of n locations from l on
+--   persistsFrom q n the persists of n queues from q on
 --   candidates p     every step that such a program can have, in that order
---   legalSteps p s   those that are legal in s
 --   rankOf, stepAt   a step's rank in that order, and the step of a rank
 --   listed ks        the steps ks, as an array of their ranks with its count
 --   nextIn, nextSteps   `listed` of the legal ones: over the parts that the rules look at; of a state
---   Listed, Ascending   how the theorems say "on the list" and "in that order, once"
 -- Assumes nothing.
-use Prim.Native.Nat.{ℕ, zero, suc, _+_, _*_, _-_, _/_, _%_, _<_}
-use mathlib.Core.Path.{_≡_}
-use mathlib.Core.Logic.{_⊎_}
+use Prim.Native.Nat.{ℕ, zero, suc, _+_, _*_, _-_, _/_, _%_}
 use mathlib.Core.List.{List, [], _∷_, _++_, map}
 use lib.ListN.{length, replicate}
-use lib.Dec.{eqb, ltb}
+use lib.Dec.{ltb}
 use Rattle.cases.specs.declared.case.Step.{Step}
 use Rattle.cases.specs.declared.case.Program.{Program}
 use Rattle.cases.specs.Choice.{pick}
+use Rattle.cases.specs.Checks.{queuesOf}
 use Rattle.cases.specs.Sizes.{mostInstructions}
 use Rattle.cases.specs.Operations.{issue, move, persist}
 use Rattle.machine.specs.declared.cells.State.{State}
-use Rattle.machine.specs.declared.cells.Waiting.{Waiting}
 use Rattle.machine.specs.declared.next.Next.{Next}
 use Rattle.machine.specs.Sizes.{mostCandidates, kindRanks}
-use Rattle.machine.specs.Rules.{ruleIn, ruleOf}
+use Rattle.machine.specs.Model.{allowed}
+use Rattle.machine.specs.Parts.{Parts, partsOf}
+use Rattle.machine.specs.Rules.{ruleIn}
 
 abbrev pub issueStep : ℕ → Step
 issueStep t = record { thread = record { 0 = t }; code = issue; position = 0; location = record { 0 = 0 } }
@@ -36,7 +34,7 @@ abbrev pub moveStep : ℕ → ℕ → Step
 moveStep t i = record { thread = record { 0 = t }; code = move; position = i; location = record { 0 = 0 } }
 
 abbrev pub persistStep : ℕ → Step
-persistStep l = record { thread = record { 0 = 0 }; code = persist; position = 0; location = record { 0 = l } }
+persistStep q = record { thread = record { 0 = 0 }; code = persist; position = 0; location = record { 0 = q } }
 
 unfoldable pub issuesFrom : ℕ → ℕ → List Step
 issuesFrom t zero = []
@@ -51,19 +49,11 @@ movesFrom t zero = []
 movesFrom t (suc n) = movesAt t 0 mostInstructions ++ movesFrom (suc t) n
 
 unfoldable pub persistsFrom : ℕ → ℕ → List Step
-persistsFrom l zero = []
-persistsFrom l (suc n) = persistStep l ∷ persistsFrom (suc l) n
+persistsFrom q zero = []
+persistsFrom q (suc n) = persistStep q ∷ persistsFrom (suc q) n
 
 unfoldable pub candidates : Program → List Step
-candidates p = issuesFrom 0 (p .threads) ++ movesFrom 0 (p .threads) ++ persistsFrom 0 (p .locations)
-
--- those of some steps that break no rule
-unfoldable pub allowed : (Step → ℕ) → List Step → List Step
-allowed rule [] = []
-allowed rule (k ∷ ks) = pick (eqb (rule k) 0) (k ∷ allowed rule ks) (allowed rule ks)
-
-unfoldable pub legalSteps : Program → State → List Step
-legalSteps p s = allowed (ruleOf p s) (candidates p)
+candidates p = issuesFrom 0 (p .threads) ++ movesFrom 0 (p .threads) ++ persistsFrom 0 (queuesOf p)
 
 -- a step's rank in that order; the step of a rank
 unfoldable pub rankOf : Step → ℕ
@@ -80,18 +70,8 @@ unfoldable pub listed : List Step → Next
 listed ks =
     record { count = length ks; ranks = map rankOf ks ++ replicate (mostCandidates - length ks) 0 }
 
-unfoldable pub nextIn : Program → List Waiting → List ℕ → List ℕ → List ℕ → List ℕ → Next
-nextIn p buffers issued waiting marks lengths =
-    listed (allowed (ruleIn p buffers issued waiting marks lengths) (candidates p))
+unfoldable pub nextIn : Program → Parts → Next
+nextIn p x = listed (allowed (ruleIn p x) (candidates p))
 
 unfoldable pub nextSteps : Program → State → Next
-nextSteps p s = nextIn p (s .buffers) (s .issued) (s .waiting) (s .marks) (s .lengths)
-
-unfoldable pub Listed : {A : Type 0} → A → List A → Type 0
-Listed x [] = ⊥
-Listed x (y ∷ ys) = (x ≡ y) ⊎ Listed x ys
-
--- each one's rank is below those of all behind it
-unfoldable pub Ascending : {K : Type 0} → (K → ℕ) → List K → Type 0
-Ascending rank [] = Unit {0}
-Ascending {K} rank (k ∷ ks) = ((j : K) → Listed j ks → rank k < rank j) × Ascending rank ks
+nextSteps p s = nextIn p (partsOf s)

@@ -16,6 +16,7 @@ use Rattle.cases.specs.Sizes.{mostThreads, mostInstructions, mostLocations}
 use Rattle.machine.specs.declared.cells.Waiting.{Waiting}
 use Rattle.machine.specs.declared.next.Next.{Next}
 use Rattle.machine.specs.View.{bufferIn}
+use Rattle.machine.specs.Parts.{Parts}
 use Rattle.machine.specs.Rules.{issueRule, moveRule, persistRule, entryAt}
 use Rattle.machine.specs.Fit.{Named}
 use Rattle.machine.specs.Next.{rankOf}
@@ -31,15 +32,14 @@ unfoldable pub offeredAll : (Step → ℕ) → List Step → Next → Next
 offeredAll rule [] n = n
 offeredAll rule (k ∷ ks) n = offeredAll rule ks (offered (rule k) k n)
 
-unfoldable pub issueRuleAt : Program → List ℕ → List ℕ → List ℕ → List ℕ → Step → ℕ
-issueRuleAt p issued waiting marks lengths k = issueRule p issued waiting marks lengths (k .thread .0)
+unfoldable pub issueRuleAt : Program → Parts → Step → ℕ
+issueRuleAt p x k = issueRule p x (k .thread .0)
 
-unfoldable pub moveRuleAt : List Waiting → List ℕ → List ℕ → List ℕ → Step → ℕ
-moveRuleAt buffers waiting marks lengths k =
-    moveRule buffers waiting marks lengths (k .thread .0) (k .position)
+unfoldable pub moveRuleAt : Program → Parts → Step → ℕ
+moveRuleAt p x k = moveRule p x (k .thread .0) (k .position)
 
-unfoldable pub persistRuleAt : List ℕ → Step → ℕ
-persistRuleAt lengths k = persistRule lengths (k .location .0)
+unfoldable pub persistRuleAt : Parts → Step → ℕ
+persistRuleAt x k = persistRule x (k .location .0)
 
 -- every thread's buffer is within its depth, and its first entry names a location that there is
 unfoldable pub Movable : List Waiting → List ℕ → Type 0

@@ -1,6 +1,7 @@
 -- Document 01, "The machine's steps": for each step the rule it breaks, 0 where it is legal, and what it does.
--- A rule looks at no part of the state but those it is given; what a legal step does is said apart.
---   enqueue, await           the state with one more at a queue's end, at a buffer's end
+-- A rule looks at the parts of a state that rules look at (Parts) and at no other; what a legal step does is
+-- said apart.
+--   enqueue s q h, await     the state with one more at a queue's end, at a buffer's end
 --   instructionAt p t i      instruction i of thread t
 --   isBarrier op             exchange and mfence
 --   operationRule            the rule against issuing an operation: 22, 23
@@ -10,7 +11,7 @@
 --   effectRule, effectOf     what an entry does as it takes effect: 27, 28. It is already out of its buffer, so
 --                            that a machine without buffers can use these two.
 --   persistRule, persistOf   persist: 29; persistFirst: of the entries of a queue
---   ruleIn, ruleOf p s k     a step's rule by its code, over the parts it looks at, in a state
+--   ruleIn, ruleOf p s k     a step's rule by its code, over the parts that rules look at, in a state
 --   nextOf p s k             what a legal step does, by its code
 --   startOf p                where a run starts
 -- Assumes nothing.
@@ -33,14 +34,15 @@ use Rattle.machine.specs.declared.cells.Waiting.{Waiting}
 use Rattle.machine.specs.declared.cells.Entry.{Entry}
 use Rattle.machine.specs.declared.cells.Entry.the-variants.{Store, Flush, FlushOpt, Sfence}
 use Rattle.machine.specs.Sizes.{allSlots, allRegisters}
-use Rattle.machine.specs.View.{Slot, queueOf, writeSlot, markerSlot}
+use Rattle.machine.specs.View.{Slot, queueOf, homeOf, writeSlot, markerSlot}
 use Rattle.machine.specs.View.{without, queue, withQueue, blankWaiting}
 use Rattle.machine.specs.View.{bufferIn, buffer, withBuffer, wordOf, withWord}
 use Rattle.machine.specs.View.{registerIn, withRegister, issuedOf, withIssued}
+use Rattle.machine.specs.Parts.{Parts, partsOf}
 use Rattle.machine.specs.Look.{wordOr, queuedWord, loadOf, marked, firstBar}
 
 unfoldable pub enqueue : State → ℕ → Slot → State
-enqueue s l h = withQueue s (queueOf l) (queue s (queueOf l) ++ (h ∷ []))
+enqueue s q h = withQueue s q (queue s q ++ (h ∷ []))
 
 unfoldable pub await : State → ℕ → Entry → State
 await s t e = withBuffer s t (buffer s t ++ (record { entry = e } ∷ []))
@@ -51,22 +53,22 @@ instructionAt p t i = getD (p .code) (t * mostInstructions + i) noInstruction
 
 -- "Exchange and mfence need the own buffer empty (else 22), then no marker of that thread in any queue (else
 -- 23)."
-unfoldable pub barrierRule : List ℕ → List ℕ → List ℕ → ℕ → ℕ
-barrierRule waiting marks lengths t =
-    refuse (ltb 0 (getD waiting t 0)) 22
-    (refuse (marked marks lengths t) 23 0)
+unfoldable pub barrierRule : Parts → ℕ → ℕ
+barrierRule x t =
+    refuse (ltb 0 (getD (x .waiting) t 0)) 22
+    (refuse (marked (x .marks) (x .lengths) t) 23 0)
 
 unfoldable pub isBarrier : ℕ → Bool
 isBarrier op = either (eqb op exchange) (eqb op mfence)
 
-unfoldable pub operationRule : ℕ → List ℕ → List ℕ → List ℕ → ℕ → ℕ
-operationRule op waiting marks lengths t = pick (isBarrier op) (barrierRule waiting marks lengths t) 0
+unfoldable pub operationRule : ℕ → Parts → ℕ → ℕ
+operationRule op x t = pick (isBarrier op) (barrierRule x t) 0
 
 -- "none left: 21"
-unfoldable pub issueRule : Program → List ℕ → List ℕ → List ℕ → List ℕ → ℕ → ℕ
-issueRule p issued waiting marks lengths t =
-    refuse (leb (countAt p t) (getD issued t 0)) 21
-    (operationRule (instructionAt p t (getD issued t 0) .operation) waiting marks lengths t)
+unfoldable pub issueRule : Program → Parts → ℕ → ℕ
+issueRule p x t =
+    refuse (leb (countAt p t) (getD (x .issued) t 0)) 21
+    (operationRule (instructionAt p t (getD (x .issued) t 0) .operation) x t)
 
 -- "Stores fix their word now; stores, flushes, flush-opts and sfences join the end of the thread's buffer."
 unfoldable pub entryOf : List ℕ → ℕ → Instruction → Entry
@@ -79,90 +81,91 @@ entryOf registers t x =
     Sfence)))
 
 -- a load's register takes the word that the load finds
-unfoldable pub loaded : State → ℕ → Instruction → State
-loaded s t x = withRegister s t (x .register .0) (loadOf s t (x .location .0))
+unfoldable pub loaded : Program → State → ℕ → Instruction → State
+loaded p s t x = withRegister s t (x .register .0) (loadOf p s t (x .location .0))
 
 -- "Exchange reads queue or memory and puts its write at the queue's end." "the register takes the old one"
-unfoldable pub exchanged : State → ℕ → Instruction → State
-exchanged s t x =
-    enqueue (withRegister s t (x .register .0) (queuedWord s (x .location .0))) (x .location .0)
+unfoldable pub exchanged : Program → State → ℕ → Instruction → State
+exchanged p s t x =
+    enqueue (withRegister s t (x .register .0) (queuedWord p s (x .location .0))) (queueOf p (x .location .0))
     (writeSlot (x .word))
 
 -- what an instruction does as it is issued: load, exchange and mfence are done with it; the others wait
-unfoldable pub performed : State → ℕ → Instruction → State
-performed s t x =
-    pick (eqb (x .operation) load) (loaded s t x)
-    (pick (eqb (x .operation) exchange) (exchanged s t x)
+unfoldable pub performed : Program → State → ℕ → Instruction → State
+performed p s t x =
+    pick (eqb (x .operation) load) (loaded p s t x)
+    (pick (eqb (x .operation) exchange) (exchanged p s t x)
     (pick (eqb (x .operation) mfence) s
     (await s t (entryOf (s .registers) t x))))
 
 unfoldable pub issueOf : Program → State → ℕ → State
 issueOf p s t =
-    performed (withIssued s t (issuedOf s t + 1)) t (instructionAt p t (issuedOf s t))
+    performed p (withIssued s t (issuedOf s t + 1)) t (instructionAt p t (issuedOf s t))
 
 -- "A flush leaves only if its location's queue is empty, markers counted (else 27)." "An sfence leaves only if
 -- no queue holds a marker of that thread (else 28)."
-unfoldable pub effectRule : List ℕ → List ℕ → ℕ → Entry → ℕ
-effectRule marks lengths t (Store w) = 0
-effectRule marks lengths t (Flush l) = refuse (ltb 0 (getD lengths (queueOf (l .0)) 0)) 27 0
-effectRule marks lengths t (FlushOpt l) = 0
-effectRule marks lengths t Sfence = refuse (marked marks lengths t) 28 0
+unfoldable pub effectRule : Program → Parts → ℕ → Entry → ℕ
+effectRule p x t (Store w) = 0
+effectRule p x t (Flush l) = refuse (ltb 0 (getD (x .lengths) (queueOf p (l .0)) 0)) 27 0
+effectRule p x t (FlushOpt l) = 0
+effectRule p x t Sfence = refuse (marked (x .marks) (x .lengths) t) 28 0
 
 -- "A store becomes a write at its queue's end." "A flush-opt becomes a marker at its queue's end."
-unfoldable pub effectOf : State → ℕ → Entry → State
-effectOf s t (Store w) = enqueue s (w .location .0) (writeSlot (w .word))
-effectOf s t (Flush l) = s
-effectOf s t (FlushOpt l) = enqueue s (l .0) (markerSlot t)
-effectOf s t Sfence = s
+unfoldable pub effectOf : Program → State → ℕ → Entry → State
+effectOf p s t (Store w) = enqueue s (queueOf p (w .location .0)) (writeSlot (w .word))
+effectOf p s t (Flush l) = s
+effectOf p s t (FlushOpt l) = enqueue s (queueOf p (l .0)) (markerSlot t)
+effectOf p s t Sfence = s
 
 -- "Behind position 0 only a flush-opt may go (else 25), and only if no entry before it is a store or flush of
 -- its location or an sfence (else 26)." What a flush-opt does as it takes effect is always legal.
-unfoldable pub passRule : List Waiting → ℕ → Entry → ℕ
-passRule b i (Store w) = 25
-passRule b i (Flush l) = 25
-passRule b i (FlushOpt l) = refuse (ltb (firstBar (l .0) (take i b)) i) 26 0
-passRule b i Sfence = 25
+unfoldable pub passRule : Program → List Waiting → ℕ → Entry → ℕ
+passRule p b i (Store w) = 25
+passRule p b i (Flush l) = 25
+passRule p b i (FlushOpt l) = refuse (ltb (firstBar p (queueOf p (l .0)) (take i b)) i) 26 0
+passRule p b i Sfence = 25
 
 abbrev pub entryAt : List Waiting → ℕ → Entry
 entryAt b i = getD b i blankWaiting .entry
 
 -- "Move takes the entry at a position of the buffer (none: 24)."
-unfoldable pub moveRule : List Waiting → List ℕ → List ℕ → List ℕ → ℕ → ℕ → ℕ
-moveRule buffers waiting marks lengths t i =
-    refuse (leb (getD waiting t 0) i) 24
+unfoldable pub moveRule : Program → Parts → ℕ → ℕ → ℕ
+moveRule p x t i =
+    refuse (leb (getD (x .waiting) t 0) i) 24
     (pick (eqb i 0)
-    (effectRule marks lengths t (entryAt (bufferIn buffers waiting t) i))
-    (passRule (bufferIn buffers waiting t) i (entryAt (bufferIn buffers waiting t) i)))
+    (effectRule p x t (entryAt (bufferIn (x .buffers) (x .waiting) t) i))
+    (passRule p (bufferIn (x .buffers) (x .waiting) t) i (entryAt (bufferIn (x .buffers) (x .waiting) t) i)))
 
-unfoldable pub moveOf : State → ℕ → ℕ → State
-moveOf s t i = effectOf (withBuffer s t (without i (buffer s t))) t (entryAt (buffer s t) i)
+unfoldable pub moveOf : Program → State → ℕ → ℕ → State
+moveOf p s t i = effectOf p (withBuffer s t (without i (buffer s t))) t (entryAt (buffer s t) i)
 
 -- "Persist takes the oldest entry of a location's queue (empty: 29). A write goes to the persistent word; a
--- marker vanishes."
-unfoldable pub persistRule : List ℕ → ℕ → ℕ
-persistRule lengths l = refuse (eqb (getD lengths l 0) 0) 29 0
+-- marker vanishes." By the queue's number.
+unfoldable pub persistRule : Parts → ℕ → ℕ
+persistRule x q = refuse (eqb (getD (x .lengths) q 0) 0) 29 0
 
 unfoldable pub persistFirst : State → ℕ → List Slot → State
-persistFirst s l [] = s
-persistFirst s l (h ∷ q) = withQueue (withWord s l (wordOr h (wordOf s l))) l q
+persistFirst s q [] = s
+persistFirst s q (h ∷ rest) =
+    withQueue (withWord s (homeOf q (h .mark)) (wordOr h (wordOf s (homeOf q (h .mark))))) q rest
 
 unfoldable pub persistOf : State → ℕ → State
-persistOf s l = persistFirst s l (queue s l)
+persistOf s q = persistFirst s q (queue s q)
 
 -- "Step codes: 0 issue (thread); 1 move (thread, position 0 to 7); 2 persist (location)."
-unfoldable pub ruleIn : Program → List Waiting → List ℕ → List ℕ → List ℕ → List ℕ → Step → ℕ
-ruleIn p buffers issued waiting marks lengths k =
-    pick (eqb (k .code) issue) (issueRule p issued waiting marks lengths (k .thread .0))
-    (pick (eqb (k .code) move) (moveRule buffers waiting marks lengths (k .thread .0) (k .position))
-    (persistRule lengths (k .location .0)))
+unfoldable pub ruleIn : Program → Parts → Step → ℕ
+ruleIn p x k =
+    pick (eqb (k .code) issue) (issueRule p x (k .thread .0))
+    (pick (eqb (k .code) move) (moveRule p x (k .thread .0) (k .position))
+    (persistRule x (k .location .0)))
 
 unfoldable pub ruleOf : Program → State → Step → ℕ
-ruleOf p s k = ruleIn p (s .buffers) (s .issued) (s .waiting) (s .marks) (s .lengths) k
+ruleOf p s k = ruleIn p (partsOf s) k
 
 unfoldable pub nextOf : Program → State → Step → State
 nextOf p s k =
     pick (eqb (k .code) issue) (issueOf p s (k .thread .0))
-    (pick (eqb (k .code) move) (moveOf s (k .thread .0) (k .position))
+    (pick (eqb (k .code) move) (moveOf p s (k .thread .0) (k .position))
     (persistOf s (k .location .0)))
 
 -- "a run starts from the first contents, nothing queued, waiting or issued"

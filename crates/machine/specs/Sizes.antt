@@ -5,6 +5,7 @@
 --   allRegisters    all threads' registers, one thread's behind the other's
 --   mostCandidates  the steps that a state can have next
 --   kindRanks       the ranks that a kind of step takes up in the order of steps
+--   mostWork        the most that a program's instructions weigh: 3 each
 -- Assumes nothing.
 use Prim.Native.Nat.{ℕ, _+_, _*_}
 use Rattle.cases.specs.Sizes.{mostThreads, mostLocations, mostRegisters, allCode}
@@ -23,3 +24,6 @@ mostCandidates = mostThreads + allCode + mostLocations
 
 abbrev pub kindRanks : ℕ
 kindRanks = allCode + mostLocations
+
+abbrev pub mostWork : ℕ
+mostWork = 3 * allCode

@@ -6,7 +6,8 @@
 --   shift, closeGap         one taken out of a row: those behind it each one down
 --   writeSlot, markerSlot   a slot of a queue
 --   slots, wordsOf, marksOf words and marks as slots, and back
---   queueOf l               the queue that location l's entries go through
+--   queueOf p l             the queue that location l's entries go through in the program p
+--   homeOf q mark           the location that a write of queue q goes to
 --   queue, withQueue        the entries of a queue, oldest first; the state with others there
 --   buffer, withBuffer      the entries of a store buffer, oldest first; the state with others there
 --   queueLen, bufferLen     how many
@@ -17,6 +18,7 @@ use Prim.Native.Nat.{ℕ, _+_, _*_, _-_}
 use mathlib.Core.List.{List, [], _∷_, _++_}
 use lib.ListN.{length, getD, set, take, drop, replicate}
 use lib.Seq.{sets}
+use Rattle.cases.specs.declared.case.Program.{Program}
 use Rattle.cases.specs.Sizes.{mostInstructions, mostRegisters}
 use Rattle.machine.specs.declared.cells.State.{State}
 use Rattle.machine.specs.declared.cells.Waiting.{Waiting}
@@ -68,8 +70,12 @@ marksOf (h ∷ q) = h .mark ∷ marksOf q
 
 -- Queues
 -- which queue a location's entries go through: its own
-abbrev pub queueOf : ℕ → ℕ
-queueOf l = l
+unfoldable pub queueOf : Program → ℕ → ℕ
+queueOf p l = l
+
+-- and, of a write in a queue, by its mark, the location that it goes to: the one whose queue it is
+unfoldable pub homeOf : ℕ → ℕ → ℕ
+homeOf q mark = q
 
 abbrev pub queueLen : State → ℕ → ℕ
 queueLen s l = getD (s .lengths) l 0

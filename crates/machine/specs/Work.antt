@@ -3,35 +3,26 @@
 --   threadWork p s t    the work left in thread t
 --   work p s            the work left
 --   Unfinished p s      there is something to do: an instruction is unissued or an entry waits
---   fullLength p        "The sum at the start is the program's full length"
---   programWeight p t   thread t's part of it, from the program alone
---   cost                what a legal step uses up of it
---   workOf, fullOf      what is told of a case and a state in memory
---   weighedNo, weighedWork   of such an answer: 01's number, and the work left
+--   programWeight p t   thread t's part of the full length, from the program alone
+--   cost                what a legal step uses up of the work left
 -- Assumes nothing.
 use Prim.Native.Nat.{ℕ, _+_, _*_, _<_}
 use mathlib.Core.Logic.{_⊎_, _≢_}
-use mathlib.Core.Bool.{not}
 use mathlib.Core.List.{List, [], _∷_}
 use lib.Dec.{eqb}
 use Rattle.cases.specs.declared.case.Instruction.{Instruction}
 use Rattle.cases.specs.declared.case.Step.{Step}
 use Rattle.cases.specs.declared.case.Program.{Program}
-use Rattle.cases.specs.declared.case.Case.{Case}
 use Rattle.cases.specs.Choice.{pick}
 use Rattle.cases.specs.Sizes.{mostThreads, mostInstructions, mostLocations}
-use Rattle.cases.specs.Writing.{readsBack}
 use Rattle.cases.specs.Operations.{storeWord, storeRegister, load, exchange, flush, flushOpt, sfence}
-use Rattle.cases.specs.Checks.{countAt}
+use Rattle.cases.specs.Checks.{countAt, queuesOf}
 use Rattle.machine.specs.declared.cells.State.{State}
 use Rattle.machine.specs.declared.cells.Waiting.{Waiting}
 use Rattle.machine.specs.declared.cells.Entry.{Entry}
 use Rattle.machine.specs.declared.cells.Entry.the-variants.{Store, Flush, FlushOpt, Sfence}
-use Rattle.machine.specs.declared.work.Weighed.{Weighed}
-use Rattle.machine.specs.declared.work.Weighed.the-variants.{Left, Unweighed}
 use Rattle.machine.specs.View.{part, queue, queueLen, buffer, issuedOf}
-use Rattle.machine.specs.Rules.{startOf}
-use Rattle.machine.specs.Fit.{sumTo, unissued, misfits}
+use Rattle.machine.specs.Fit.{sumTo, unissued}
 
 -- "Unissued: store or flush-opt 3; flush, sfence or exchange 2; load or mfence 1." By operation.
 unfoldable pub unissuedWeight : ℕ → ℕ
@@ -76,10 +67,7 @@ unfoldable pub Unfinished : Program → State → Type 0
 Unfinished p s =
     ((t : ℕ) × (t < p .threads) × (issuedOf s t < countAt p t))
     ⊎ ((t : ℕ) × (t < p .threads) × (buffer s t ≢ []))
-    ⊎ ((l : ℕ) × (l < p .locations) × (queue s l ≢ []))
-
-unfoldable pub fullLength : Program → ℕ
-fullLength p = work p (startOf p)
+    ⊎ ((q : ℕ) × (q < queuesOf p) × (queue s q ≢ []))
 
 -- what thread t's instructions weigh, all of them
 unfoldable pub programWeight : Program → ℕ → ℕ
@@ -88,21 +76,3 @@ programWeight p t = weighCode (part (t * mostInstructions) (countAt p t) (p .cod
 -- the same for every legal step today
 abbrev pub cost : Program → State → Step → ℕ
 cost p s k = 1
-
--- 0 and the work, or the refusal's number
-abbrev pub weighedNo : Weighed → ℕ
-weighedNo (Left n) = 0
-weighedNo (Unweighed m) = m
-
-abbrev pub weighedWork : Weighed → ℕ
-weighedWork (Left n) = n
-weighedWork (Unweighed m) = 0
-
-unfoldable pub workOf : Case → State → Weighed
-workOf c s =
-    pick (not (readsBack c)) (Unweighed 32)
-    (pick (misfits (c .program) s) (Unweighed 33)
-    (Left (work (c .program) s)))
-
-unfoldable pub fullOf : Case → Weighed
-fullOf c = pick (not (readsBack c)) (Unweighed 32) (Left (fullLength (c .program)))

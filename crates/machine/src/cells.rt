@@ -7,6 +7,9 @@ use cases::sizes::CODE;
 use cases::sizes::LOCATIONS;
 use cases::sizes::THREADS;
 
+// A queue's number. Which queue a location's entries go through, the program says.
+pub struct Queue(pub u8);
+
 // An entry that waits in a store buffer.
 pub enum Entry {
     Store(Write),
@@ -19,7 +22,7 @@ pub struct Waiting {
     pub entry: Entry,
 }
 
-// Queue l holds the first lengths[l] slots from l * ROOM on, a slot a word and a mark side by side: mark 0 is a
+// Queue q holds the first lengths[q] slots from q * ROOM on, a slot a word and a mark side by side: mark 0 is a
 // write of the word, mark t + 1 a marker of thread t. Buffer t holds the first waiting[t] entries from
 // t * INSTRUCTIONS on, and register r of thread t stands at t * REGISTERS + r. Number arrays, because those can
 // be lent: a look then copies nothing.

@@ -1,5 +1,6 @@
 // What a step changes of a state: an entry joins the end of a queue, or is taken out of a row of them.
 use crate::cells::Entry;
+use crate::cells::Queue;
 use crate::cells::State;
 use crate::cells::Waiting;
 use crate::sizes::ROOM;
@@ -16,13 +17,13 @@ ghost use Rattle.machine.specs.View.{closeGap, queueLen};
 ghost use Rattle.machine.specs.View.{blankWaiting};
 ghost use Rattle.machine.specs.Rules as rules;
 
-// An entry at the end of a location's queue.
-pub(crate) fn enqueue(s: State, l: Location, word: u32, mark: u8) -> State
-    requires { ⌜ (l .0 < mostLocations) × (queueLen s (l .0) < room) ⌝ }
-    ensures { λ r. ⌜ r ≡ rules.enqueue s (l .0) (record { word = word; mark = mark }) ⌝ }
+// An entry at the end of a queue.
+pub(crate) fn enqueue(s: State, q: Queue, word: u32, mark: u8) -> State
+    requires { ⌜ (q .0 < mostLocations) × (queueLen s (q .0) < room) ⌝ }
+    ensures { λ r. ⌜ r ≡ rules.enqueue s (q .0) (record { word = word; mark = mark }) ⌝ }
 {
     let mut u = s;
-    let at = l.0 as usize;
+    let at = q.0 as usize;
     let n = u.lengths[at];
     let end = at * ROOM + (n as usize);
     u.held[end] = word;

@@ -1,12 +1,13 @@
 // Refusal 33: does a state in memory fit its program? Anything of the types may be given.
 use crate::cells::Entry;
+use crate::cells::Queue;
 use crate::cells::State;
 use crate::cells::Waiting;
 use crate::sizes::ROOM;
 use crate::sizes::SLOTS;
-use cases::case::Location;
 use cases::case::Program;
 use cases::case::Thread;
+use cases::checks;
 use cases::sizes::CODE;
 use cases::sizes::INSTRUCTIONS;
 use cases::sizes::LOCATIONS;
@@ -57,18 +58,18 @@ fn has_stray<'a>(
     false
 }
 
-// Does a marker of a location's queue name a thread that the program lacks?
+// Does a marker of a queue name a thread that the program lacks?
 fn has_foreign<'a>(
     marks: &'a [u8; SLOTS],
     lengths: &'a [u8; LOCATIONS],
-    l: Location,
+    q: Queue,
     threads: u8,
 ) -> bool
-    requires { ⌜ (l .0 < mostLocations) × (getD (now lengths) (l .0) 0 ≤ room) ⌝ }
-    ensures { λ r. ⌜ r ≡ anyForeign threads (marksIn (now (marks .entry)) (now (lengths .entry)) (l .0)) ⌝ }
+    requires { ⌜ (q .0 < mostLocations) × (getD (now lengths) (q .0) 0 ≤ room) ⌝ }
+    ensures { λ r. ⌜ r ≡ anyForeign threads (marksIn (now (marks .entry)) (now (lengths .entry)) (q .0)) ⌝ }
 {
-    let base = (l.0 as usize) * ROOM;
-    let n = lengths[l.0 as usize] as usize;
+    let base = (q.0 as usize) * ROOM;
+    let n = lengths[q.0 as usize] as usize;
     let mut i = 0;
     while i < n {
         if threads < marks[base + i] {
@@ -157,33 +158,32 @@ fn all_unissued(p: Program, s: State) -> usize
     n
 }
 
-// Is there something in a location's queue that doesn't fit? What may still come into it is given.
-fn queue_misfits(p: Program, s: State, l: Location, coming: usize) -> bool
-    requires { ⌜ (l .0 < mostLocations) × (coming ≡ due p s) ⌝ }
-    ensures { λ r. ⌜ r ≡ queueMisfits p s (l .0) ⌝ }
+// Is there something in a queue that doesn't fit? What may still come into it is given.
+fn queue_misfits(p: Program, s: State, q: Queue, coming: usize) -> bool
+    requires { ⌜ (q .0 < mostLocations) × (coming ≡ due p s) ⌝ }
+    ensures { λ r. ⌜ r ≡ queueMisfits p s (q .0) ⌝ }
 {
-    let q = p;
     let u = s;
-    let n = u.lengths[l.0 as usize];
-    if q.locations <= l.0 && 0 < n {
+    let n = u.lengths[q.0 as usize];
+    if checks::queues_of(p) <= q.0 && 0 < n {
         return true;
     }
     if ROOM < (n as usize) + coming {
         return true;
     }
-    has_foreign(&u.marks, &u.lengths, l, q.threads)
+    has_foreign(&u.marks, &u.lengths, q, p.threads)
 }
 
 fn queues_misfit(p: Program, s: State) -> bool
     ensures { λ r. ⌜ r ≡ anyFrom 0 mostLocations (queueMisfits p s) ⌝ }
 {
     let coming = all_waiting(s) + all_unissued(p, s);
-    let mut l: u8 = 0;
-    while (l as usize) < LOCATIONS {
-        if queue_misfits(p, s, Location(l), coming) {
+    let mut q: u8 = 0;
+    while (q as usize) < LOCATIONS {
+        if queue_misfits(p, s, Queue(q), coming) {
             return true;
         }
-        l += 1;
+        q += 1;
     }
     false
 }

@@ -23,11 +23,12 @@ use cases::sizes::REGISTERS;
 use cases::sizes::THREADS;
 ghost use mathlib.Core.Path.{_≡_};
 ghost use Prim.Native.Nat.{_+_, _<_, _≤_};
+ghost use mathlib.Core.List.{[]};
 ghost use lib.ListN.{length};
 ghost use Rattle.cases.specs.Sizes.{mostThreads, mostInstructions, mostLocations, mostRegisters};
 ghost use Rattle.cases.specs.Checks.{countAt};
 ghost use Rattle.machine.specs.Sizes.{room, allSlots};
-ghost use Rattle.machine.specs.View.{queueLen, bufferLen, issuedOf};
+ghost use Rattle.machine.specs.View.{queueOf, queueLen, bufferLen, issuedOf};
 ghost use Rattle.machine.specs.Rules.{instructionAt, isBarrier, barrierRule, operationRule};
 ghost use Rattle.machine.specs.Rules.{issueRule, entryOf, loaded, exchanged, performed, issueOf, await};
 ghost use Rattle.machine.specs.Fit.{Shallow};
@@ -49,8 +50,13 @@ fn barrier_rule<'a>(
     t: Thread,
 ) -> u8
     requires { ⌜ (t .0 < mostThreads) × Shallow (now lengths) × (length (now marks) ≡ allSlots) ⌝ }
-    ensures { λ r. ⌜ r
-        ≡ barrierRule (now (waiting .entry)) (now (marks .entry)) (now (lengths .entry)) (t .0) ⌝ }
+    ensures { λ r. ⌜ r ≡ barrierRule (record {
+      buffers = [];
+      issued = [];
+      waiting = now (waiting .entry);
+      marks = now (marks .entry);
+      lengths = now (lengths .entry);
+    }) (t .0) ⌝ }
 {
     if 0 < waiting[t.0 as usize] {
         return 22;
@@ -69,8 +75,13 @@ pub(crate) fn operation_rule<'a>(
     t: Thread,
 ) -> u8
     requires { ⌜ (t .0 < mostThreads) × Shallow (now lengths) × (length (now marks) ≡ allSlots) ⌝ }
-    ensures { λ r. ⌜ r
-        ≡ operationRule op (now (waiting .entry)) (now (marks .entry)) (now (lengths .entry)) (t .0) ⌝ }
+    ensures { λ r. ⌜ r ≡ operationRule op (record {
+      buffers = [];
+      issued = [];
+      waiting = now (waiting .entry);
+      marks = now (marks .entry);
+      lengths = now (lengths .entry);
+    }) (t .0) ⌝ }
 {
     if is_barrier(op) {
         return barrier_rule(waiting, marks, lengths, t);
@@ -89,9 +100,13 @@ pub(crate) fn issue_rule<'a>(
 ) -> u8
     requires { ⌜ (t .0 < mostThreads) × (countAt p (t .0) ≤ mostInstructions) × Shallow (now lengths)
         × (length (now marks) ≡ allSlots) ⌝ }
-    ensures { λ r. ⌜ r
-        ≡ issueRule p (now (issued .entry)) (now (waiting .entry)) (now (marks .entry)) (now (lengths .entry))
-        (t .0) ⌝ }
+    ensures { λ r. ⌜ r ≡ issueRule p (record {
+      buffers = [];
+      issued = now (issued .entry);
+      waiting = now (waiting .entry);
+      marks = now (marks .entry);
+      lengths = now (lengths .entry);
+    }) (t .0) ⌝ }
 {
     let q = p;
     let at = t.0 as usize;
@@ -134,15 +149,16 @@ fn entry_of<'a>(registers: &'a [u32; ALL_REGISTERS], t: Thread, x: Instruction) 
 
 // The register takes the newest store of the own buffer, else the newest write of the queue, else the
 // persistent word.
-fn load(s: State, t: Thread, x: Instruction) -> State
+fn load(p: Program, s: State, t: Thread, x: Instruction) -> State
     requires { ⌜ (t .0 < mostThreads) × (x .location .0 < mostLocations) × (x .register .0 < mostRegisters)
-        × (bufferLen s (t .0) ≤ mostInstructions) × (queueLen s (x .location .0) ≤ room) ⌝ }
-    ensures { λ r. ⌜ r ≡ loaded s (t .0) x ⌝ }
+        × (bufferLen s (t .0) ≤ mostInstructions) × (queueOf p (x .location .0) < mostLocations)
+        × (queueLen s (queueOf p (x .location .0)) ≤ room) ⌝ }
+    ensures { λ r. ⌜ r ≡ loaded p s (t .0) x ⌝ }
 {
     let mut u = s;
     let l = x.location;
     let word = u.words[l.0 as usize];
-    let queued = look::newest_write(&u.held, &u.marks, &u.lengths, l, word);
+    let queued = look::newest_write(&u.held, &u.marks, &u.lengths, look::queue_of(p, l), word);
     let b = u.buffers;
     let found = look::newest_store(b, &u.waiting, t, l, queued);
     u.registers[(t.0 as usize) * REGISTERS + (x.register.0 as usize)] = found;
@@ -151,17 +167,18 @@ fn load(s: State, t: Thread, x: Instruction) -> State
 
 // The register takes the newest write of the queue, else the persistent word; the instruction's word goes to
 // the queue's end.
-fn exchange(s: State, t: Thread, x: Instruction) -> State
+fn exchange(p: Program, s: State, t: Thread, x: Instruction) -> State
     requires { ⌜ (t .0 < mostThreads) × (x .location .0 < mostLocations) × (x .register .0 < mostRegisters)
-        × (queueLen s (x .location .0) < room) ⌝ }
-    ensures { λ r. ⌜ r ≡ exchanged s (t .0) x ⌝ }
+        × (queueOf p (x .location .0) < mostLocations) × (queueLen s (queueOf p (x .location .0)) < room) ⌝ }
+    ensures { λ r. ⌜ r ≡ exchanged p s (t .0) x ⌝ }
 {
     let mut u = s;
     let l = x.location;
     let word = u.words[l.0 as usize];
-    let old = look::newest_write(&u.held, &u.marks, &u.lengths, l, word);
+    let q = look::queue_of(p, l);
+    let old = look::newest_write(&u.held, &u.marks, &u.lengths, q, word);
     u.registers[(t.0 as usize) * REGISTERS + (x.register.0 as usize)] = old;
-    change::enqueue(u, l, x.word, 0)
+    change::enqueue(u, q, x.word, 0)
 }
 
 // The instruction's entry joins the end of the thread's buffer.
@@ -180,17 +197,18 @@ fn join_buffer(s: State, t: Thread, x: Instruction) -> State
 }
 
 // What an instruction does as it is issued; those that wait are told apart in `entry_of`.
-fn perform(s: State, t: Thread, x: Instruction) -> State
+fn perform(p: Program, s: State, t: Thread, x: Instruction) -> State
     requires { ⌜ (t .0 < mostThreads) × (x .location .0 < mostLocations) × (x .register .0 < mostRegisters)
-        × (bufferLen s (t .0) < mostInstructions) × (queueLen s (x .location .0) < room) ⌝ }
-    ensures { λ r. ⌜ r ≡ performed s (t .0) x ⌝ }
+        × (bufferLen s (t .0) < mostInstructions) × (queueOf p (x .location .0) < mostLocations)
+        × (queueLen s (queueOf p (x .location .0)) < room) ⌝ }
+    ensures { λ r. ⌜ r ≡ performed p s (t .0) x ⌝ }
 {
     let op = x.operation;
     if op == LOAD {
-        return load(s, t, x);
+        return load(p, s, t, x);
     }
     if op == EXCHANGE {
-        return exchange(s, t, x);
+        return exchange(p, s, t, x);
     }
     if op == MFENCE {
         return s;
@@ -204,7 +222,8 @@ pub(crate) fn issue(p: Program, s: State, t: Thread) -> State
         × (bufferLen s (t .0) < mostInstructions)
         × (instructionAt p (t .0) (issuedOf s (t .0)) .location .0 < mostLocations)
         × (instructionAt p (t .0) (issuedOf s (t .0)) .register .0 < mostRegisters)
-        × (queueLen s (instructionAt p (t .0) (issuedOf s (t .0)) .location .0) < room) ⌝ }
+        × (queueOf p (instructionAt p (t .0) (issuedOf s (t .0)) .location .0) < mostLocations)
+        × (queueLen s (queueOf p (instructionAt p (t .0) (issuedOf s (t .0)) .location .0)) < room) ⌝ }
     ensures { λ r. ⌜ r ≡ issueOf p s (t .0) ⌝ }
 {
     let q = p;
@@ -213,5 +232,5 @@ pub(crate) fn issue(p: Program, s: State, t: Thread) -> State
     let n = u.issued[at];
     let x = q.code[at * INSTRUCTIONS + (n as usize)];
     u.issued[at] = n + 1;
-    perform(u, t, x)
+    perform(p, u, t, x)
 }

@@ -1,10 +1,12 @@
 // What a look through the state finds. No function here changes a state; the number arrays are lent, the
 // buffers go by value because an array of structs can't be lent.
 use crate::cells::Entry;
+use crate::cells::Queue;
 use crate::cells::Waiting;
 use crate::sizes::ROOM;
 use crate::sizes::SLOTS;
 use cases::case::Location;
+use cases::case::Program;
 use cases::case::Thread;
 use cases::sizes::CODE;
 use cases::sizes::INSTRUCTIONS;
@@ -15,15 +17,29 @@ ghost use Prim.Native.Nat.{_<_, _≤_};
 ghost use lib.ListN.{length, getD, take};
 ghost use Rattle.cases.specs.Sizes.{mostThreads, mostInstructions, mostLocations};
 ghost use Rattle.machine.specs.Sizes.{room, allSlots};
-ghost use Rattle.machine.specs.View.{queueIn, bufferIn};
+ghost use Rattle.machine.specs.View.{queueOf, homeOf, queueIn, bufferIn};
 ghost use Rattle.machine.specs.Fit.{Shallow};
 ghost use Rattle.machine.specs.Look.{wordOr, newestWrite, storedOr, newestStore, markerOf, marked, bars};
 ghost use Rattle.machine.specs.Look.{firstBar};
 
 // Where a marker stands: its queue and its position there.
 pub enum Found {
-    At(Location, u8),
+    At(Queue, u8),
     Nothing,
+}
+
+// The queue that a location's entries go through.
+pub(crate) fn queue_of(p: Program, l: Location) -> Queue
+    ensures { λ r. ⌜ r .0 ≡ queueOf p (l .0) ⌝ }
+{
+    Queue(l.0)
+}
+
+// The location that a write of a queue goes to, by its mark.
+pub(crate) fn home_of(q: Queue, mark: u8) -> Location
+    ensures { λ r. ⌜ r .0 ≡ homeOf (q .0) mark ⌝ }
+{
+    Location(q.0)
 }
 
 // A write's word; of a marker the word before.
@@ -33,21 +49,21 @@ pub(crate) fn word_or(word: u32, mark: u8, before: u32) -> u32
     if mark == 0 { word } else { before }
 }
 
-// The newest write of a location's queue, else the word given.
+// The newest write of a queue, else the word given.
 pub(crate) fn newest_write<'a>(
     held: &'a [u32; SLOTS],
     marks: &'a [u8; SLOTS],
     lengths: &'a [u8; LOCATIONS],
-    l: Location,
+    q: Queue,
     other: u32,
 ) -> u32
-    requires { ⌜ (l .0 < mostLocations) × (getD (now lengths) (l .0) 0 ≤ room)
+    requires { ⌜ (q .0 < mostLocations) × (getD (now lengths) (q .0) 0 ≤ room)
         × (length (now held) ≡ allSlots) × (length (now marks) ≡ allSlots) ⌝ }
     ensures { λ r. ⌜ r
-        ≡ newestWrite (queueIn (now (held .entry)) (now (marks .entry)) (now (lengths .entry)) (l .0)) other ⌝ }
+        ≡ newestWrite (queueIn (now (held .entry)) (now (marks .entry)) (now (lengths .entry)) (q .0)) other ⌝ }
 {
-    let base = (l.0 as usize) * ROOM;
-    let n = lengths[l.0 as usize] as usize;
+    let base = (q.0 as usize) * ROOM;
+    let n = lengths[q.0 as usize] as usize;
     let mut word = other;
     let mut i = 0;
     while i < n {
@@ -101,18 +117,18 @@ pub(crate) fn marker<'a>(marks: &'a [u8; SLOTS], lengths: &'a [u8; LOCATIONS], t
 {
     let mark = t.0 + 1;
     let mut found = Found::Nothing;
-    let mut l: u8 = 0;
-    'queues: while (l as usize) < LOCATIONS {
-        let n = lengths[l as usize];
+    let mut q: u8 = 0;
+    'queues: while (q as usize) < LOCATIONS {
+        let n = lengths[q as usize];
         let mut i: u8 = 0;
         'entries: while i < n {
-            if marks[(l as usize) * ROOM + (i as usize)] == mark {
-                found = Found::At(Location(l), i);
+            if marks[(q as usize) * ROOM + (i as usize)] == mark {
+                found = Found::At(Queue(q), i);
                 break 'queues;
             }
             i += 1;
         }
-        l += 1;
+        q += 1;
     }
     found
 }
@@ -128,38 +144,39 @@ pub(crate) fn is_marked<'a>(marks: &'a [u8; SLOTS], lengths: &'a [u8; LOCATIONS]
     }
 }
 
-// Does an entry keep a flush-opt of the location behind it?
-fn is_bar(w: Waiting, l: Location) -> bool
-    ensures { λ r. ⌜ r ≡ bars (l .0) (w .entry) ⌝ }
+// Does an entry keep a flush-opt of the queue behind it?
+fn is_bar(p: Program, w: Waiting, q: Queue) -> bool
+    ensures { λ r. ⌜ r ≡ bars p (q .0) (w .entry) ⌝ }
 {
     let e = w.entry;
     match e {
-        Entry::Store(x) => x.location.0 == l.0,
-        Entry::Flush(m) => m.0 == l.0,
+        Entry::Store(x) => queue_of(p, x.location).0 == q.0,
+        Entry::Flush(m) => queue_of(p, m).0 == q.0,
         Entry::FlushOpt(_) => false,
         Entry::Sfence => true,
     }
 }
 
-// The position of the first of a buffer's first i entries that keeps a flush-opt of the location behind it; i
+// The position of the first of a buffer's first i entries that keeps a flush-opt of the queue behind it; i
 // where none does.
 pub(crate) fn first_bar<'a>(
+    p: Program,
     buffers: [Waiting; CODE],
     waiting: &'a [u8; THREADS],
     t: Thread,
     i: u8,
-    l: Location,
+    q: Queue,
 ) -> u8
     requires { ⌜ (t .0 < mostThreads) × (i ≤ getD (now waiting) (t .0) 0)
         × (getD (now waiting) (t .0) 0 ≤ mostInstructions) ⌝ }
-    ensures { λ r. ⌜ r ≡ firstBar (l .0) (take i (bufferIn buffers (now (waiting .entry)) (t .0))) ⌝ }
+    ensures { λ r. ⌜ r ≡ firstBar p (q .0) (take i (bufferIn buffers (now (waiting .entry)) (t .0))) ⌝ }
 {
     let b = buffers;
     let base = (t.0 as usize) * INSTRUCTIONS;
     let mut j: u8 = 0;
     while j < i {
         let w = b[base + (j as usize)];
-        if is_bar(w, l) {
+        if is_bar(p, w, q) {
             return j;
         }
         j += 1;

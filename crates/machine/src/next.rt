@@ -1,6 +1,7 @@
 // The legal next steps of a state, in 01's order: issue by thread, move by thread then position, persist by
-// location. One call for each state of a walk: the state's number arrays are lent, and the list is an array of
+// queue. One call for each state of a walk: the state's number arrays are lent, and the list is an array of
 // ranks, filled in place, since a list of steps handed on by value is copied at each offer.
+use crate::cells::Queue;
 use crate::cells::Waiting;
 use crate::issue;
 use crate::moves;
@@ -11,6 +12,7 @@ use cases::case::Location;
 use cases::case::Program;
 use cases::case::Step;
 use cases::case::Thread;
+use cases::checks;
 use cases::operations::ISSUE;
 use cases::operations::MOVE;
 use cases::operations::PERSIST;
@@ -19,6 +21,7 @@ use cases::sizes::INSTRUCTIONS;
 use cases::sizes::LOCATIONS;
 use cases::sizes::THREADS;
 ghost use mathlib.Core.Path.{_≡_};
+ghost use mathlib.Core.List.{[]};
 ghost use lib.ListN.{length};
 ghost use Prim.Native.Nat.{_+_, _*_, _<_, _≤_};
 ghost use Rattle.cases.specs.Sizes.{mostThreads, mostInstructions, mostLocations};
@@ -96,7 +99,13 @@ fn offer_issues<'a>(
     requires { ⌜ ProgramFits p × Shallow (now lengths) × (length (now marks) ≡ allSlots)
         × (count + mostThreads ≤ mostCandidates) ⌝ }
     ensures { λ r. ⌜ nextWith r (now (ranks .exit)) ≡ offeredAll
-        (issueRuleAt p (now (issued .entry)) (now (waiting .entry)) (now (marks .entry)) (now (lengths .entry)))
+        (issueRuleAt p (record {
+          buffers = [];
+          issued = now (issued .entry);
+          waiting = now (waiting .entry);
+          marks = now (marks .entry);
+          lengths = now (lengths .entry);
+        }))
         (issuesFrom 0 (p .threads)) (nextWith count (now (ranks .entry))) ⌝ }
 {
     // once for all threads: what is handed on by value is copied each time
@@ -129,6 +138,7 @@ fn offer_issues<'a>(
 
 // The moves of one thread: behind its entries there are none.
 fn offer_moves_of<'a>(
+    p: Program,
     t: Thread,
     buffers: [Waiting; CODE],
     waiting: &'a [u8; THREADS],
@@ -137,17 +147,23 @@ fn offer_moves_of<'a>(
     ranks: &mut [u8; CANDIDATES],
     count: u8,
 ) -> u8
-    requires { ⌜ (t .0 < mostThreads) × Movable buffers (now waiting) × Shallow (now lengths)
+    requires { ⌜ ProgramFits p × (t .0 < mostThreads) × Movable buffers (now waiting) × Shallow (now lengths)
         × (length (now marks) ≡ allSlots) × (count + mostInstructions ≤ mostCandidates) ⌝ }
     ensures { λ r. ⌜ nextWith r (now (ranks .exit)) ≡ offeredAll
-        (moveRuleAt buffers (now (waiting .entry)) (now (marks .entry)) (now (lengths .entry)))
+        (moveRuleAt p (record {
+          buffers = buffers;
+          issued = [];
+          waiting = now (waiting .entry);
+          marks = now (marks .entry);
+          lengths = now (lengths .entry);
+        }))
         (movesAt (t .0) 0 mostInstructions) (nextWith count (now (ranks .entry))) ⌝ }
 {
     let many = waiting[t.0 as usize];
     let mut n = count;
     let mut i: u8 = 0;
     while i < many {
-        let broken = moves::move_rule(buffers, waiting, marks, lengths, t, i);
+        let broken = moves::move_rule(p, buffers, waiting, marks, lengths, t, i);
         n = offer(
             ranks,
             n,
@@ -165,7 +181,7 @@ fn offer_moves_of<'a>(
 }
 
 fn offer_moves<'a>(
-    threads: u8,
+    p: Program,
     buffers: [Waiting; CODE],
     waiting: &'a [u8; THREADS],
     marks: &'a [u8; SLOTS],
@@ -173,36 +189,49 @@ fn offer_moves<'a>(
     ranks: &mut [u8; CANDIDATES],
     count: u8,
 ) -> u8
-    requires { ⌜ (threads ≤ mostThreads) × Movable buffers (now waiting) × Shallow (now lengths)
+    requires { ⌜ ProgramFits p × Movable buffers (now waiting) × Shallow (now lengths)
         × (length (now marks) ≡ allSlots) × (count + mostThreads * mostInstructions ≤ mostCandidates) ⌝ }
     ensures { λ r. ⌜ nextWith r (now (ranks .exit)) ≡ offeredAll
-        (moveRuleAt buffers (now (waiting .entry)) (now (marks .entry)) (now (lengths .entry)))
-        (movesFrom 0 threads) (nextWith count (now (ranks .entry))) ⌝ }
+        (moveRuleAt p (record {
+          buffers = buffers;
+          issued = [];
+          waiting = now (waiting .entry);
+          marks = now (marks .entry);
+          lengths = now (lengths .entry);
+        }))
+        (movesFrom 0 (p .threads)) (nextWith count (now (ranks .entry))) ⌝ }
 {
     let mut n = count;
     let mut t: u8 = 0;
-    while t < threads {
-        n = offer_moves_of(Thread(t), buffers, waiting, marks, lengths, ranks, n);
+    while t < p.threads {
+        n = offer_moves_of(p, Thread(t), buffers, waiting, marks, lengths, ranks, n);
         t += 1;
     }
     n
 }
 
 fn offer_persists<'a>(
-    locations: u8,
+    queues: u8,
     lengths: &'a [u8; LOCATIONS],
     ranks: &mut [u8; CANDIDATES],
     count: u8,
 ) -> u8
-    requires { ⌜ (locations ≤ mostLocations) × (count + mostLocations ≤ mostCandidates) ⌝ }
+    requires { ⌜ (queues ≤ mostLocations) × (count + mostLocations ≤ mostCandidates) ⌝ }
     ensures { λ r. ⌜ nextWith r (now (ranks .exit)) ≡ offeredAll
-        (persistRuleAt (now (lengths .entry))) (persistsFrom 0 locations)
+        (persistRuleAt (record {
+          buffers = [];
+          issued = [];
+          waiting = [];
+          marks = [];
+          lengths = now (lengths .entry);
+        }))
+        (persistsFrom 0 queues)
         (nextWith count (now (ranks .entry))) ⌝ }
 {
     let mut n = count;
-    let mut l: u8 = 0;
-    while l < locations {
-        let broken = moves::persist_rule(lengths, Location(l));
+    let mut q: u8 = 0;
+    while q < queues {
+        let broken = moves::persist_rule(lengths, Queue(q));
         n = offer(
             ranks,
             n,
@@ -211,10 +240,10 @@ fn offer_persists<'a>(
                 thread: Thread(0),
                 code: PERSIST,
                 position: 0,
-                location: Location(l),
+                location: Location(q),
             },
         );
-        l += 1;
+        q += 1;
     }
     n
 }
@@ -230,22 +259,18 @@ pub fn next_steps<'a>(
 ) -> Next
     requires { ⌜ ProgramFits p × Movable buffers (now waiting) × Shallow (now lengths)
         × (length (now marks) ≡ allSlots) ⌝ }
-    ensures { λ r. ⌜ r
-        ≡ nextIn p buffers (now (issued .entry)) (now (waiting .entry)) (now (marks .entry))
-        (now (lengths .entry)) ⌝ }
+    ensures { λ r. ⌜ r ≡ nextIn p (record {
+      buffers = buffers;
+      issued = now (issued .entry);
+      waiting = now (waiting .entry);
+      marks = now (marks .entry);
+      lengths = now (lengths .entry);
+    }) ⌝ }
 {
     let mut ranks = [0u8; CANDIDATES];
     let issues = offer_issues(p, issued, waiting, marks, lengths, &mut ranks, 0);
-    let moves = offer_moves(
-        p.threads,
-        buffers,
-        waiting,
-        marks,
-        lengths,
-        &mut ranks,
-        issues,
-    );
-    let count = offer_persists(p.locations, lengths, &mut ranks, moves);
+    let moves = offer_moves(p, buffers, waiting, marks, lengths, &mut ranks, issues);
+    let count = offer_persists(checks::queues_of(p), lengths, &mut ranks, moves);
     Next {
         count: count,
         ranks: ranks,

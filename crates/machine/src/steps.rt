@@ -1,5 +1,6 @@
 // A step by its code, and a single step given with a case and a state in memory.
 use crate::cells::Entry;
+use crate::cells::Queue;
 use crate::cells::State;
 use crate::cells::Waiting;
 use crate::fit;
@@ -20,12 +21,13 @@ use cases::sizes::LOCATIONS;
 use cases::sizes::THREADS;
 ghost use mathlib.Core.Path.{_≡_};
 ghost use lib.ListN.{length};
-ghost use Rattle.cases.specs.Checks.{stepFault};
+ghost use Rattle.cases.specs.Checks.{limitsOf, stepFault};
 ghost use Rattle.machine.specs.Sizes.{allSlots};
 ghost use Rattle.machine.specs.Rules.{ruleIn, ruleOf, nextOf, startOf};
 ghost use Rattle.machine.specs.Fit.{Fits, ProgramFits, Shallow};
 ghost use Rattle.machine.specs.Offer.{Movable};
 ghost use Rattle.machine.specs.Judge.{rulingNo, steppedOf, stepOf, startedOf};
+ghost use Rattle.machine.specs.Ptso.{ptso};
 
 // What is said of a step: legal, a rule broken, or the input refused.
 pub enum Ruling {
@@ -84,24 +86,28 @@ pub(crate) fn rule<'a>(
     k: Step,
 ) -> u8
     requires { ⌜ ProgramFits p × Movable buffers (now waiting) × Shallow (now lengths)
-        × (length (now marks) ≡ allSlots) × (stepFault p k ≡ 0) ⌝ }
-    ensures { λ r. ⌜ r
-        ≡ ruleIn p buffers (now (issued .entry)) (now (waiting .entry)) (now (marks .entry))
-        (now (lengths .entry)) k ⌝ }
+        × (length (now marks) ≡ allSlots) × (stepFault (limitsOf p) k ≡ 0) ⌝ }
+    ensures { λ r. ⌜ r ≡ ruleIn p (record {
+      buffers = buffers;
+      issued = now (issued .entry);
+      waiting = now (waiting .entry);
+      marks = now (marks .entry);
+      lengths = now (lengths .entry);
+    }) k ⌝ }
 {
     let code = k.code;
     if code == ISSUE {
         return issue::issue_rule(p, issued, waiting, marks, lengths, k.thread);
     }
     if code == MOVE {
-        return moves::move_rule(buffers, waiting, marks, lengths, k.thread, k.position);
+        return moves::move_rule(p, buffers, waiting, marks, lengths, k.thread, k.position);
     }
-    moves::persist_rule(lengths, k.location)
+    moves::persist_rule(lengths, Queue(k.location.0))
 }
 
 // The state after a legal step. Not tested again: the walk takes millions of them.
 pub fn take_step(p: Program, s: State, k: Step) -> State
-    requires { ⌜ Fits p s × (stepFault p k ≡ 0) × (ruleOf p s k ≡ 0) ⌝ }
+    requires { ⌜ Fits p s × (stepFault (limitsOf p) k ≡ 0) × (ruleOf p s k ≡ 0) ⌝ }
     ensures { λ r. ⌜ r ≡ nextOf p s k ⌝ }
 {
     let code = k.code;
@@ -109,9 +115,9 @@ pub fn take_step(p: Program, s: State, k: Step) -> State
         return issue::issue(p, s, k.thread);
     }
     if code == MOVE {
-        return moves::move_entry(s, k.thread, k.position);
+        return moves::move_entry(p, s, k.thread, k.position);
     }
-    moves::persist(s, k.location)
+    moves::persist(s, Queue(k.location.0))
 }
 
 // Where a case's runs start: 32 first.
@@ -134,7 +140,7 @@ pub fn start(c: Case) -> Stepped
 // A step in a state that fits: 5 and 8, then the rules; the state goes back unchanged where it is refused.
 fn step_in(p: Program, s: State, k: Step) -> Stepped
     requires { ⌜ Fits p s ⌝ }
-    ensures { λ r. ⌜ r ≡ steppedOf p s k ⌝ }
+    ensures { λ r. ⌜ r ≡ steppedOf (ptso p) s k ⌝ }
 {
     let fault = checks::step_fault(p, k);
     if fault != 0 {

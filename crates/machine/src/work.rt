@@ -26,7 +26,8 @@ ghost use Rattle.cases.specs.Checks.{countAt};
 ghost use Rattle.machine.specs.View.{bufferIn, queueLen, issuedOf};
 ghost use Rattle.machine.specs.Fit.{sumTo, Fits};
 ghost use Rattle.machine.specs.Work.{unissuedWeight, waitingWeight, weighCode, weighBuffer, unissuedCode};
-ghost use Rattle.machine.specs.Work.{threadWork, work, weighedNo, weighedWork, workOf, fullOf};
+ghost use Rattle.machine.specs.Work.{threadWork, work};
+ghost use Rattle.machine.specs.Judge.{weighedNo, weighedWork, workOf, fullOf};
 
 // The work left, or the number of the refusal.
 pub enum Weighed {

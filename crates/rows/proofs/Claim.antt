@@ -7,7 +7,7 @@ use mathlib.Core.List.{List, [], _∷_, _++_, map}
 use lib.ListN.{length, drop}
 use Rattle.cases.specs.Seats.{stepsBytes}
 use Rattle.cases.proofs.Computing.{reading-computes, bytes-compute}
-use Rattle.machine.specs.Next.{Listed}
+use Rattle.machine.specs.Model.{Listed}
 use Rattle.machine.proofs.Computing.{work-computes, judging-computes}
 use Rattle.search.specs.declared.ask.Outcome.the-variants.{Reached, Undecided}
 use Rattle.search.specs.Question.{toldOf, questionOf, shownBy, shownOf}

@@ -9,10 +9,11 @@ use lib.ListN.{length}
 use Rattle.cases.specs.declared.case.Step.{Step}
 use Rattle.cases.specs.Reading.{numberOf, readOf}
 use Rattle.cases.specs.Sizes.{stepSize}
-use Rattle.machine.specs.Work.{fullLength}
-use Rattle.machine.specs.Next.{Listed}
+use Rattle.machine.specs.Model.{fullLength, Listed}
+use Rattle.machine.specs.Ptso.{ptso}
 use Rattle.search.specs.declared.ask.Outcome.{Outcome}
-use Rattle.search.specs.Question.{Decided, reached, unreachable, undecided, askOf, outcomeNo, toldOf}
+use Rattle.search.specs.Question.{reaches, Decided, reached, unreachable, undecided, askOf, outcomeNo}
+use Rattle.search.specs.Question.{toldOf}
 use Rattle.search.specs.Question.{questionOf, shownBy, shownOf}
 use Rattle.search.proofs.Promises.{question-reached, question-unreachable, question-undecided, shown-run}
 use Rattle.search.proofs.Promises.{only-reached-stores}
@@ -28,8 +29,8 @@ listed-same f g x (y ∷ ys) e (inl same) = rw same cc
 listed-same f g x (y ∷ ys) e (inr h) = let rest : map f ys ≡ map g ys = cc in listed-same f g x ys rest h
 
 module _ (s : List ℕ) (b : ℕ) (out : List ℕ) (read : numberOf (readOf s .answer) ≡ 0)
-    (room : stepSize * fullLength (readOf s .case .program) ≤ length out) where
-  pub asked-told : (d : Decided Step) → askOf (readOf s .case .program) (readOf s .case .ask) b ≡ d
+    (room : stepSize * fullLength (ptso (readOf s .case .program)) ≤ length out) where
+  pub asked-told : (d : Decided Step) → askOf (ptso (readOf s .case .program)) (reaches (readOf s .case .ask)) b ≡ d
       → questionOf s (length out) b ≡ toldOf d
   unfolding toldOf
   asked-told (reached run) e = question-reached s b out read room (length run) .1 (run, e, refl)
@@ -39,7 +40,7 @@ module _ (s : List ℕ) (b : ℕ) (out : List ℕ) (read : numberOf (readOf s .a
   untold : (o : Outcome) → outcomeNo o ≢ 100 → questionOf s (length out) b ≡ o → shownOf s b out ≡ out
   untold o other e = only-reached-stores s b out (λ h. other (ap outcomeNo (sym e) ∙ h))
 
-  pub asked-shown : (d : Decided Step) → askOf (readOf s .case .program) (readOf s .case .ask) b ≡ d
+  pub asked-shown : (d : Decided Step) → askOf (ptso (readOf s .case .program)) (reaches (readOf s .case .ask)) b ≡ d
       → shownOf s b out ≡ shownBy d out
   unfolding shownBy toldOf
   asked-shown (reached run) e = shown-run s b out read room run e
@@ -50,11 +51,11 @@ pub said-fact : (r : Row) → said r ≡ due r → Fact r
 unfolding said due Fact
 said-fact (asked rs full b d) e =
     let read : rowNumber rs ≡ 0 = cc in
-    let weighs : fullLength (rowProgram rs) ≡ full = cc in
-    let told : askOf (rowProgram rs) (rowAsk rs) b ≡ d = cc in (
+    let weighs : fullLength (ptso (rowProgram rs)) ≡ full = cc in
+    let told : askOf (ptso (rowProgram rs)) (reaches (rowAsk rs)) b ≡ d = cc in (
       weighs,
       (λ out room.
-          let enough : stepSize * fullLength (rowProgram rs) ≤ length out = rw weighs room in (
+          let enough : stepSize * fullLength (ptso (rowProgram rs)) ≤ length out = rw weighs room in (
             asked-told (bytesOf rs) b out read enough d told,
             asked-shown (bytesOf rs) b out read enough d told,
           )),

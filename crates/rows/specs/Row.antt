@@ -19,9 +19,10 @@ use Rattle.cases.specs.declared.record.Record.{Record}
 use Rattle.cases.specs.Reading.{numberOf, offsetOf, readOf}
 use Rattle.cases.specs.Sizes.{stepSize}
 use Rattle.machine.specs.declared.runs.Verdict.{Verdict}
-use Rattle.machine.specs.Work.{fullLength}
+use Rattle.machine.specs.Model.{fullLength}
+use Rattle.machine.specs.Ptso.{ptso}
 use Rattle.machine.specs.Judge.{judgeBytes}
-use Rattle.search.specs.Question.{Decided, askOf, toldOf, questionOf, shownBy, shownOf}
+use Rattle.search.specs.Question.{reaches, Decided, askOf, toldOf, questionOf, shownBy, shownOf}
 use Rattle.rows.specs.Words.{bytesOf}
 
 -- a question, a run judged, or bytes read
@@ -50,7 +51,7 @@ pub data Said : Type 0 where
 
 unfoldable pub said : Row → Said
 said (asked rs full b d) =
-    answers (rowNumber rs) (fullLength (rowProgram rs)) (askOf (rowProgram rs) (rowAsk rs) b)
+    answers (rowNumber rs) (fullLength (ptso (rowProgram rs))) (askOf (ptso (rowProgram rs)) (reaches (rowAsk rs)) b)
 said (ruled rs v) = rules (judgeBytes (bytesOf rs) .verdict)
 said (opened rs n at) = opens (rowNumber rs) (rowOffset rs)
 
@@ -62,7 +63,7 @@ due (opened rs n at) = opens n at
 -- of a question: whatever bytes are lent, if they are long enough, the answer and what they hold afterwards
 unfoldable pub Fact : Row → Type 0
 Fact (asked rs full b d) =
-    (fullLength (rowProgram rs) ≡ full)
+    (fullLength (ptso (rowProgram rs)) ≡ full)
     × ((out : List ℕ) → stepSize * full ≤ length out
     → (questionOf (bytesOf rs) (length out) b ≡ toldOf d) × (shownOf (bytesOf rs) b out ≡ shownBy d out))
 Fact (ruled rs v) = judgeBytes (bytesOf rs) .verdict ≡ v

@@ -11,7 +11,8 @@ use Rattle.cases.specs.declared.case.Step.{Step}
 use Rattle.cases.specs.declared.case.Program.{Program}
 use Rattle.cases.specs.declared.case.Ask.{Ask}
 use Rattle.cases.specs.declared.reader.Reading.{Reading}
-use Rattle.cases.specs.Sizes.{mostSteps, stepSize}
+use Rattle.cases.specs.Sizes.{stepSize}
+use Rattle.machine.specs.Sizes.{mostWork}
 use Rattle.cases.specs.Reading.{numberOf, offsetOf, readOf}
 use Rattle.cases.specs.Seats.{stepsBytes}
 use Rattle.cases.proofs.ChoiceLaws.{pick-true, pick-false}
@@ -20,19 +21,20 @@ use Rattle.cases.proofs.Promises.{steps-bytes-length}
 use Rattle.machine.specs.declared.cells.State.{State}
 use Rattle.machine.specs.Rules.{startOf}
 use Rattle.machine.specs.Fit.{ProgramFits, Fits}
-use Rattle.machine.specs.Work.{work, fullLength}
-use Rattle.machine.proofs.Promises.{start-fits, full-length-most, read-fits}
-use Rattle.machine.specs.Next.{Listed}
+use Rattle.machine.specs.Work.{work}
+use Rattle.machine.specs.Model.{Model, Lawful, fullLength, Listed}
+use Rattle.machine.specs.Ptso.{ptso}
+use Rattle.machine.proofs.Promises.{ptso-lawful, start-fits, full-length-most, read-fits}
 use Rattle.search.specs.declared.walk.Walked.{Walked}
 use Rattle.search.specs.declared.walk.Walked.the-variants.{Found, Finished, Stopped}
 use Rattle.search.specs.declared.ask.Outcome.{Outcome}
 use Rattle.search.specs.declared.ask.Outcome.the-variants.{Reached, Unreachable, Undecided, Refused}
-use Rattle.search.specs.Walk.{Visit, walkOf}
-use Rattle.search.specs.Question.{reaches, reached, FirstThat, walkFrom, askOf, toldOf, short, answerFor}
+use Rattle.search.specs.Walk.{Visit, walkOf, walkFrom}
+use Rattle.search.specs.Question.{reaches, reached, FirstThat, askOf, toldOf, short, answerFor}
 use Rattle.search.specs.Question.{questionOf, shownBy, shownFor, shownOf}
-use Rattle.search.specs.Seek.{Sought, hit, done, spent, seek, walkedOf, storedOf}
+use Rattle.search.specs.Seek.{Sought, hit, done, usedUp, seek, walkedOf, storedOf}
 use Rattle.machine.proofs.ListLaws.{listed-right}
-use Rattle.search.proofs.PtsoLaws.{walk-short}
+use Rattle.search.proofs.ModelLaws.{walk-short}
 use Rattle.search.proofs.SeekLaws.{comesTo, seek-decides}
 use Rattle.search.proofs.SeekLaws.{walked-found, walked-finished, walked-stopped}
 use Rattle.search.proofs.BudgetLaws.{reached-is}
@@ -49,59 +51,61 @@ module _ (p : Program) (fits : ProgramFits p) (s : State) (s-is : s ≡ startOf 
   pub begun-fits : Fits p s
   begun-fits = rw s-is (start-fits p fits)
 
-  pub begun-few : work p s ≤ mostSteps
+  pub begun-few : work p s ≤ mostWork
   unfolding fullLength
   begun-few = rw s-is (full-length-most p fits)
 
-module _ (p : Program) (fits : ProgramFits p) (a : Ask) (b : ℕ) where
-  -- a run that reaches is no longer than the full length
-  pub reached-short : (run : List Step) → askOf p a b ≡ reached run → length run ≤ fullLength p
-  unfolding askOf walkFrom fullLength
-  reached-short run e =
-      let r = reached-is (reaches a) b (walkOf p (startOf p)) run e in
-      let on = first-on (reaches a) (walkOf p (startOf p)) (r .0) (r .1) (r .2) in
-      let w = walk-short p (startOf p) (start-fits p fits) (r .1 .run) (r .1 .end) on in
-      let l = ap length (r .4) in
-      omega arith
+-- a run that reaches is no longer than the full length
+pub reached-short : {S K : Type 0} (m : Model S K) {Fit : S → Type 0} {rank : K → ℕ} → Lawful m Fit rank
+    → (test : S → Bool) (b : ℕ) (run : List K) → askOf m test b ≡ reached run
+    → length run ≤ fullLength m
+unfolding askOf walkFrom fullLength
+reached-short m laws test b run e =
+    let r = reached-is test b (walkOf m (m .start)) run e in
+    let on = first-on test (walkOf m (m .start)) (r .0) (r .1) (r .2) in
+    let w = walk-short m laws (m .start) (laws .starts) (r .1 .run) (r .1 .end) on in
+    let l = ap length (r .4) in
+    omega arith
 
-  sought-is : (x : Sought Step) → seek (reaches a) b (walkOf p (startOf p)) ≡ x → askOf p a b ≡ comesTo x
+module _ (p : Program) (fits : ProgramFits p) (a : Ask) (b : ℕ) where
+  sought-is : (x : Sought Step) → seek (reaches a) b (walkOf (ptso p) (startOf p)) ≡ x → askOf (ptso p) (reaches a) b ≡ comesTo x
   unfolding askOf walkFrom
-  sought-is x e = sym (seek-decides (reaches a) b (walkOf p (startOf p))) ∙ ap comesTo e
+  sought-is x e = sym (seek-decides (reaches a) b (walkOf (ptso p) (startOf p))) ∙ ap comesTo e
 
   -- as the code has them: s is the start, w its work
   module _ (s : State) (s-is : s ≡ startOf p) (w : ℕ) (w-is : w ≡ work p s) (out : List ℕ) where
-    full-is : fullLength p ≡ w
+    full-is : fullLength (ptso p) ≡ w
     unfolding fullLength
     full-is = sym (w-is ∙ ap (work p) s-is)
 
     -- the buffer is too short
     pub answer-short : length out < stepSize * w
-        → (Refused 31 0 ≡ answerFor p a (length out) b) × (out ≡ shownFor p a b out)
+        → (Refused 31 0 ≡ answerFor (ptso p) (reaches a) (length out) b) × (out ≡ shownFor (ptso p) (reaches a) b out)
     unfolding answerFor shownFor short
     answer-short h =
         let e = full-is in
-        let t = lt-ltb (length out) (stepSize * fullLength p) (omega arith) in
+        let t = lt-ltb (length out) (stepSize * fullLength (ptso p)) (omega arith) in
         (sym (pick-true _ _ _ t), sym (pick-true _ _ _ t))
 
     -- it is not: what the walk leaves
     module _ (h : stepSize * w ≤ length out) (r : Walked) (last : List ℕ)
-        (left : (r ≡ walkedOf 0 (seek (reaches a) b (walkOf p s)))
-        × (last ≡ storedOf 0 (seek (reaches a) b (walkOf p s)) out)) where
+        (left : (r ≡ walkedOf 0 (seek (reaches a) b (walkOf (ptso p) s)))
+        × (last ≡ storedOf 0 (seek (reaches a) b (walkOf (ptso p) s)) out)) where
       abbrev sought : Sought Step
-      sought = seek (reaches a) b (walkOf p s)
+      sought = seek (reaches a) b (walkOf (ptso p) s)
 
       abbrev Answers : Outcome → Type 0
-      Answers o = (o ≡ answerFor p a (length out) b) × (last ≡ shownFor p a b out)
+      Answers o = (o ≡ answerFor (ptso p) (reaches a) (length out) b) × (last ≡ shownFor (ptso p) (reaches a) b out)
 
-      answer-as : (o : Outcome) → o ≡ toldOf (askOf p a b) → last ≡ shownBy (askOf p a b) out → Answers o
+      answer-as : (o : Outcome) → o ≡ toldOf (askOf (ptso p) (reaches a) b) → last ≡ shownBy (askOf (ptso p) (reaches a) b) out → Answers o
       unfolding answerFor shownFor short
       answer-as o e f =
           let g = full-is in
-          let t = le-ltb (length out) (stepSize * fullLength p) (omega arith) in
+          let t = le-ltb (length out) (stepSize * fullLength (ptso p)) (omega arith) in
           (e ∙ sym (pick-false _ _ _ t), f ∙ sym (pick-false _ _ _ t))
 
-      asked : (x : Sought Step) → sought ≡ x → askOf p a b ≡ comesTo x
-      asked x e = sought-is x (ap (λ u. seek (reaches a) b (walkOf p u)) (sym s-is) ∙ e)
+      asked : (x : Sought Step) → sought ≡ x → askOf (ptso p) (reaches a) b ≡ comesTo x
+      asked x e = sought-is x (ap (λ u. seek (reaches a) b (walkOf (ptso p) u)) (sym s-is) ∙ e)
 
       stored : (x : Sought Step) → sought ≡ x → last ≡ storedOf 0 x out
       stored x e = left .1 ∙ ap (λ y. storedOf 0 y out) e
@@ -114,7 +118,7 @@ module _ (p : Program) (fits : ProgramFits p) (a : Ask) (b : ℕ) where
           let whole = w .2 in
           let same : n ≡ length run = omega arith in
           let ask = asked (hit run) (w .1) in
-          let few = reached-short run ask in
+          let few = reached-short (ptso p) (ptso-lawful p fits) (reaches a) b run ask in
           let long = steps-bytes-length run in
           let g = full-is in
           answer-as (Reached n) (ap Reached same ∙ ap toldOf (sym ask))
@@ -134,8 +138,8 @@ module _ (p : Program) (fits : ProgramFits p) (a : Ask) (b : ℕ) where
       unfolding storedOf toldOf shownBy
       answer-stopped e =
           let w = walked-stopped 0 sought (sym (left .0) ∙ e) in
-          let ask = asked spent w in
-          answer-as Undecided (ap toldOf (sym ask)) (stored spent w ∙ ap (λ d. shownBy d out) (sym ask))
+          let ask = asked usedUp w in
+          answer-as Undecided (ap toldOf (sym ask)) (stored usedUp w ∙ ap (λ d. shownBy d out) (sym ask))
 
 -- the bytes s read as r, with the number n: reading is refused, or gives a case
 module _ (s : List ℕ) (r : Reading) (r-is : r ≡ readOf s) (n : ℕ) (n-is : n ≡ numberOf (r .answer)) where
@@ -157,12 +161,12 @@ module _ (s : List ℕ) (r : Reading) (r-is : r ≡ readOf s) (n : ℕ) (n-is : 
     question-fits = rw r-is (read-fits s (sym number-is ∙ h))
 
     pub question-read : (b : ℕ) (out : List ℕ) (o : Outcome) (last : List ℕ)
-        → (o ≡ answerFor (r .case .program) (r .case .ask) (length out) b)
-        × (last ≡ shownFor (r .case .program) (r .case .ask) b out)
+        → (o ≡ answerFor (ptso (r .case .program)) (reaches (r .case .ask)) (length out) b)
+        × (last ≡ shownFor (ptso (r .case .program)) (reaches (r .case .ask)) b out)
         → (o ≡ questionOf s (length out) b) × (last ≡ shownOf s b out)
     unfolding questionOf shownOf
     question-read b out o last e =
         let t = eq-eqb (numberOf (readOf s .answer)) 0 (sym number-is ∙ h) in
-        let same = ap (λ (x : Reading). answerFor (x .case .program) (x .case .ask) (length out) b) r-is in
-        let shown = ap (λ (x : Reading). shownFor (x .case .program) (x .case .ask) b out) r-is in
+        let same = ap (λ (x : Reading). answerFor (ptso (x .case .program)) (reaches (x .case .ask)) (length out) b) r-is in
+        let shown = ap (λ (x : Reading). shownFor (ptso (x .case .program)) (reaches (x .case .ask)) b out) r-is in
         (e .0 ∙ same ∙ sym (pick-true _ _ _ t), e .1 ∙ shown ∙ sym (pick-true _ _ _ t))

@@ -9,7 +9,7 @@ use lib.Seq.{take-at, take-all, take-append-add}
 use lib.Dec.{leb}
 use borrow.Author.Tests.{leb-true, leb-false, le-leb, lt-leb}
 use native.Mathlib.Omega.{arith}
-use Rattle.machine.specs.Next.{Listed}
+use Rattle.machine.specs.Model.{Listed}
 use Rattle.search.specs.Walk.{Visit}
 use Rattle.search.specs.Question.{First, found, missing, firstOf, reached, unreachable, undecided}
 use Rattle.search.specs.Question.{decidedBy, decided, None, FirstThat}

@@ -2,10 +2,10 @@
 -- alone.
 pub mod Promises
 pub mod Computing
--- the walk over any machine: what it lists, in which order; the machine of document 01 is one
+-- the walk over any machine: what it lists, in which order; the walk of a model
 mod WalkLaws
 mod OrderLaws
-mod PtsoLaws
+mod ModelLaws
 -- the budget: how it is counted down, and what that comes to
 mod SeekLaws
 mod BudgetLaws

@@ -18,27 +18,30 @@ use Rattle.machine.specs.declared.cells.State.{State}
 use Rattle.machine.specs.declared.next.Next.{Next}
 use Rattle.machine.specs.Fit.{Fits}
 use Rattle.machine.specs.Work.{work}
-use Rattle.machine.specs.Next.{legalSteps, nextIn, nextSteps}
+use Rattle.machine.specs.Parts.{partsOf}
+use Rattle.machine.specs.Next.{nextIn, nextSteps}
+use Rattle.machine.specs.Model.{legalSteps}
+use Rattle.machine.specs.Ptso.{ptso}
 use Rattle.machine.specs.Sizes.{mostCandidates}
 use Rattle.machine.proofs.Promises.{next-steps-end, next-steps-few}
 use Rattle.search.specs.declared.walk.Walked.{Walked}
 use Rattle.search.specs.declared.walk.Walked.the-variants.{Found, Finished, Stopped}
-use Rattle.search.specs.Walk.{Visit, starting, walk, ptso, walkOf}
+use Rattle.search.specs.Walk.{Visit, starting, walk, thinned, machineOf, walkOf}
 use Rattle.search.specs.Question.{reachesIn, reaches}
-use Rattle.search.specs.Seek.{Sought, hit, done, spent, seek, walkedOf, storedOf}
+use Rattle.search.specs.Seek.{Sought, hit, done, usedUp, seek, walkedOf, storedOf}
 
 abbrev pub restOf : Program → State → List Step → List (Visit State Step)
-restOf p s ks = starting (ptso p) (walk (ptso p) (work p s)) s ks
+restOf p s ks = starting (machineOf (ptso p)) (walk (machineOf (ptso p)) (work p s)) s ks
 
 -- what the walk at a depth leaves, as the code has it: its answer and the lent bytes
 pub record Left (p : Program) (a : Ask) (s : State) (b depth : ℕ) (before : List ℕ) (r : Walked) (out : List ℕ)
     : Type 0 where
-  pub told : r ≡ walkedOf depth (seek (reaches a) b (walkOf p s))
-  pub stored : out ≡ storedOf depth (seek (reaches a) b (walkOf p s)) before
+  pub told : r ≡ walkedOf depth (seek (reaches a) b (walkOf (ptso p) s))
+  pub stored : out ≡ storedOf depth (seek (reaches a) b (walkOf (ptso p) s)) before
 
 module _ (p : Program) (a : Ask) (s : State) (b depth : ℕ) (out : List ℕ) where
   -- by what is sought
-  pub left-as : (x : Sought Step) → seek (reaches a) b (walkOf p s) ≡ x → (r : Walked) (last : List ℕ)
+  pub left-as : (x : Sought Step) → seek (reaches a) b (walkOf (ptso p) s) ≡ x → (r : Walked) (last : List ℕ)
       → r ≡ walkedOf depth x
       → last ≡ storedOf depth x out
       → Left p a s b depth out r last
@@ -49,9 +52,9 @@ module _ (p : Program) (a : Ask) (s : State) (b depth : ℕ) (out : List ℕ) wh
       }
 
   -- no budget is left; the state reaches
-  pub left-spent : b ≡ 0 → Left p a s b depth out Stopped out
+  pub left-used-up : b ≡ 0 → Left p a s b depth out Stopped out
   unfolding walkOf walk seek walkedOf storedOf
-  left-spent e = left-as spent (ap (λ c. seek (reaches a) c (walkOf p s)) e) Stopped out refl refl
+  left-used-up e = left-as usedUp (ap (λ c. seek (reaches a) c (walkOf (ptso p) s)) e) Stopped out refl refl
 
   pub left-here : b ≢ 0 → reachesIn (a .wanted) (a .want) (a .passed) (s .words) (s .issued) ≡ true
       → Left p a s b depth out (Found depth) out
@@ -59,7 +62,7 @@ module _ (p : Program) (a : Ask) (s : State) (b depth : ℕ) (out : List ℕ) wh
   left-here n t =
       left-as (hit []) (go b n) (Found depth) out (ap Found (omega arith)) refl
     where
-      go : (c : ℕ) → c ≢ 0 → seek (reaches a) c (walkOf p s) ≡ hit []
+      go : (c : ℕ) → c ≢ 0 → seek (reaches a) c (walkOf (ptso p) s) ≡ hit []
       go zero n = absurd (n refl)
       go (suc c) n = rw (t, seek)
 
@@ -71,18 +74,18 @@ pub record Walking (p : Program) (a : Ask) (s : State) (b : ℕ) (next : Next) (
   pub list : next ≡ nextSteps p s
   pub within : i ≤ next .count
   pub kept : out ≡ before
-  pub same : seek (reaches a) left (restOf p s (drop i (legalSteps p s))) ≡ seek (reaches a) b (walkOf p s)
+  pub same : seek (reaches a) left (restOf p s (drop i (legalSteps (ptso p) s))) ≡ seek (reaches a) b (walkOf (ptso p) s)
 
 pub walking-start : (p : Program) (a : Ask) (s : State) (b : ℕ) (next : Next) (out : List ℕ) → Fits p s → b ≢ 0
     → reachesIn (a .wanted) (a .want) (a .passed) (s .words) (s .issued) ≡ false
-    → next ≡ nextIn p (s .buffers) (s .issued) (s .waiting) (s .marks) (s .lengths)
+    → next ≡ nextIn p (partsOf s)
     → Walking p a s b next out out (b - 1) 0
-unfolding walkOf walk seek nextSteps ptso reaches
+unfolding walkOf walk seek nextSteps thinned reaches
 walking-start p a s b next out f n t e =
     record { fit = f; list = e; within = omega arith; kept = refl; same = go b n }
   where
     go : (c : ℕ) → c ≢ 0
-        → seek (reaches a) (c - 1) (restOf p s (legalSteps p s)) ≡ seek (reaches a) c (walkOf p s)
+        → seek (reaches a) (c - 1) (restOf p s (legalSteps (ptso p) s)) ≡ seek (reaches a) c (walkOf (ptso p) s)
     go zero n = absurd (n refl)
     go (suc c) n = let e : suc c - 1 ≡ c = omega arith in rw (e, t, seek)
 
@@ -98,6 +101,6 @@ module _ {p : Program} {a : Ask} {s : State} {b : ℕ} {next : Next} {before out
   walking-end depth h =
       let w = o .within in
       let e : i ≡ nextSteps p s .count = (omega arith) ∙ ap (λ (x : Next). x .count) (o .list) in
-      let none = ap (λ n. drop n (legalSteps p s)) e ∙ next-steps-end p s (o .fit) in
+      let none = ap (λ n. drop n (legalSteps (ptso p) s)) e ∙ next-steps-end p s (o .fit) in
       let all = sym (o .same) ∙ ap (λ ks. seek (reaches a) left (restOf p s ks)) none in
       left-as p a s b depth before (done left) all (Finished left) out refl (o .kept)

@@ -1,11 +1,11 @@
--- The walk over any lawful machine stands in the stated order, each run once. Assumes nothing.
+-- The walk over any machine that can be walked stands in the stated order, each run once. Assumes nothing.
 use Prim.Native.Nat.{ℕ, zero, suc}
 use mathlib.Core.Path.{_≡_, refl, sym, ap, subst, _∙_}
 use mathlib.Core.Logic.{_⊎_, inl, inr, _≢_}
 use mathlib.Core.List.{List, [], _∷_, _++_, map}
 use native.Mathlib.Omega.{arith}
-use Rattle.machine.specs.Next.{Listed, Ascending}
-use Rattle.search.specs.Walk.{Machine, Visit, under, starting, walk, Lawful}
+use Rattle.machine.specs.Model.{Listed, Ascending}
+use Rattle.search.specs.Walk.{Machine, Visit, under, starting, walk, Walkable}
 use Rattle.search.specs.Walk.{Before, InOrder}
 use Rattle.machine.proofs.ListLaws.{listed-right, listed-either}
 use Rattle.search.proofs.WalkLaws.{on-under, on-starting}
@@ -52,7 +52,7 @@ module _ {S K : Type 0} (rank : K → ℕ) where
         subst (λ z. Before rank (z .run) (w .run)) (sym (x .2))
         (subst (λ z. Before rank (k ∷ x .0 .run) (z .run)) (sym (y .4)) (inl (a .0 (y .0) (y .2)))))
 
-  pub walk-in-order : (m : Machine S K) {Fit : S → Type 0} {left : S → ℕ} → Lawful m Fit left rank
+  pub walk-in-order : (m : Machine S K) {Fit : S → Type 0} {left : S → ℕ} → Walkable m Fit left rank
       → (n : ℕ) (s : S) → Fit s → InOrder rank (walk m n s)
   unfolding walk InOrder Before
   walk-in-order m laws zero s f = tt

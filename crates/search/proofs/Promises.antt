@@ -2,11 +2,10 @@
 use Prim.Native.Nat.{ℕ, _+_, _*_, _<_, _≤_}
 use mathlib.Core.Path.{_≡_, ap, subst, _∙_}
 use mathlib.Core.Logic.{_≢_, _↔_}
-use mathlib.Core.Bool.{true, false}
+use mathlib.Core.Bool.{Bool, true, false}
 use mathlib.Core.List.{List, [], _∷_, _++_}
 use lib.ListN.{length, getD, take, drop}
 use Rattle.cases.specs.declared.case.Step.{Step}
-use Rattle.cases.specs.declared.case.Program.{Program}
 use Rattle.cases.specs.declared.case.Ask.{Ask}
 use Rattle.cases.specs.declared.case.Case.{Case}
 use Rattle.cases.specs.Sizes.{mostThreads, mostLocations, longest, stepSize}
@@ -18,18 +17,17 @@ use Rattle.cases.specs.Writing.{readsBack}
 use Rattle.machine.specs.declared.cells.State.{State}
 use Rattle.machine.specs.declared.runs.Verdict.the-variants.{Legal}
 use Rattle.machine.specs.View.{wordOf, issuedOf}
-use Rattle.machine.specs.Rules.{startOf}
-use Rattle.machine.specs.Fit.{ProgramFits}
-use Rattle.machine.specs.Work.{fullLength}
-use Rattle.machine.specs.Judge.{Leads, Faultless, judgeOf, judgeBytes}
-use Rattle.machine.specs.Next.{rankOf, Listed}
-use Rattle.machine.proofs.Promises.{start-fits}
+use Rattle.machine.specs.Model.{Model, Lawful, fullLength, Leads, Faultless, Listed}
+use Rattle.machine.specs.Judge.{judgeOf, judgeBytes}
+use Rattle.machine.specs.Ptso.{ptso}
 use Rattle.search.specs.declared.ask.Outcome.the-variants.{Reached, Unreachable, Undecided, Refused}
-use Rattle.search.specs.Walk.{Visit, here, InOrder}
-use Rattle.search.specs.Question.{reaches, reached, unreachable, undecided, None, FirstThat, walkFrom}
+use Rattle.search.specs.Walk.{Machine, Visit, here, walk, Runs, Walkable, InOrder, thinned, Thinned}
+use Rattle.search.specs.Walk.{walkFrom}
+use Rattle.search.specs.Question.{reaches, reached, unreachable, undecided, None, FirstThat}
 use Rattle.search.specs.Question.{askOf, outcomeNo, outcomePlace, toldOf, questionOf, shownOf}
 use Rattle.search.specs.Seek.{seek, walkedOf, walkedNo, walkedPlace, walkedRest}
-use Rattle.search.proofs.PtsoLaws as PtsoLaws
+use Rattle.search.proofs.WalkLaws as WalkLaws
+use Rattle.search.proofs.ModelLaws as ModelLaws
 use Rattle.search.proofs.OrderLaws as OrderLaws
 use Rattle.search.proofs.BudgetLaws as BudgetLaws
 use Rattle.search.proofs.WalkedLaws as WalkedLaws
@@ -37,43 +35,60 @@ use Rattle.search.proofs.ReachLaws as ReachLaws
 use Rattle.search.proofs.ShownLaws as ShownLaws
 use Rattle.search.proofs.QuestionLaws as QuestionLaws
 
--- The walk of a program that the machine can run
-module _ (p : Program) (fits : ProgramFits p) where
+-- Machines: only some of a model's legal steps next, or all
+module _ {S K : Type 0} (m : Model S K) {Fit : S → Type 0} {rank : K → ℕ} (laws : Lawful m Fit rank) where
+  -- with some of them next, in their order, it can be walked, and its runs are legal runs
+  pub thinned-walkable : (nexts : S → List K) → Thinned m nexts → Walkable (thinned m nexts) Fit (m .left) rank
+  thinned-walkable = ModelLaws.thinned-walkable m laws
+
+  pub thinned-leads : (nexts : S → List K) → Thinned m nexts
+      → (s : S) (ks : List K) (u : S) → Runs (thinned m nexts) s ks u
+      → Faultless m ks × Leads m s ks u
+  thinned-leads = ModelLaws.thinned-leads m laws
+
+-- Of a machine that can be walked: above the work left the walk is the same list, whatever depth it is given
+pub walk-enough : {S K : Type 0} (m : Machine S K) {Fit : S → Type 0} {left : S → ℕ} {rank : K → ℕ}
+    → Walkable m Fit left rank
+    → (n j : ℕ) (s : S) → Fit s → left s < n → left s < j
+    → walk m n s ≡ walk m j s
+walk-enough = WalkLaws.walk-enough
+
+-- The walk of a model that has its laws
+module _ {S K : Type 0} (m : Model S K) {Fit : S → Type 0} {rank : K → ℕ} (laws : Lawful m Fit rank) where
   -- "The walk lists all legal runs": exactly these, of steps that pass the checks 5 and 8, with their end
-  pub walk-exact : (ks : List Step) (u : State)
-      → Listed (record { run = ks; end = u }) (walkFrom p) ↔ (Faultless p ks × Leads p (startOf p) ks u)
+  pub walk-exact : (ks : List K) (u : S)
+      → Listed (record { run = ks; end = u }) (walkFrom m) ↔ (Faultless m ks × Leads m (m .start) ks u)
   unfolding walkFrom
   walk-exact ks u = (
-    PtsoLaws.walk-leads p (startOf p) (start-fits p fits) ks u,
-    (λ h. PtsoLaws.leads-walk p (startOf p) (start-fits p fits) ks u (h .0) (h .1)),
+    ModelLaws.walk-leads m laws (m .start) (laws .starts) ks u,
+    (λ h. ModelLaws.leads-walk m laws (m .start) (laws .starts) ks u (h .0) (h .1)),
   )
 
   -- "the empty run first; each run is followed by everything that starts with it, next steps in the order issue
   -- by thread, move by thread then position, persist by location": each run comes before all that stand behind
   -- it in the list, by that order
-  pub walk-in-order : InOrder rankOf (walkFrom p)
+  pub walk-in-order : InOrder rank (walkFrom m)
   unfolding walkFrom
-  walk-in-order = PtsoLaws.walk-ordered p (startOf p) (start-fits p fits)
+  walk-in-order = ModelLaws.walk-ordered m laws (m .start) (laws .starts)
 
   -- and no other list holds exactly these in that order
-  pub walk-only : (vs : List (Visit State Step)) → InOrder rankOf vs
-      → ((v : Visit State Step) → Listed v vs ↔ Listed v (walkFrom p))
-      → vs ≡ walkFrom p
-  walk-only vs o h =
-      OrderLaws.order-only rankOf vs (walkFrom p) o walk-in-order (λ v. h v .0) (λ v. h v .1)
+  pub walk-only : (vs : List (Visit S K)) → InOrder rank vs
+      → ((v : Visit S K) → Listed v vs ↔ Listed v (walkFrom m))
+      → vs ≡ walkFrom m
+  walk-only vs o h = OrderLaws.order-only rank vs (walkFrom m) o walk-in-order (λ v. h v .0) (λ v. h v .1)
 
-  pub walk-first : (rest : List (Visit State Step)) × (walkFrom p ≡ here (startOf p) ∷ rest)
-  walk-first = QuestionLaws.walk-first p
+  pub walk-first : (rest : List (Visit S K)) × (walkFrom m ≡ here (m .start) ∷ rest)
+  walk-first = QuestionLaws.walk-first m
 
   -- each once: of two parts of the list, the runs differ
-  pub walk-once : (xs ys : List (Visit State Step)) → walkFrom p ≡ xs ++ ys
-      → (v w : Visit State Step) → Listed v xs → Listed w ys → v .run ≢ w .run
-  walk-once xs ys e = OrderLaws.order-once rankOf xs ys (subst (InOrder rankOf) e walk-in-order)
+  pub walk-once : (xs ys : List (Visit S K)) → walkFrom m ≡ xs ++ ys
+      → (v w : Visit S K) → Listed v xs → Listed w ys → v .run ≢ w .run
+  walk-once xs ys e = OrderLaws.order-once rank xs ys (subst (InOrder rank) e walk-in-order)
 
   -- "It never goes deeper than the full length"
-  pub walk-deep : (ks : List Step) (u : State) → Listed (record { run = ks; end = u }) (walkFrom p)
-      → length ks ≤ fullLength p
-  walk-deep = QuestionLaws.walk-deep p fits
+  pub walk-deep : (ks : List K) (u : S) → Listed (record { run = ks; end = u }) (walkFrom m)
+      → length ks ≤ fullLength m
+  walk-deep = QuestionLaws.walk-deep m laws
 
 -- "A run reaches the question if the persistent words match every want and every passed count is met."
 pub reaches-exactly : (a : Ask) (s : State)
@@ -82,59 +97,58 @@ pub reaches-exactly : (a : Ask) (s : State)
     × ((t : ℕ) → t < mostThreads → getD (a .passed) t 0 ≤ issuedOf s t))
 reaches-exactly a s = (ReachLaws.reaches-is a s, (λ h. ReachLaws.is-reaches a s (h .0) (h .1)))
 
--- "A budget B covers the first B runs." What it decides, over a program and what is asked
-module _ (p : Program) (a : Ask) (b : ℕ) where
+-- "A budget B covers the first B runs." What it decides, over a model and a test of its states
+module _ {S K : Type 0} (m : Model S K) (test : S → Bool) (b : ℕ) where
   -- reached, with a run, exactly when that run is the walk's first that reaches, and stands among the first B
-  pub reached-exactly : (run : List Step)
-      → (askOf p a b ≡ reached run)
-      ↔ ((before : List (Visit State Step))
-      × (v : Visit State Step)
-      × FirstThat (reaches a) (walkFrom p) before v
+  pub reached-exactly : (run : List K)
+      → (askOf m test b ≡ reached run)
+      ↔ ((before : List (Visit S K))
+      × (v : Visit S K)
+      × FirstThat test (walkFrom m) before v
       × (length before < b)
       × (v .run ≡ run))
   unfolding askOf
   reached-exactly run = (
-    BudgetLaws.reached-is (reaches a) b (walkFrom p) run,
-    (λ h. BudgetLaws.is-reached (reaches a) b (walkFrom p) (h .0) (h .1) (h .2) (h .3) ∙ ap reached (h .4)),
+    BudgetLaws.reached-is test b (walkFrom m) run,
+    (λ h. BudgetLaws.is-reached test b (walkFrom m) (h .0) (h .1) (h .2) (h .3) ∙ ap reached (h .4)),
   )
 
   -- unreachable exactly when the budget covers the whole walk and no run reaches
-  pub unreachable-exactly :
-      (askOf p a b ≡ unreachable) ↔ ((length (walkFrom p) ≤ b) × None (reaches a) (walkFrom p))
+  pub unreachable-exactly : (askOf m test b ≡ unreachable) ↔ ((length (walkFrom m) ≤ b) × None test (walkFrom m))
   unfolding askOf
   unreachable-exactly = (
-    BudgetLaws.unreachable-is (reaches a) b (walkFrom p),
-    (λ h. BudgetLaws.is-unreachable (reaches a) b (walkFrom p) (h .0) (h .1)),
+    BudgetLaws.unreachable-is test b (walkFrom m),
+    (λ h. BudgetLaws.is-unreachable test b (walkFrom m) (h .0) (h .1)),
   )
 
   -- undecided exactly when it does not, and none of the runs that it covers reaches
   pub undecided-exactly :
-      (askOf p a b ≡ undecided) ↔ ((b < length (walkFrom p)) × None (reaches a) (take b (walkFrom p)))
+      (askOf m test b ≡ undecided) ↔ ((b < length (walkFrom m)) × None test (take b (walkFrom m)))
   unfolding askOf
   undecided-exactly = (
-    BudgetLaws.undecided-is (reaches a) b (walkFrom p),
-    (λ h. BudgetLaws.is-undecided (reaches a) b (walkFrom p) (h .0) (h .1)),
+    BudgetLaws.undecided-is test b (walkFrom m),
+    (λ h. BudgetLaws.is-undecided test b (walkFrom m) (h .0) (h .1)),
   )
 
 -- What the code's walk answers from the start
-module _ (p : Program) (a : Ask) (b : ℕ) where
+module _ {S : Type 0} (m : Model S Step) (test : S → Bool) (b : ℕ) where
   -- its number and its place are those that the question tells
   pub walked-told :
-      (walkedNo (walkedOf 0 (seek (reaches a) b (walkFrom p))) ≡ outcomeNo (toldOf (askOf p a b)))
-      × (walkedPlace (walkedOf 0 (seek (reaches a) b (walkFrom p))) ≡ outcomePlace (toldOf (askOf p a b)))
-  walked-told = WalkedLaws.walked-told p a b
+      (walkedNo (walkedOf 0 (seek test b (walkFrom m))) ≡ outcomeNo (toldOf (askOf m test b)))
+      × (walkedPlace (walkedOf 0 (seek test b (walkFrom m))) ≡ outcomePlace (toldOf (askOf m test b)))
+  walked-told = WalkedLaws.walked-told m test b
 
   -- where no run reaches and the budget covers the walk, it leaves what the walk's runs don't use up
-  pub walked-rest : None (reaches a) (walkFrom p) → length (walkFrom p) ≤ b
-      → walkedRest (walkedOf 0 (seek (reaches a) b (walkFrom p))) + length (walkFrom p) ≡ b
-  walked-rest = WalkedLaws.walked-rest p a b
+  pub walked-rest : None test (walkFrom m) → length (walkFrom m) ≤ b
+      → walkedRest (walkedOf 0 (seek test b (walkFrom m))) + length (walkFrom m) ≡ b
+  walked-rest = WalkedLaws.walked-rest m test b
 
 -- a budget of just the runs before the first that reaches decides nothing: one less than where that run stands
-pub one-less-undecided : (p : Program) (a : Ask) (before : List (Visit State Step)) (v : Visit State Step)
-    → FirstThat (reaches a) (walkFrom p) before v
-    → askOf p a (length before) ≡ undecided
+pub one-less-undecided : {S K : Type 0} (m : Model S K) (test : S → Bool) (before : List (Visit S K)) (v : Visit S K)
+    → FirstThat test (walkFrom m) before v
+    → askOf m test (length before) ≡ undecided
 unfolding askOf
-one-less-undecided p a before v = BudgetLaws.one-less (reaches a) (walkFrom p) before v
+one-less-undecided m test before v = BudgetLaws.one-less test (walkFrom m) before v
 
 -- What is answered for bytes, and what the lent bytes hold afterwards
 module _ (s : List ℕ) (b : ℕ) (out : List ℕ) where
@@ -145,32 +159,32 @@ module _ (s : List ℕ) (b : ℕ) (out : List ℕ) where
 
   module _ (read : numberOf (readOf s .answer) ≡ 0) where
     -- "then 31 (shorter than 8 bytes times the program's full length, below)"
-    pub question-short : length out < stepSize * fullLength (readOf s .case .program)
+    pub question-short : length out < stepSize * fullLength (ptso (readOf s .case .program))
         → questionOf s (length out) b ≡ Refused 31 0
     question-short = QuestionLaws.question-short s (length out) b read
 
     -- then 100, 101 or 102, by what the budget decides
-    module _ (room : stepSize * fullLength (readOf s .case .program) ≤ length out) where
+    module _ (room : stepSize * fullLength (ptso (readOf s .case .program)) ≤ length out) where
       pub question-reached : (n : ℕ)
           → (questionOf s (length out) b ≡ Reached n)
           ↔ ((run : List Step)
-          × (askOf (readOf s .case .program) (readOf s .case .ask) b ≡ reached run)
+          × (askOf (ptso (readOf s .case .program)) (reaches (readOf s .case .ask)) b ≡ reached run)
           × (n ≡ length run))
       question-reached = QuestionLaws.question-reached s (length out) b read room
 
       pub question-unreachable :
           (questionOf s (length out) b ≡ Unreachable)
-          ↔ (askOf (readOf s .case .program) (readOf s .case .ask) b ≡ unreachable)
+          ↔ (askOf (ptso (readOf s .case .program)) (reaches (readOf s .case .ask)) b ≡ unreachable)
       question-unreachable = QuestionLaws.question-unreachable s (length out) b read room
 
       pub question-undecided :
           (questionOf s (length out) b ≡ Undecided)
-          ↔ (askOf (readOf s .case .program) (readOf s .case .ask) b ≡ undecided)
+          ↔ (askOf (ptso (readOf s .case .program)) (reaches (readOf s .case .ask)) b ≡ undecided)
       question-undecided = QuestionLaws.question-undecided s (length out) b read room
 
       -- "the first such run, as kind 6 records in the lent buffer": from the front, and nothing behind is
       -- touched
-      pub shown-run : (run : List Step) → askOf (readOf s .case .program) (readOf s .case .ask) b ≡ reached run
+      pub shown-run : (run : List Step) → askOf (ptso (readOf s .case .program)) (reaches (readOf s .case .ask)) b ≡ reached run
           → shownOf s b out ≡ stepsBytes run ++ drop (stepSize * length run) out
       shown-run = QuestionLaws.shown-run s b out read room
 
@@ -191,7 +205,7 @@ steps-not-looked-at = QuestionLaws.steps-not-looked-at
 -- "with a run it would itself pass": put into the case as its steps, the run gets 103 from the judge, with a
 -- state that matches every want and meets every passed count
 module _ (c : Case) (readable : readsBack c ≡ true) (b : ℕ) (run : List Step)
-    (asked : askOf (c .program) (c .ask) b ≡ reached run) where
+    (asked : askOf (ptso (c .program)) (reaches (c .ask)) b ≡ reached run) where
   pub reached-readable : readsBack (withRun c (runWith run)) ≡ true
   reached-readable = ShownLaws.shown-readable c readable b run asked
 
@@ -204,8 +218,8 @@ module _ (c : Case) (readable : readsBack c ≡ true) (b : ℕ) (run : List Step
 -- the same of the bytes: those that are stored, behind the case's file without its steps, are a file that gets
 -- 103
 pub stored-passes : (s : List ℕ) → IsBytes s → numberOf (readOf s .answer) ≡ 0
-    → (b : ℕ) (out : List ℕ) → stepSize * fullLength (readOf s .case .program) ≤ length out
-    → (run : List Step) → askOf (readOf s .case .program) (readOf s .case .ask) b ≡ reached run
+    → (b : ℕ) (out : List ℕ) → stepSize * fullLength (ptso (readOf s .case .program)) ≤ length out
+    → (run : List Step) → askOf (ptso (readOf s .case .program)) (reaches (readOf s .case .ask)) b ≡ reached run
     → judgeBytes
     (encodeOf (withRun (readOf s .case) (runWith []))
     ++ take (stepSize * length run) (shownOf s b out)) .verdict

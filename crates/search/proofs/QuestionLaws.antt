@@ -8,35 +8,33 @@ use lib.Dec.{eqb}
 use borrow.Author.Tests.{lt-ltb, le-ltb, eq-eqb, ne-eqb, eqb-true}
 use native.Mathlib.Omega.{arith}
 use Rattle.cases.specs.declared.case.Step.{Step}
-use Rattle.cases.specs.declared.case.Program.{Program}
 use Rattle.cases.specs.Sizes.{longest, stepSize}
 use Rattle.cases.specs.Reading.{numberOf, offsetOf, readOf}
 use Rattle.cases.specs.Seats.{stepsBytes}
 use Rattle.cases.proofs.ChoiceLaws.{pick-true, pick-false, pick-cases, pick-pair}
 use Rattle.cases.proofs.Promises.{number-in-table, offset-low}
-use Rattle.machine.specs.declared.cells.State.{State}
-use Rattle.machine.specs.Rules.{startOf}
-use Rattle.machine.specs.Fit.{ProgramFits}
-use Rattle.machine.specs.Work.{fullLength}
-use Rattle.machine.proofs.Promises.{read-fits, start-fits, full-length-most}
-use Rattle.machine.specs.Next.{Listed}
+use Rattle.machine.specs.Model.{Model, Lawful, fullLength, Listed}
+use Rattle.machine.specs.Ptso.{ptso}
+use Rattle.machine.proofs.Promises.{read-fits, ptso-lawful, full-length-most}
 use Rattle.search.specs.declared.ask.Outcome.{Outcome}
 use Rattle.search.specs.declared.ask.Outcome.the-variants.{Reached, Unreachable, Undecided, Refused}
-use Rattle.search.specs.Walk.{Visit, here, walk, walkOf}
-use Rattle.search.specs.Question.{Decided, reached, unreachable, undecided, walkFrom, askOf}
+use Rattle.search.specs.Walk.{Visit, here, walk, walkOf, walkFrom}
+use Rattle.search.specs.Question.{Decided, reached, unreachable, undecided, reaches, askOf}
 use Rattle.search.specs.Question.{outcomeNo, outcomePlace, toldOf, short, answerFor, questionOf}
 use Rattle.search.specs.Question.{shownBy, shownFor, shownOf}
-use Rattle.search.proofs.PtsoLaws.{walk-short}
+use Rattle.search.proofs.ModelLaws.{walk-short}
 use Rattle.search.proofs.AskLaws.{reached-short}
 
-pub walk-first : (p : Program) → (rest : List (Visit State Step)) × (walkFrom p ≡ here (startOf p) ∷ rest)
+pub walk-first : {S K : Type 0} (m : Model S K) → (rest : List (Visit S K)) × (walkFrom m ≡ here (m .start) ∷ rest)
 unfolding walkFrom walkOf walk
-walk-first p = (_, refl)
+walk-first m = (_, refl)
 
-pub walk-deep : (p : Program) → ProgramFits p → (ks : List Step) (u : State)
-    → Listed (record { run = ks; end = u }) (walkFrom p) → length ks ≤ fullLength p
+pub walk-deep : {S K : Type 0} (m : Model S K) {Fit : S → Type 0} {rank : K → ℕ} → Lawful m Fit rank
+    → (ks : List K) (u : S)
+    → Listed (record { run = ks; end = u }) (walkFrom m)
+    → length ks ≤ fullLength m
 unfolding walkFrom fullLength
-walk-deep p fits ks u h = let e = walk-short p (startOf p) (start-fits p fits) ks u h in omega arith
+walk-deep m laws ks u h = let e = walk-short m laws (m .start) (laws .starts) ks u h in omega arith
 
 -- toldOf, back
 told-reached : (d : Decided Step) (n : ℕ) → toldOf d ≡ Reached n
@@ -65,20 +63,20 @@ module _ (s : List ℕ) (room b : ℕ) where
   question-unread h = pick-false _ _ _ (ne-eqb _ _ h)
 
   module _ (read : numberOf (readOf s .answer) ≡ 0) where
-    pub question-short : room < stepSize * fullLength (readOf s .case .program)
+    pub question-short : room < stepSize * fullLength (ptso (readOf s .case .program))
         → questionOf s room b ≡ Refused 31 0
     unfolding questionOf answerFor short
     question-short h = pick-true _ _ _ (eq-eqb _ _ read) ∙ pick-true _ _ _ (lt-ltb _ _ h)
 
-    module _ (h : stepSize * fullLength (readOf s .case .program) ≤ room) where
-      told : questionOf s room b ≡ toldOf (askOf (readOf s .case .program) (readOf s .case .ask) b)
+    module _ (h : stepSize * fullLength (ptso (readOf s .case .program)) ≤ room) where
+      told : questionOf s room b ≡ toldOf (askOf (ptso (readOf s .case .program)) (reaches (readOf s .case .ask)) b)
       unfolding questionOf answerFor short
       told = pick-true _ _ _ (eq-eqb _ _ read) ∙ pick-false _ _ _ (le-ltb _ _ h)
 
       pub question-reached : (n : ℕ)
           → (questionOf s room b ≡ Reached n)
           ↔ ((run : List Step)
-          × (askOf (readOf s .case .program) (readOf s .case .ask) b ≡ reached run)
+          × (askOf (ptso (readOf s .case .program)) (reaches (readOf s .case .ask)) b ≡ reached run)
           × (n ≡ length run))
       unfolding toldOf
       question-reached n = (
@@ -88,20 +86,20 @@ module _ (s : List ℕ) (room b : ℕ) where
 
       pub question-unreachable :
           (questionOf s room b ≡ Unreachable)
-          ↔ (askOf (readOf s .case .program) (readOf s .case .ask) b ≡ unreachable)
+          ↔ (askOf (ptso (readOf s .case .program)) (reaches (readOf s .case .ask)) b ≡ unreachable)
       unfolding toldOf
       question-unreachable = ((λ e. told-unreachable _ (sym told ∙ e)), (λ e. told ∙ ap toldOf e))
 
       pub question-undecided :
           (questionOf s room b ≡ Undecided)
-          ↔ (askOf (readOf s .case .program) (readOf s .case .ask) b ≡ undecided)
+          ↔ (askOf (ptso (readOf s .case .program)) (reaches (readOf s .case .ask)) b ≡ undecided)
       unfolding toldOf
       question-undecided = ((λ e. told-undecided _ (sym told ∙ e)), (λ e. told ∙ ap toldOf e))
 
 -- what is shown
 pub shown-run : (s : List ℕ) (b : ℕ) (out : List ℕ) → numberOf (readOf s .answer) ≡ 0
-    → stepSize * fullLength (readOf s .case .program) ≤ length out
-    → (run : List Step) → askOf (readOf s .case .program) (readOf s .case .ask) b ≡ reached run
+    → stepSize * fullLength (ptso (readOf s .case .program)) ≤ length out
+    → (run : List Step) → askOf (ptso (readOf s .case .program)) (reaches (readOf s .case .ask)) b ≡ reached run
     → shownOf s b out ≡ stepsBytes run ++ drop (stepSize * length run) out
 unfolding shownOf shownFor short shownBy
 shown-run s b out read h run e =
@@ -125,9 +123,9 @@ pub only-reached-stores : (s : List ℕ) (b : ℕ) (out : List ℕ)
 unfolding questionOf answerFor shownOf shownFor Stores
 only-reached-stores s b out =
     pick-pair (Stores out) (eqb (numberOf (readOf s .answer)) 0) _ _ _ _
-    (pick-pair (Stores out) (short (readOf s .case .program) (length out)) _ _ _ _
+    (pick-pair (Stores out) (short (ptso (readOf s .case .program)) (length out)) _ _ _ _
     (λ n. refl)
-    (told-stores out (askOf (readOf s .case .program) (readOf s .case .ask) b)))
+    (told-stores out (askOf (ptso (readOf s .case .program)) (reaches (readOf s .case .ask)) b)))
     (λ n. refl)
 
 pub steps-not-looked-at : (s t : List ℕ)
@@ -141,8 +139,8 @@ unfolding questionOf shownOf
 steps-not-looked-at s t g h p a b out =
     let x = eq-eqb (numberOf (readOf s .answer)) 0 g in
     let y = eq-eqb (numberOf (readOf t .answer)) 0 h in (
-      pick-true _ _ _ x ∙ (λ i. answerFor (p i) (a i) (length out) b) ∙ sym (pick-true _ _ _ y),
-      pick-true _ _ _ x ∙ (λ i. shownFor (p i) (a i) b out) ∙ sym (pick-true _ _ _ y),
+      pick-true _ _ _ x ∙ (λ i. answerFor (ptso (p i)) (reaches (a i)) (length out) b) ∙ sym (pick-true _ _ _ y),
+      pick-true _ _ _ x ∙ (λ i. shownFor (ptso (p i)) (reaches (a i)) b out) ∙ sym (pick-true _ _ _ y),
     )
 
 -- the number is below 256, and the place at most the longest file's length
@@ -162,10 +160,11 @@ question-low s room b =
     pick-cases Low (eqb (numberOf (readOf s .answer)) 0) _ _
     (λ h.
     let fits = read-fits s (eqb-true _ _ h) in
-    pick-cases Low (short (readOf s .case .program) room) _ _
+    pick-cases Low (short (ptso (readOf s .case .program)) room) _ _
     (λ k. (omega arith, omega arith))
     (λ k. told-low _ (λ run e.
-    let a = reached-short (readOf s .case .program) fits (readOf s .case .ask) b run e in
+    let a = reached-short (ptso (readOf s .case .program)) (ptso-lawful (readOf s .case .program) fits)
+    (reaches (readOf s .case .ask)) b run e in
     let f = full-length-most (readOf s .case .program) fits in
     omega arith)))
     (λ h. (omega (arith, number-in-table s), offset-low s))

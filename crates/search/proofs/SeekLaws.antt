@@ -12,18 +12,18 @@ use Rattle.search.specs.declared.walk.Walked.the-variants.{Found, Finish
 use Rattle.search.specs.Walk.{Visit, under}
 use Rattle.search.specs.Question.{First, found, firstOf, Decided, reached, unreachable, undecided}
 use Rattle.search.specs.Question.{decidedBy, decided}
-use Rattle.search.specs.Seek.{Sought, hit, done, spent, seek, walkedOf}
+use Rattle.search.specs.Seek.{Sought, hit, done, usedUp, seek, walkedOf}
 
 -- where none passed, on with what is left of the budget; the step k before a run that passed
 abbrev pub onward : {K : Type 0} → Sought K → (ℕ → Sought K) → Sought K
 onward (hit run) f = hit run
 onward (done b) f = f b
-onward spent f = spent
+onward usedUp f = usedUp
 
 abbrev pub behindStep : {K : Type 0} → K → Sought K → Sought K
 behindStep k (hit run) = hit (k ∷ run)
 behindStep k (done b) = done b
-behindStep k spent = spent
+behindStep k usedUp = usedUp
 
 module _ {S K : Type 0} (test : S → Bool) where
   pub seek-append : (b : ℕ) (xs ys : List (Visit S K))
@@ -57,7 +57,7 @@ module _ {S K : Type 0} (test : S → Bool) where
 abbrev pub comesTo : {K : Type 0} → Sought K → Decided K
 comesTo (hit run) = reached run
 comesTo (done b) = unreachable
-comesTo spent = undecided
+comesTo usedUp = undecided
 
 pub seek-decides : {S K : Type 0} (test : S → Bool) (b : ℕ) (vs : List (Visit S K))
     → comesTo (seek test b vs) ≡ decided test b vs
@@ -83,16 +83,16 @@ module _ (depth : ℕ) where
   unfolding walkedOf
   walked-found (hit run) n e = let same : depth + length run ≡ n = cc in (run, refl, sym same)
   walked-found (done b) n e = absurd (let z : _≡_ {A = ℕ} 0 1 = cc in omega arith)
-  walked-found spent n e = absurd (let z : _≡_ {A = ℕ} 0 1 = cc in omega arith)
+  walked-found usedUp n e = absurd (let z : _≡_ {A = ℕ} 0 1 = cc in omega arith)
 
   pub walked-finished : (x : Sought Step) (m : ℕ) → walkedOf depth x ≡ Finished m → x ≡ done m
   unfolding walkedOf
   walked-finished (hit run) m e = absurd (let z : _≡_ {A = ℕ} 0 1 = cc in omega arith)
   walked-finished (done b) m e = let same : b ≡ m = cc in ap done same
-  walked-finished spent m e = absurd (let z : _≡_ {A = ℕ} 0 1 = cc in omega arith)
+  walked-finished usedUp m e = absurd (let z : _≡_ {A = ℕ} 0 1 = cc in omega arith)
 
-  pub walked-stopped : (x : Sought Step) → walkedOf depth x ≡ Stopped → x ≡ spent
+  pub walked-stopped : (x : Sought Step) → walkedOf depth x ≡ Stopped → x ≡ usedUp
   unfolding walkedOf
   walked-stopped (hit run) e = absurd (let z : _≡_ {A = ℕ} 0 1 = cc in omega arith)
   walked-stopped (done b) e = absurd (let z : _≡_ {A = ℕ} 0 1 = cc in omega arith)
-  walked-stopped spent e = refl
+  walked-stopped usedUp e = refl

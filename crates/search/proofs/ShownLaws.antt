@@ -21,46 +21,49 @@ use Rattle.machine.specs.declared.cells.State.{State}
 use Rattle.machine.specs.declared.runs.Verdict.the-variants.{Legal}
 use Rattle.machine.specs.declared.runs.Judged.{Judged}
 use Rattle.machine.specs.Rules.{startOf}
-use Rattle.machine.specs.Work.{fullLength}
-use Rattle.machine.specs.Judge.{Leads, Faultless, judged, judgeOf, judgeBytes}
-use Rattle.machine.proofs.Promises.{program-fits, start-fits, full-length-most, judge-read, rerun-reads}
+use Rattle.machine.specs.Model.{fullLength, Leads, Faultless}
+use Rattle.machine.specs.Judge.{judged, judgeOf, judgeBytes}
+use Rattle.machine.specs.Ptso.{ptso}
+use Rattle.machine.proofs.Promises.{program-fits, ptso-lawful, start-fits, full-length-most, judge-read, rerun-reads}
 use Rattle.machine.proofs.Promises.{rerun-passes}
-use Rattle.search.specs.Walk.{walkOf}
-use Rattle.search.specs.Question.{reaches, reached, walkFrom, askOf, shownOf}
-use Rattle.search.proofs.PtsoLaws.{walk-leads}
+use Rattle.search.specs.Walk.{walkOf, walkFrom}
+use Rattle.search.specs.Question.{reaches, reached, askOf, shownOf}
+use Rattle.search.proofs.ModelLaws.{walk-leads}
 use Rattle.search.proofs.BudgetLaws.{reached-is}
 use Rattle.search.proofs.AskLaws.{first-on, reached-short}
 use Rattle.search.proofs.QuestionLaws as QuestionLaws
 
 -- where the run leads
 pub reached-leads : (c : Case) → readsBack c ≡ true → (b : ℕ) (run : List Step)
-    → askOf (c .program) (c .ask) b ≡ reached run
+    → askOf (ptso (c .program)) (reaches (c .ask)) b ≡ reached run
     → (u : State)
-    × Faultless (c .program) run
-    × Leads (c .program) (startOf (c .program)) run u
+    × Faultless (ptso (c .program)) run
+    × Leads (ptso (c .program)) (startOf (c .program)) run u
     × (reaches (c .ask) u ≡ true)
 unfolding askOf walkFrom
 reached-leads c h b run q =
     let fits = start-fits (c .program) (program-fits c h) in
-    let r = reached-is (reaches (c .ask)) b (walkOf (c .program) (startOf (c .program))) run q in
+    let r = reached-is (reaches (c .ask)) b (walkOf (ptso (c .program)) (startOf (c .program))) run q in
     let v = r .1 in
-    let on = first-on (reaches (c .ask)) (walkOf (c .program) (startOf (c .program))) (r .0) v (r .2) in
-    let l = walk-leads (c .program) (startOf (c .program)) fits (v .run) (v .end) on in (
+    let on = first-on (reaches (c .ask)) (walkOf (ptso (c .program)) (startOf (c .program))) (r .0) v (r .2) in
+    let l = walk-leads (ptso (c .program)) (ptso-lawful (c .program) (program-fits c h)) (startOf (c .program)) fits
+    (v .run) (v .end) on in (
       v .end,
-      subst (Faultless (c .program)) (r .4) (l .0),
-      subst (λ ks. Leads (c .program) (startOf (c .program)) ks (v .end)) (r .4) (l .1),
+      subst (Faultless (ptso (c .program))) (r .4) (l .0),
+      subst (λ ks. Leads (ptso (c .program)) (startOf (c .program)) ks (v .end)) (r .4) (l .1),
       r .2 .passes,
     )
 
 -- a case that passes the test for 32, and a run that the question shows of it
 module _ (c : Case) (h : readsBack c ≡ true) (b : ℕ) (run : List Step)
-    (q : askOf (c .program) (c .ask) b ≡ reached run) where
+    (q : askOf (ptso (c .program)) (reaches (c .ask)) b ≡ reached run) where
   abbrev shown : Case
   shown = withRun c (runWith run)
 
   few : length run ≤ mostSteps
   few =
-      let a = reached-short (c .program) (program-fits c h) (c .ask) b run q in
+      let laws = ptso-lawful (c .program) (program-fits c h) in
+      let a = reached-short (ptso (c .program)) laws (reaches (c .ask)) b run q in
       let f = full-length-most (c .program) (program-fits c h) in
       omega arith
 
@@ -82,8 +85,8 @@ module _ (c : Case) (h : readsBack c ≡ true) (b : ℕ) (run : List Step)
 -- Bytes that read, and the bytes that the question stores for them: behind the file without its steps they are
 -- a file that the judge passes
 module _ (s : List ℕ) (bytes : IsBytes s) (read : numberOf (readOf s .answer) ≡ 0) (b : ℕ) (out : List ℕ)
-    (room : stepSize * fullLength (readOf s .case .program) ≤ length out) (run : List Step)
-    (q : askOf (readOf s .case .program) (readOf s .case .ask) b ≡ reached run) where
+    (room : stepSize * fullLength (ptso (readOf s .case .program)) ≤ length out) (run : List Step)
+    (q : askOf (ptso (readOf s .case .program)) (reaches (readOf s .case .ask)) b ≡ reached run) where
   abbrev case : Case
   case = readOf s .case
 

@@ -14,7 +14,7 @@ use Rattle.cases.specs.Record.{payloadOf, payloadBytes, recordBytes}
 use Rattle.cases.specs.Seats.{stepsBytes}
 use Rattle.cases.proofs.ArrayLaws.{sets-append}
 use Rattle.cases.specs.Sizes.{stepSize}
-use Rattle.search.specs.Seek.{Sought, hit, done, spent, storedOf}
+use Rattle.search.specs.Seek.{Sought, hit, done, usedUp, storedOf}
 
 -- a byte before bytes that were put; bytes before them
 set-sets : (d : List ℕ) (i x n : ℕ) (bs : List ℕ) → i < n → set (sets d n bs) i x ≡ sets (set d i x) n bs
@@ -73,4 +73,4 @@ pub length-stored : (depth : ℕ) (x : Sought Step) (out : List ℕ) → length 
 unfolding storedOf
 length-stored depth (hit run) out = length-sets out (stepSize * depth) (stepsBytes run)
 length-stored depth (done b) out = refl
-length-stored depth spent out = refl
+length-stored depth usedUp out = refl

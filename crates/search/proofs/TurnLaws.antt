@@ -10,7 +10,7 @@ use Rattle.cases.specs.declared.case.Step.{Step}
 use Rattle.cases.specs.declared.case.Program.{Program}
 use Rattle.cases.specs.declared.case.Ask.{Ask}
 use Rattle.cases.specs.declared.record.Record.the-variants.{Take}
-use Rattle.cases.specs.Checks.{stepFault}
+use Rattle.cases.specs.Checks.{limitsOf, stepFault}
 use Rattle.cases.specs.Record.{recordBytes}
 use Rattle.cases.specs.Seats.{stepsBytes}
 use Rattle.cases.specs.Sizes.{stepSize}
@@ -19,71 +19,78 @@ use Rattle.machine.specs.declared.next.Next.{Next}
 use Rattle.machine.specs.Rules.{ruleOf, nextOf}
 use Rattle.machine.specs.Fit.{Fits}
 use Rattle.machine.specs.Work.{work}
-use Rattle.machine.specs.Next.{legalSteps, stepAt, Listed}
-use Rattle.machine.proofs.Promises.{step-fits, step-work, next-legal, next-step-here}
+use Rattle.machine.specs.Next.{stepAt}
+use Rattle.machine.specs.Model.{legalSteps, Listed}
+use Rattle.machine.specs.Ptso.{ptso}
+use Rattle.machine.proofs.Promises.{step-fits, step-lowers, ptso-lawful, next-legal, next-step-here}
 use Rattle.search.specs.declared.walk.Walked.{Walked}
 use Rattle.search.specs.declared.walk.Walked.the-variants.{Found, Finished, Stopped}
-use Rattle.search.specs.Walk.{under, starting, walk, ptso, walkOf}
+use Rattle.search.specs.Walk.{under, starting, walk, thinned, machineOf, walkOf}
 use Rattle.search.specs.Question.{reaches}
-use Rattle.search.specs.Seek.{Sought, hit, spent, seek, walkedOf, storedOf}
+use Rattle.search.specs.Seek.{Sought, hit, usedUp, seek, walkedOf, storedOf}
 use Rattle.machine.proofs.ListLaws.{listed-drop}
 use Rattle.search.proofs.SeekLaws.{onward, behindStep, seek-append, seek-under, walked-found}
 use Rattle.search.proofs.SeekLaws.{walked-finished, walked-stopped}
 use Rattle.search.proofs.StoreLaws.{step-before, length-stored}
+use Rattle.search.proofs.WalkLaws.{walk-enough}
+use Rattle.search.proofs.ModelLaws.{walkable}
 use Rattle.search.proofs.LoopLaws.{restOf, Left, left-as, Walking}
 
 module _ {p : Program} {a : Ask} {s : State} {b : ℕ} {next : Next} {before out : List ℕ} {left i : ℕ}
     (o : Walking p a s b next before out left i) where
   -- a turn: k is the step of the rank at position i, and z the state behind it
   module _ (h : i < next .count) (k : Step) (k-is : k ≡ stepAt (getD (next .ranks) i 0)) where
-    front : drop i (legalSteps p s) ≡ k ∷ drop (i + 1) (legalSteps p s)
+    front : drop i (legalSteps (ptso p) s) ≡ k ∷ drop (i + 1) (legalSteps (ptso p) s)
     front =
         let e = ap (λ (x : Next). x .count) (o .list) in
         let f = ap (λ (x : Next). stepAt (getD (x .ranks) i 0)) (o .list) in
         next-step-here p s (o .fit) i (omega arith)
-        ∙ ap (λ j. j ∷ drop (i + 1) (legalSteps p s)) (sym (k-is ∙ f))
+        ∙ ap (λ j. j ∷ drop (i + 1) (legalSteps (ptso p) s)) (sym (k-is ∙ f))
 
-    legal : Listed k (legalSteps p s)
+    legal : Listed k (legalSteps (ptso p) s)
     unfolding Listed
-    legal = listed-drop k i (legalSteps p s) (subst (Listed k) (sym front) (inl refl))
+    legal = listed-drop k i (legalSteps (ptso p) s) (subst (Listed k) (sym front) (inl refl))
 
     -- it is legal, so that the state behind it fits and has less work left
-    pub turn-legal : (stepFault p k ≡ 0) × (ruleOf p s k ≡ 0)
-    turn-legal = next-legal p s (o .fit) k .0 legal
+    pub turn-legal : (stepFault (limitsOf p) k ≡ 0) × (ruleOf p s k ≡ 0)
+    turn-legal = next-legal (ptso p) (ptso-lawful p (o .fit .program)) s k .0 legal
 
     module _ (z : State) (z-is : z ≡ nextOf p s k) where
       pub turn-fits : Fits p z
       turn-fits = rw z-is (step-fits p s (o .fit) k (turn-legal .0) (turn-legal .1))
 
-      pub turn-work : work p z + 1 ≡ work p s
-      turn-work = rw z-is (step-work p s (o .fit) k (turn-legal .0) (turn-legal .1))
+      pub turn-work : work p z < work p s
+      turn-work =
+          rw z-is (step-lowers (ptso p) (ptso-lawful p (o .fit .program)) s (o .fit) k (turn-legal .0)
+          (turn-legal .1))
 
       -- what the walk below z finds decides, or the walk goes on with what is left of the budget
-      turn-seek : seek (reaches a) b (walkOf p s)
-          ≡ onward (behindStep k (seek (reaches a) left (walkOf p z)))
-          (λ n. seek (reaches a) n (restOf p s (drop (i + 1) (legalSteps p s))))
-      unfolding starting walkOf ptso
+      turn-seek : seek (reaches a) b (walkOf (ptso p) s)
+          ≡ onward (behindStep k (seek (reaches a) left (walkOf (ptso p) z)))
+          (λ n. seek (reaches a) n (restOf p s (drop (i + 1) (legalSteps (ptso p) s))))
+      unfolding starting walkOf thinned
       turn-seek =
-          let w : work p s ≡ suc (work p z) = (let e = turn-work in omega arith) in
-          let below = ap (λ n. walk (ptso p) n (nextOf p s k)) w
-          ∙ ap (λ x. walk (ptso p) (suc (work p z)) x) (sym z-is) in
+          let fell = turn-work in
+          let below = ap (walk (machineOf (ptso p)) (work p s)) (sym z-is)
+          ∙ walk-enough (machineOf (ptso p)) (walkable (ptso p) (ptso-lawful p (o .fit .program))) (work p s)
+          (suc (work p z)) z turn-fits fell (omega arith) in
           sym (o .same)
           ∙ ap (λ ks. seek (reaches a) left (restOf p s ks)) front
-          ∙ seek-append (reaches a) left (map (under k) (walk (ptso p) (work p s) (nextOf p s k)))
-          (restOf p s (drop (i + 1) (legalSteps p s)))
-          ∙ ap (λ x. onward x (λ n. seek (reaches a) n (restOf p s (drop (i + 1) (legalSteps p s)))))
-          (seek-under (reaches a) left k (walk (ptso p) (work p s) (nextOf p s k))
+          ∙ seek-append (reaches a) left (map (under k) (walk (machineOf (ptso p)) (work p s) (nextOf p s k)))
+          (restOf p s (drop (i + 1) (legalSteps (ptso p) s)))
+          ∙ ap (λ x. onward x (λ n. seek (reaches a) n (restOf p s (drop (i + 1) (legalSteps (ptso p) s)))))
+          (seek-under (reaches a) left k (walk (machineOf (ptso p)) (work p s) (nextOf p s k))
           ∙ ap (λ vs. behindStep k (seek (reaches a) left vs)) below)
 
       module _ (depth : ℕ) (r : Walked) (last : List ℕ)
-          (below : (r ≡ walkedOf (depth + 1) (seek (reaches a) left (walkOf p z)))
-          × (last ≡ storedOf (depth + 1) (seek (reaches a) left (walkOf p z)) out)) where
+          (below : (r ≡ walkedOf (depth + 1) (seek (reaches a) left (walkOf (ptso p) z)))
+          × (last ≡ storedOf (depth + 1) (seek (reaches a) left (walkOf (ptso p) z)) out)) where
         abbrev sought : Sought Step
-        sought = seek (reaches a) left (walkOf p z)
+        sought = seek (reaches a) left (walkOf (ptso p) z)
 
         on-from : Sought Step → Sought Step
         on-from x =
-            onward (behindStep k x) (λ n. seek (reaches a) n (restOf p s (drop (i + 1) (legalSteps p s))))
+            onward (behindStep k x) (λ n. seek (reaches a) n (restOf p s (drop (i + 1) (legalSteps (ptso p) s))))
 
         -- the lent bytes are as many as before, so that there is room for the step's record
         pub turn-length : length last ≡ length out
@@ -119,7 +126,7 @@ module _ {p : Program} {a : Ask} {s : State} {b : ℕ} {next : Next} {before out
         unfolding walkedOf storedOf on-from
         turn-stopped e =
             let w = walked-stopped (depth + 1) sought (sym (below .0) ∙ e) in
-            left-as p a s b depth before spent (turn-seek ∙ ap on-from w) Stopped last refl
+            left-as p a s b depth before usedUp (turn-seek ∙ ap on-from w) Stopped last refl
             (below .1 ∙ ap (λ y. storedOf (depth + 1) y out) w ∙ o .kept)
 
         -- none was found below: the loop goes on with what is left of the budget

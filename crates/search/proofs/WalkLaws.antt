@@ -1,13 +1,13 @@
--- The walk over any machine lists exactly the runs of its next steps, of fewer steps than it counts down from.
--- Assumes nothing.
-use Prim.Native.Nat.{ℕ, zero, suc, _+_, _<_}
+-- The walk over any machine lists exactly the runs of its next steps, of fewer steps than it counts down from;
+-- from above the work left on it is one list. Assumes nothing.
+use Prim.Native.Nat.{ℕ, zero, suc, _+_, _<_, _≤_}
 use mathlib.Core.Path.{_≡_, refl, sym, ap, subst}
 use mathlib.Core.Logic.{_⊎_, inl, inr}
 use mathlib.Core.List.{List, [], _∷_, _++_, map}
 use lib.ListN.{length}
 use native.Mathlib.Omega.{arith}
-use Rattle.machine.specs.Next.{Listed}
-use Rattle.search.specs.Walk.{Machine, Visit, here, under, starting, walk, Runs, Lawful}
+use Rattle.machine.specs.Model.{Listed}
+use Rattle.search.specs.Walk.{Machine, Visit, here, under, starting, walk, Runs, Walkable}
 use Rattle.machine.proofs.ListLaws.{listed-left, listed-right, listed-either}
 
 module _ {S K : Type 0} where
@@ -77,17 +77,40 @@ module _ {S K : Type 0} (m : Machine S K) where
       inr (starting-on (walk m n) s k _ (m .nexts s) (r .0)
       (runs-walk n (m .after s k) ks u (r .1) (omega arith)))
 
-  -- of a lawful machine: a run stays among the states that fit, and uses up its length of the work
-  module _ {Fit : S → Type 0} {left : S → ℕ} {rank : K → ℕ} (laws : Lawful m Fit left rank) where
+  -- what starts with one of some steps depends on what follows those alone
+  starting-same : (f g : S → List (Visit S K)) (s : S) (ks : List K)
+      → ((k : K) → Listed k ks → f (m .after s k) ≡ g (m .after s k))
+      → starting m f s ks ≡ starting m g s ks
+  unfolding starting Listed
+  starting-same f g s [] h = refl
+  starting-same f g s (k ∷ ks) h =
+      let here = h k (inl refl) in
+      let rest = starting-same f g s ks (λ j l. h j (inr l)) in
+      λ i. map (under k) (here i) ++ rest i
+
+  -- of a machine that can be walked: a run stays among the states that fit, and has no more steps than it uses up
+  -- of the work
+  module _ {Fit : S → Type 0} {left : S → ℕ} {rank : K → ℕ} (laws : Walkable m Fit left rank) where
     pub runs-fit : (s : S) (ks : List K) (u : S) → Fit s → Runs m s ks u → Fit u
     unfolding Runs
     runs-fit s [] u f r = subst Fit r f
     runs-fit s (k ∷ ks) u f r = runs-fit (m .after s k) ks u (laws .keeps s f k (r .0)) (r .1)
 
-    pub runs-work : (s : S) (ks : List K) (u : S) → Fit s → Runs m s ks u → left u + length ks ≡ left s
+    pub runs-work : (s : S) (ks : List K) (u : S) → Fit s → Runs m s ks u → left u + length ks ≤ left s
     unfolding Runs
     runs-work s [] u f r = let e = ap left r in omega arith
     runs-work s (k ∷ ks) u f r =
         let a = runs-work (m .after s k) ks u (laws .keeps s f k (r .0)) (r .1) in
         let b = laws .lowers s f k (r .0) in
         omega arith
+
+    -- "It never goes deeper than the full length, a number that falls at each step down": above the work left the
+    -- walk is the same list, whatever depth it is given
+    pub walk-enough : (n j : ℕ) (s : S) → Fit s → left s < n → left s < j → walk m n s ≡ walk m j s
+    unfolding walk
+    walk-enough zero j s f a b = absurd (omega arith)
+    walk-enough (suc n) zero s f a b = absurd (omega arith)
+    walk-enough (suc n) (suc j) s f a b =
+        ap (λ vs. here s ∷ vs) (starting-same (walk m n) (walk m j) s (m .nexts s)
+        (λ k h. let less = laws .lowers s f k h in
+        walk-enough n j (m .after s k) (laws .keeps s f k h) (omega arith) (omega arith)))

@@ -8,12 +8,10 @@ use mathlib.Core.List.{List, [], _∷_}
 use native.Mathlib.Omega.{arith}
 use lib.ListN.{length}
 use Rattle.cases.specs.declared.case.Step.{Step}
-use Rattle.cases.specs.declared.case.Program.{Program}
-use Rattle.cases.specs.declared.case.Ask.{Ask}
-use Rattle.machine.specs.Next.{Listed}
-use Rattle.search.specs.Walk.{Visit}
-use Rattle.search.specs.Question.{reaches, None, walkFrom, askOf, outcomeNo, outcomePlace, toldOf}
-use Rattle.search.specs.Seek.{Sought, hit, done, spent, seek, walkedOf, walkedNo, walkedPlace}
+use Rattle.machine.specs.Model.{Model, Listed}
+use Rattle.search.specs.Walk.{Visit, walkFrom}
+use Rattle.search.specs.Question.{None, askOf, outcomeNo, outcomePlace, toldOf}
+use Rattle.search.specs.Seek.{Sought, hit, done, usedUp, seek, walkedOf, walkedNo, walkedPlace}
 use Rattle.search.specs.Seek.{walkedRest}
 use Rattle.search.proofs.SeekLaws.{comesTo, seek-decides}
 
@@ -24,14 +22,14 @@ walked-comes : (x : Sought Step)
 unfolding walkedOf toldOf
 walked-comes (hit run) = (refl, omega arith)
 walked-comes (done b) = (refl, refl)
-walked-comes spent = (refl, refl)
+walked-comes usedUp = (refl, refl)
 
-pub walked-told : (p : Program) (a : Ask) (b : ℕ)
-    → (walkedNo (walkedOf 0 (seek (reaches a) b (walkFrom p))) ≡ outcomeNo (toldOf (askOf p a b)))
-    × (walkedPlace (walkedOf 0 (seek (reaches a) b (walkFrom p))) ≡ outcomePlace (toldOf (askOf p a b)))
+pub walked-told : {S : Type 0} (m : Model S Step) (test : S → Bool) (b : ℕ)
+    → (walkedNo (walkedOf 0 (seek test b (walkFrom m))) ≡ outcomeNo (toldOf (askOf m test b)))
+    × (walkedPlace (walkedOf 0 (seek test b (walkFrom m))) ≡ outcomePlace (toldOf (askOf m test b)))
 unfolding askOf
-walked-told p a b =
-    rw (sym (seek-decides (reaches a) b (walkFrom p))) (walked-comes (seek (reaches a) b (walkFrom p)))
+walked-told m test b =
+    rw (sym (seek-decides test b (walkFrom m))) (walked-comes (seek test b (walkFrom m)))
 
 -- none passes, and the budget has n more than there are runs
 seek-none : {S K : Type 0} (test : S → Bool) (b n : ℕ) (vs : List (Visit S K)) → None test vs
@@ -43,9 +41,11 @@ seek-none test zero n (v ∷ vs) f e = absurd (omega arith)
 seek-none test (suc b) n (v ∷ vs) f e =
     rw (f v (inl refl), seek) (seek-none test b n vs (λ w h. f w (inr h)) (omega arith))
 
-pub walked-rest : (p : Program) (a : Ask) (b : ℕ) → None (reaches a) (walkFrom p) → length (walkFrom p) ≤ b
-    → walkedRest (walkedOf 0 (seek (reaches a) b (walkFrom p))) + length (walkFrom p) ≡ b
+pub walked-rest : {S : Type 0} (m : Model S Step) (test : S → Bool) (b : ℕ)
+    → None test (walkFrom m)
+    → length (walkFrom m) ≤ b
+    → walkedRest (walkedOf 0 (seek test b (walkFrom m))) + length (walkFrom m) ≡ b
 unfolding walkedOf
-walked-rest p a b none covers =
-    let n : ℕ = b - length (walkFrom p) in
-    rw (seek-none (reaches a) b n (walkFrom p) none (omega arith)) (omega arith)
+walked-rest m test b none covers =
+    let n : ℕ = b - length (walkFrom m) in
+    rw (seek-none test b n (walkFrom m) none (omega arith)) (omega arith)

@@ -4,12 +4,11 @@
 --   firstOf test vs      the first of some runs whose end passes a test, or none (First)
 --   decided test b vs    what a budget b says of the runs vs (Decided)
 --   FirstThat            the run v is the first of vs that passes, and `before` stands before it
---   walkFrom p           the walk of a program
---   askOf p a b          what a budget b says of it
+--   askOf m test b       what a budget b says of the walk of a model
 --   outcomeNo, outcomePlace   01's number of an answer, and its place
 --   toldOf d             the answer that a caller gets for d
---   answerFor p a room b   the answer for a program
---   shownFor p a b out     what the lent bytes hold afterwards
+--   answerFor m test room b   the answer for a model, a lent buffer of `room` bytes, a budget b
+--   shownFor m test b out     what the lent bytes hold afterwards
 --   questionOf s room b  what the question answers for the bytes s, a lent buffer of `room` bytes, a budget b
 --   shownOf s b out      what the lent bytes `out` hold afterwards
 -- Assumes nothing.
@@ -20,20 +19,18 @@ use mathlib.Core.List.{List, [], _∷_, _++_}
 use lib.ListN.{length, getD, take, drop}
 use lib.Dec.{eqb, leb, ltb}
 use Rattle.cases.specs.declared.case.Step.{Step}
-use Rattle.cases.specs.declared.case.Program.{Program}
 use Rattle.cases.specs.declared.case.Ask.{Ask}
 use Rattle.cases.specs.Choice.{pick, both}
 use Rattle.cases.specs.Sizes.{mostThreads, mostLocations, stepSize}
 use Rattle.cases.specs.Reading.{numberOf, offsetOf, readOf}
 use Rattle.cases.specs.Seats.{stepsBytes}
 use Rattle.machine.specs.declared.cells.State.{State}
-use Rattle.machine.specs.Rules.{startOf}
 use Rattle.machine.specs.Fit.{anyFrom}
-use Rattle.machine.specs.Work.{fullLength}
-use Rattle.machine.specs.Next.{Listed}
+use Rattle.machine.specs.Model.{Model, fullLength, Listed}
+use Rattle.machine.specs.Ptso.{ptso}
 use Rattle.search.specs.declared.ask.Outcome.{Outcome}
 use Rattle.search.specs.declared.ask.Outcome.the-variants.{Reached, Unreachable, Undecided, Refused}
-use Rattle.search.specs.Walk.{Visit, walkOf}
+use Rattle.search.specs.Walk.{Visit, walkFrom}
 
 -- a location holds another word than is wanted there. "Not wanted" is not "wanted 0".
 unfoldable pub misses : Bool → ℕ → ℕ → Bool
@@ -90,11 +87,8 @@ pub record FirstThat {S K : Type 0} (test : S → Bool) (vs before : List (Visit
   pub passes : test (v .end) ≡ true
   pub none : None test before
 
-unfoldable pub walkFrom : Program → List (Visit State Step)
-walkFrom p = walkOf p (startOf p)
-
-unfoldable pub askOf : Program → Ask → ℕ → Decided Step
-askOf p a b = decided (reaches a) b (walkFrom p)
+unfoldable pub askOf : {S K : Type 0} → Model S K → (S → Bool) → ℕ → Decided K
+askOf m test b = decided test b (walkFrom m)
 
 -- 01's number of an answer, and its place: "(offset for reading refusals, .. number of steps for 100 .., else
 -- 0)"
@@ -116,16 +110,16 @@ toldOf unreachable = Unreachable
 toldOf undecided = Undecided
 
 -- "The question tests reading first, then 31 (shorter than 8 bytes times the program's full length, below)."
-unfoldable pub short : Program → ℕ → Bool
-short p room = ltb room (stepSize * fullLength p)
+unfoldable pub short : {S K : Type 0} → Model S K → ℕ → Bool
+short m room = ltb room (stepSize * fullLength m)
 
-unfoldable pub answerFor : Program → Ask → ℕ → ℕ → Outcome
-answerFor p a room b = pick (short p room) (Refused 31 0) (toldOf (askOf p a b))
+unfoldable pub answerFor : {S : Type 0} → Model S Step → (S → Bool) → ℕ → ℕ → Outcome
+answerFor m test room b = pick (short m room) (Refused 31 0) (toldOf (askOf m test b))
 
 unfoldable pub questionOf : List ℕ → ℕ → ℕ → Outcome
 questionOf s room b =
     pick (eqb (numberOf (readOf s .answer)) 0)
-    (answerFor (readOf s .case .program) (readOf s .case .ask) room b)
+    (answerFor (ptso (readOf s .case .program)) (reaches (readOf s .case .ask)) room b)
     (Refused (numberOf (readOf s .answer)) (offsetOf (readOf s .answer)))
 
 -- "100 reached (the first such run, as kind 6 records in the lent buffer ..)": from the front, and nothing
@@ -135,11 +129,11 @@ shownBy (reached run) out = stepsBytes run ++ drop (stepSize * length run) out
 shownBy unreachable out = out
 shownBy undecided out = out
 
-unfoldable pub shownFor : Program → Ask → ℕ → List ℕ → List ℕ
-shownFor p a b out = pick (short p (length out)) out (shownBy (askOf p a b) out)
+unfoldable pub shownFor : {S : Type 0} → Model S Step → (S → Bool) → ℕ → List ℕ → List ℕ
+shownFor m test b out = pick (short m (length out)) out (shownBy (askOf m test b) out)
 
 unfoldable pub shownOf : List ℕ → ℕ → List ℕ → List ℕ
 shownOf s b out =
     pick (eqb (numberOf (readOf s .answer)) 0)
-    (shownFor (readOf s .case .program) (readOf s .case .ask) b out)
+    (shownFor (ptso (readOf s .case .program)) (reaches (readOf s .case .ask)) b out)
     out

@@ -21,17 +21,17 @@ use Rattle.search.specs.Walk.{Visit}
 pub data Sought (K : Type 0) : Type 0 where
   hit : List K → Sought K
   done : ℕ → Sought K
-  spent : Sought K
+  usedUp : Sought K
 
 unfoldable pub seek : {S K : Type 0} → (S → Bool) → ℕ → List (Visit S K) → Sought K
 seek test b [] = done b
-seek test zero (v ∷ vs) = spent
+seek test zero (v ∷ vs) = usedUp
 seek test (suc b) (v ∷ vs) = elim (test (v .end)) [ true ↦ hit (v .run) | false ↦ seek test b vs ]
 
 unfoldable pub walkedOf : ℕ → Sought Step → Walked
 walkedOf d (hit run) = Found (d + length run)
 walkedOf d (done b) = Finished b
-walkedOf d spent = Stopped
+walkedOf d usedUp = Stopped
 
 -- "100 reached (.., and its length), 101 unreachable, 102 undecided"; the place is the number of steps for 100,
 -- else 0
@@ -55,4 +55,4 @@ walkedRest Stopped = 0
 unfoldable pub storedOf : ℕ → Sought Step → List ℕ → List ℕ
 storedOf d (hit run) out = sets out (stepSize * d) (stepsBytes run)
 storedOf d (done b) out = out
-storedOf d spent out = out
+storedOf d usedUp out = out

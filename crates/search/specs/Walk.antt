@@ -4,21 +4,18 @@
 --   walk m n s      all runs from s of fewer than n steps: the empty run first, "each run is followed by
 --                   everything that starts with it, next steps in the order" of the machine
 --   Runs m s ks u   the steps ks, each a next one where it is taken, lead from s to u
---   Lawful          a machine whose next steps stand in order and lower the work left
+--   Walkable        a machine whose next steps stand in order and lower the work left
 --   Before, InOrder how the theorems say "in the stated order, once"
---   ptso p          the machine of document 01, for a program
---   walkOf p s      its walk from the state s
+--   thinned m f     of a model: the steps that f lists are next
+--   machineOf m     of a model: its legal steps are next
+--   Sublist, Thinned   how the theorems say "some of the legal steps, in their order"
+--   walkOf m s      the walk of a model from the state s; walkFrom m: from its start
 -- Assumes nothing.
-use Prim.Native.Nat.{ℕ, zero, suc, _+_, _<_}
+use Prim.Native.Nat.{ℕ, zero, suc, _<_}
 use mathlib.Core.Path.{_≡_}
 use mathlib.Core.Logic.{_⊎_}
 use mathlib.Core.List.{List, [], _∷_, _++_, map}
-use Rattle.cases.specs.declared.case.Step.{Step}
-use Rattle.cases.specs.declared.case.Program.{Program}
-use Rattle.machine.specs.declared.cells.State.{State}
-use Rattle.machine.specs.Rules.{nextOf}
-use Rattle.machine.specs.Work.{work}
-use Rattle.machine.specs.Next.{legalSteps, Listed, Ascending}
+use Rattle.machine.specs.Model.{Model, legalSteps, Listed, Ascending}
 
 pub record Machine (S K : Type 0) : Type 0 where
   pub nexts : S → List K
@@ -47,11 +44,11 @@ unfoldable pub Runs : {S K : Type 0} → Machine S K → S → List K → S → 
 Runs m s [] u = s ≡ u
 Runs m s (k ∷ ks) u = Listed k (m .nexts s) × Runs m (m .after s k) ks u
 
--- the states that Fit speaks of are never left, each step lowers the work by one, and next steps stand in order
-pub record Lawful {S K : Type 0} (m : Machine S K) (Fit : S → Type 0) (left : S → ℕ) (rank : K → ℕ)
+-- the states that Fit speaks of are never left, each step lowers the work left, and next steps stand in order
+pub record Walkable {S K : Type 0} (m : Machine S K) (Fit : S → Type 0) (left : S → ℕ) (rank : K → ℕ)
     : Type 0 where
   pub keeps : (s : S) → Fit s → (k : K) → Listed k (m .nexts s) → Fit (m .after s k)
-  pub lowers : (s : S) → Fit s → (k : K) → Listed k (m .nexts s) → left (m .after s k) + 1 ≡ left s
+  pub lowers : (s : S) → Fit s → (k : K) → Listed k (m .nexts s) → left (m .after s k) < left s
   pub rises : (s : S) → Fit s → Ascending rank (m .nexts s)
 
 -- a run comes before those that start with it, and, where two first differ, by the rank of the step
@@ -66,10 +63,23 @@ InOrder rank [] = Unit {0}
 InOrder {S} {K} rank (v ∷ vs) =
     ((w : Visit S K) → Listed w vs → Before rank (v .run) (w .run)) × InOrder rank vs
 
--- the machine of document 01; "It never goes deeper than the full length, a number that falls at each step
--- down"
-unfoldable pub ptso : Program → Machine State Step
-ptso p = record { nexts = legalSteps p; after = nextOf p }
+unfoldable pub thinned : {S K : Type 0} → Model S K → (S → List K) → Machine S K
+thinned m nexts = record { nexts = nexts; after = m .after }
 
-unfoldable pub walkOf : Program → State → List (Visit State Step)
-walkOf p s = walk (ptso p) (suc (work p s)) s
+abbrev pub machineOf : {S K : Type 0} → Model S K → Machine S K
+machineOf m = thinned m (legalSteps m)
+
+unfoldable pub Sublist : {A : Type 0} → List A → List A → Type 0
+Sublist [] ys = Unit {0}
+Sublist (x ∷ xs) [] = ⊥
+Sublist (x ∷ xs) (y ∷ ys) = ((x ≡ y) × Sublist xs ys) ⊎ Sublist (x ∷ xs) ys
+
+unfoldable pub Thinned : {S K : Type 0} → Model S K → (S → List K) → Type 0
+Thinned {S} {K} m nexts = (s : S) → Sublist (nexts s) (legalSteps m s)
+
+-- "It never goes deeper than the full length, a number that falls at each step down"
+unfoldable pub walkOf : {S K : Type 0} → Model S K → S → List (Visit S K)
+walkOf m s = walk (machineOf m) (suc (m .left s)) s
+
+unfoldable pub walkFrom : {S K : Type 0} → Model S K → List (Visit S K)
+walkFrom m = walkOf m (m .start)

@@ -10,8 +10,9 @@ use machine::work;
 ghost use mathlib.Core.Path.{_≡_};
 ghost use lib.ListN.{length};
 ghost use Rattle.machine.specs.Fit.{ProgramFits};
-ghost use Rattle.search.specs.Question.{outcomeNo, outcomePlace, answerFor, shownFor, questionOf};
-ghost use Rattle.search.specs.Question.{shownOf};
+ghost use Rattle.machine.specs.Ptso.{ptso};
+ghost use Rattle.search.specs.Question.{reaches, outcomeNo, outcomePlace, answerFor, shownFor};
+ghost use Rattle.search.specs.Question.{questionOf, shownOf};
 
 // Reached with the number of steps of the run that is shown; refused with the number and the offset.
 pub enum Outcome {
@@ -48,8 +49,8 @@ pub fn outcome_place(o: Outcome) -> usize
 // The question of a program that the machine can run: 31, then the walk.
 fn ask(p: Program, a: Ask, run: &mut [u8], budget: u32) -> Outcome
     requires { ⌜ ProgramFits p ⌝ }
-    ensures { λ r. ⌜ (r ≡ answerFor p a (length (now (run .entry))) budget)
-        × (now (run .exit) ≡ shownFor p a budget (now (run .entry))) ⌝ }
+    ensures { λ r. ⌜ (r ≡ answerFor (ptso p) (reaches a) (length (now (run .entry))) budget)
+        × (now (run .exit) ≡ shownFor (ptso p) (reaches a) budget (now (run .entry))) ⌝ }
 {
     let s = steps::start_of(p);
     if run.len() < STEP_SIZE * work::work_in(p, s) {

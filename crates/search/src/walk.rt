@@ -1,5 +1,5 @@
 // The walk: all legal runs, depth first, each counted against the budget, until one reaches the question. It
-// recurses on the next state, by value; the work left falls by one at each call.
+// recurses on the next state, by value; the work left falls at each call.
 use crate::shown;
 use crate::wants;
 use cases::case::Ask;
@@ -11,9 +11,11 @@ use machine::steps;
 ghost use mathlib.Core.Path.{_≡_};
 ghost use Prim.Native.Nat.{_+_, _*_, _≤_};
 ghost use lib.ListN.{length};
-ghost use Rattle.cases.specs.Sizes.{mostSteps, stepSize};
+ghost use Rattle.cases.specs.Sizes.{stepSize};
+ghost use Rattle.machine.specs.Sizes.{mostWork};
 ghost use Rattle.machine.specs.Fit.{Fits};
 ghost use Rattle.machine.specs.Work.{work};
+ghost use Rattle.machine.specs.Ptso.{ptso};
 ghost use Rattle.search.specs.Walk.{walkOf};
 ghost use Rattle.search.specs.Question.{reaches};
 ghost use Rattle.search.specs.Seek.{seek, walkedOf, storedOf};
@@ -34,10 +36,10 @@ pub(crate) fn walk(
     depth: usize,
     run: &mut [u8],
 ) -> Walked
-    requires { ⌜ Fits p s × (depth + work p s ≤ mostSteps)
+    requires { ⌜ Fits p s × (depth + work p s ≤ mostWork)
         × (stepSize * (depth + work p s) ≤ length (now run)) ⌝ }
-    ensures { λ r. ⌜ (r ≡ walkedOf depth (seek (reaches a) budget (walkOf p s)))
-        × (now (run .exit) ≡ storedOf depth (seek (reaches a) budget (walkOf p s)) (now (run .entry))) ⌝ }
+    ensures { λ r. ⌜ (r ≡ walkedOf depth (seek (reaches a) budget (walkOf (ptso p) s)))
+        × (now (run .exit) ≡ storedOf depth (seek (reaches a) budget (walkOf (ptso p) s)) (now (run .entry))) ⌝ }
 {
     if budget == 0 {
         return Walked::Stopped;

@@ -38,7 +38,7 @@ element-write-u-3 c = search needs
 returns : tie.Need-returns
 returns c =
     let a = c .before .before .args in
-    enqueue-is (a .s) (a .l .0) (search needs) (search needs) (omega arith) _ (omega arith)
+    enqueue-is (a .s) (a .q .0) (search needs) (search needs) (omega arith) _ (omega arith)
 
 pub enqueue-spec : {M : Type 1} → statement M
 enqueue-spec =

@@ -14,8 +14,13 @@ cast-n c = search needs
 element-copy-out-n : tie.Need-element-copy-out-n
 element-copy-out-n c = search needs
 
+queues-of-requires : tie.Need-queues-of-requires
+queues-of-requires c κs = search needs
+
 returns : tie.Need-returns
-returns c = queue-lacked _ _ _ (c .before .if1 .taken) (c .if2 .taken)
+returns c =
+    let e = c .before in
+    queue-lacked _ _ _ _ (e .before .before .queues-of .ensures) (e .if1 .taken) (c .if2 .taken)
 
 cast-if3 : tie.Need-cast-if3
 cast-if3 c = search needs
@@ -23,14 +28,16 @@ cast-if3 c = search needs
 add-if3 : tie.Need-add-if3
 add-if3 c =
     let a = c .before .before .before .before .before .args in
-    let m : Fits w8 (queueLen (a .s) (a .l .0)) = search needs in
+    let m : Fits w8 (queueLen (a .s) (a .q .0)) = search needs in
     let h = due-most (a .p) (a .s) (λ t. search needs) (λ t. search needs) in
     omega arith
 
 returns-2 : tie.Need-returns-2
 returns-2 c =
     let o = c .before .before .before .before .before .before in
-    queue-full _ _ _ (c .before .if1 .came) (λ w. w .1 .left) (λ w. w .left) _ (o .pre .1) (c .if3 .taken)
+    let many = c .before .before .before .queues-of .ensures in
+    queue-full _ _ _ _ many (c .before .if1 .came) (λ w. w .1 .left) (λ w. w .left) _ (o .pre .1)
+    (c .if3 .taken)
 
 has-foreign-requires : tie.Need-has-foreign-requires
 has-foreign-requires c κs = search needs
@@ -39,7 +46,8 @@ returns-3 : tie.Need-returns-3
 returns-3 c =
     let j = c .before .before .before .before .before in
     let o = j .before .before .before .before .before in
-    queue-rest _ _ _ (j .if1 .came) (λ w. w .1 .left) (λ w. w .left) _ (o .pre .1)
+    let many = j .before .before .queues-of .ensures in
+    queue-rest _ _ _ _ many (j .if1 .came) (λ w. w .1 .left) (λ w. w .left) _ (o .pre .1)
     (c .before .before .before .before .if3 .left) _ (c .has-foreign .ensures)
 
 pub queue-misfits-spec : {M : Type 1} → statement M
@@ -48,6 +56,7 @@ queue-misfits-spec =
     (tie.spec
     cast-n
     element-copy-out-n
+    queues-of-requires
     returns
     cast-if3
     add-if3

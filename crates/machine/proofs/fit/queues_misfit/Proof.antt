@@ -11,12 +11,12 @@ use borrow.Author.Needs.{needs}
 use Rattle.machine.proofs.fit.queues_misfit.Statement.{statement}
 use Rattle.machine.proofs.fit.queues_misfit.Tie as tie
 
--- what may still come is known, and the locations still to ask say what all say
+-- what may still come is known, and the queues still to ask say what all say
 abbrev Inv-loop : tie.InvT-loop
-Inv-loop p s coming l₀ l = (coming ≡ due p s) × AskedSoFar (queueMisfits p s) mostLocations l
+Inv-loop p s coming q₀ q = (coming ≡ due p s) × AskedSoFar (queueMisfits p s) mostLocations q
 
 abbrev μ-loop : tie.MeasureT-loop
-μ-loop p s coming l₀ l = mostLocations - l
+μ-loop p s coming q₀ q = mostLocations - q
 
 all-waiting-requires : tie.Need-all-waiting-requires Inv-loop μ-loop
 all-waiting-requires c κs = search needs
@@ -51,8 +51,8 @@ returns c =
     let l = c .before .before .before .loop in
     any-here (l .inv .1) (omega arith) (told _ _ _ (c .before .queue-misfits .ensures) (c .if1 .taken))
 
-add-l : tie.Need-add-l Inv-loop μ-loop
-add-l c = search needs
+add-q : tie.Need-add-q Inv-loop μ-loop
+add-q c = search needs
 
 loop-less : tie.Need-loop-less Inv-loop μ-loop
 loop-less c = search needs
@@ -79,7 +79,7 @@ queues-misfit-spec =
     cast-loop
     queue-misfits-requires
     returns
-    add-l
+    add-q
     loop-less
     loop-again
     returns-2)

@@ -14,8 +14,13 @@ mul-word c = search needs
 element-copy-out-word : tie.Need-element-copy-out-word
 element-copy-out-word c = search needs
 
+queue-of-requires : tie.Need-queue-of-requires
+queue-of-requires c κs = search needs
+
 newest-write-requires : tie.Need-newest-write-requires
-newest-write-requires c κs = search needs
+newest-write-requires c κs =
+    let e = c .queue-of .ensures in
+    rw e (search needs)
 
 newest-store-requires : tie.Need-newest-store-requires
 newest-store-requires c κs = search needs
@@ -41,7 +46,8 @@ element-write-u c = search needs
 returns : tie.Need-returns
 unfolding withRegister
 returns c =
-    load-is _ _ _ _ _ (c .before .before .before .before .before .before .newest-write .ensures)
+    let w = c .before .before .before .before .before .before in
+    load-is _ _ _ _ _ _ _ (w .before .queue-of .ensures) (w .newest-write .ensures)
     (c .before .before .newest-store .ensures)
 
 pub load-spec : {M : Type 1} → statement M
@@ -51,6 +57,7 @@ load-spec =
     cast-word
     mul-word
     element-copy-out-word
+    queue-of-requires
     newest-write-requires
     newest-store-requires
     cast-u

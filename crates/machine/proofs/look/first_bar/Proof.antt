@@ -13,10 +13,10 @@ use Rattle.machine.proofs.look.first_bar.Tie as tie
 
 -- j, and what the entries still to look at say counted from there, is what the first i entries say
 abbrev Inv-loop : tie.InvT-loop
-Inv-loop waiting i l b base j₀ j = BarSoFar (l .0) b base i j
+Inv-loop p waiting i q b base j₀ j = BarSoFar p (q .0) b base i j
 
 abbrev μ-loop : tie.MeasureT-loop
-μ-loop waiting i l b base j₀ j = i - j
+μ-loop p waiting i q b base j₀ j = i - j
 
 cast-base : tie.Need-cast-base Inv-loop μ-loop
 cast-base c = search needs
@@ -27,7 +27,7 @@ mul-base c = search needs
 loop-holds : tie.Need-loop-holds Inv-loop μ-loop
 loop-holds c =
     let k : length (c .before .args .buffers) ≡ allCode = search unmapped in
-    bar-start _ _ _ _ (omega arith)
+    bar-start _ _ _ _ _ (omega arith)
 
 cast-w : tie.Need-cast-w Inv-loop μ-loop
 cast-w c = search needs

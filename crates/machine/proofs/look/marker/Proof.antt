@@ -9,19 +9,19 @@ use borrow.Author.Needs.{needs}
 use Rattle.machine.proofs.look.marker.Statement.{statement}
 use Rattle.machine.proofs.look.marker.Tie as tie
 
--- nothing is found yet; the marks of queue l from i on, and the queues behind it, say what all queues say
+-- nothing is found yet; the marks of queue q from i on, and the queues behind it, say what all queues say
 abbrev Inv-entries : tie.InvT-entries
-Inv-entries marks lengths mark found₀ l n i₀ found i = MarksSoFar marks lengths mark l n i found
+Inv-entries marks lengths mark found₀ q n i₀ found i = MarksSoFar marks lengths mark q n i found
 
 abbrev μ-entries : tie.MeasureT-entries
-μ-entries marks lengths mark found₀ l n i₀ found i = n - i
+μ-entries marks lengths mark found₀ q n i₀ found i = n - i
 
--- nothing is found yet, and the queues from l on say what all queues say
+-- nothing is found yet, and the queues from q on say what all queues say
 abbrev Inv-queues : tie.InvT-queues
-Inv-queues marks lengths mark found₀ l₀ found l = QueuesSoFar marks lengths mark l found
+Inv-queues marks lengths mark found₀ q₀ found q = QueuesSoFar marks lengths mark q found
 
 abbrev μ-queues : tie.MeasureT-queues
-μ-queues marks lengths mark found₀ l₀ found l = mostLocations - l
+μ-queues marks lengths mark found₀ q₀ found q = mostLocations - q
 
 add-mark : tie.Need-add-mark Inv-entries μ-entries Inv-queues μ-queues
 add-mark c = search needs
@@ -67,8 +67,8 @@ entries-again c =
     let e = c .before .before .before .entries in
     marks-next (e .inv) (omega arith) (c .if1 .left)
 
-add-l : tie.Need-add-l Inv-entries μ-entries Inv-queues μ-queues
-add-l c = search needs
+add-q : tie.Need-add-q Inv-entries μ-entries Inv-queues μ-queues
+add-q c = search needs
 
 queues-less : tie.Need-queues-less Inv-entries μ-entries Inv-queues μ-queues
 queues-less c = search needs
@@ -106,7 +106,7 @@ marker-spec =
     add-i
     entries-less
     entries-again
-    add-l
+    add-q
     queues-less
     queues-again
     returns

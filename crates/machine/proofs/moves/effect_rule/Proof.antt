@@ -2,7 +2,7 @@
 use native.Mathlib.Omega.{arith}
 use Rattle.machine.specs.Rules.{effectRule}
 use Rattle.cases.proofs.ChoiceLaws.{choices}
-use Rattle.machine.proofs.MoveLaws.{flush-named, flush-held, flush-free}
+use Rattle.machine.proofs.MoveLaws.{flush-low, flush-held, flush-free}
 use borrow.Author.Needs.{needs}
 use Rattle.machine.proofs.moves.effect_rule.Statement.{statement}
 use Rattle.machine.proofs.moves.effect_rule.Tie as tie
@@ -13,13 +13,17 @@ enum-told c = search needs
 enum-known-e : tie.Need-enum-known-e
 enum-known-e c = search needs
 
+queue-of-requires : tie.Need-queue-of-requires
+queue-of-requires c κs = search needs
+
 cast-if1 : tie.Need-cast-if1
 cast-if1 c = search needs
 
 element-copy-out-if1 : tie.Need-element-copy-out-if1
 element-copy-out-if1 c =
-    let a = c .before .before .before .before in
-    flush-named (a .pre .1) _ (c .before .before .e .given .1)
+    let a = c .before .before .before .before .before in
+    let e = c .before .before .before .e .given .1 in
+    flush-low _ (a .pre .0) (a .pre .2) _ e _ (c .before .queue-of .ensures)
 
 enum-told-2 : tie.Need-enum-told-2
 enum-told-2 c = search needs
@@ -35,10 +39,14 @@ unfolding effectRule
 returns c = rw (c .enum-told .given .1)
 
 returns-2 : tie.Need-returns-2
-returns-2 c = flush-held _ _ _ _ _ (c .before .before .before .before .e .given .1) (omega arith)
+returns-2 c =
+    let e = c .before .before .before in
+    flush-held _ _ _ _ _ (e .before .before .e .given .1) _ (e .queue-of .ensures) (omega arith)
 
 returns-3 : tie.Need-returns-3
-returns-3 c = flush-free _ _ _ _ _ (c .before .before .before .before .e .given .1) (omega arith)
+returns-3 c =
+    let e = c .before .before .before in
+    flush-free _ _ _ _ _ (e .before .before .e .given .1) _ (e .queue-of .ensures) (omega arith)
 
 returns-4 : tie.Need-returns-4
 unfolding effectRule
@@ -58,6 +66,7 @@ effect-rule-spec =
     (tie.spec
     enum-told
     enum-known-e
+    queue-of-requires
     cast-if1
     element-copy-out-if1
     enum-told-2

@@ -52,16 +52,16 @@ sized o = search unmapped
 take-effect-requires : tie.Need-take-effect-requires
 take-effect-requires c κs =
     let o = c .before .before .before .before .before in
-    let named = entry-named _ _ _ _ (o .pre .1) _ (o .pre .3) in
-    let left = take-out-is _ _ (sized o) (o .pre .0) _ _ (o .pre .1) (o .pre .2) (c .close-entries .ensures) in
-    (o .pre .0, named, roomy-buffer _ _ _ _ left (o .pre .4))
+    let named = entry-named _ _ _ _ (o .pre .2) _ (o .pre .4) in
+    let left = take-out-is _ _ (sized o) (o .pre .1) _ _ (o .pre .2) (o .pre .3) (c .close-entries .ensures) in
+    (o .pre .0, o .pre .1, named, roomy-buffer _ _ _ _ left (o .pre .5))
 
 returns : tie.Need-returns
 returns c =
     let o = c .before .before .before .before .before .before in
-    let left = take-out-is _ _ (sized o) (o .pre .0) _ _ (o .pre .1) (o .pre .2)
+    let left = take-out-is _ _ (sized o) (o .pre .1) _ _ (o .pre .2) (o .pre .3)
     (c .before .close-entries .ensures) in
-    move-taken _ _ _ _ _ (o .pre .1) left (c .take-effect .ensures)
+    move-taken _ _ _ _ _ _ (o .pre .2) left (c .take-effect .ensures)
 
 pub move-entry-spec : {M : Type 1} → statement M
 move-entry-spec =

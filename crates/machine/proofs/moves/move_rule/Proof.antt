@@ -31,13 +31,13 @@ array-copy-out-w c = search needs
 effect-rule-requires : tie.Need-effect-rule-requires
 effect-rule-requires c κs =
     let a = c .before .before .before .before .before in
-    let named = first-named _ _ _ _ (c .before .before .if1 .left) (c .if2 .taken) _ (a .pre .2) in
-    (a .pre .0, named, a .pre .3, a .pre .4)
+    let named = first-named _ _ _ _ (c .before .before .if1 .left) (c .if2 .taken) _ (a .pre .3) in
+    (a .pre .0, a .pre .1, named, a .pre .4, a .pre .5)
 
 returns-2 : tie.Need-returns-2
 returns-2 c =
     let here = c .before .before .before .if1 .left in
-    move-first _ _ _ _ here _ _ _ (c .before .if2 .taken) (c .effect-rule .ensures)
+    move-first _ _ _ _ here _ _ _ _ _ (c .before .if2 .taken) (c .effect-rule .ensures)
 
 pass-rule-requires : tie.Need-pass-rule-requires
 pass-rule-requires c κs = search needs
@@ -45,7 +45,7 @@ pass-rule-requires c κs = search needs
 returns-3 : tie.Need-returns-3
 returns-3 c =
     let here = c .before .before .before .if1 .left in
-    move-behind _ _ _ _ here _ _ _ (c .before .if2 .left) (c .pass-rule .ensures)
+    move-behind _ _ _ _ here _ _ _ _ _ (c .before .if2 .left) (c .pass-rule .ensures)
 
 pub move-rule-spec : {M : Type 1} → statement M
 move-rule-spec =

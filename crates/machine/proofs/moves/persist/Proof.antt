@@ -1,7 +1,10 @@
 -- `persist` meets its contract. Assumes nothing.
+use mathlib.Core.Path.{_≡_}
+use lib.ListN.{length}
+use Rattle.machine.specs.Sizes.{allSlots}
 use Rattle.machine.specs.View.{withWord}
 use Rattle.machine.proofs.ChangeLaws.{dequeue-is}
-use Rattle.machine.proofs.MoveLaws.{persist-some}
+use Rattle.machine.proofs.MoveLaws.{home-there, persist-some}
 use borrow.Author.Needs.{needs}
 use Rattle.machine.proofs.moves.persist.Statement.{statement}
 use Rattle.machine.proofs.moves.persist.Tie as tie
@@ -14,6 +17,15 @@ mul-base c = search needs
 
 element-copy-out-n : tie.Need-element-copy-out-n
 element-copy-out-n c = search needs
+
+element-copy-out-home-of : tie.Need-element-copy-out-home-of
+element-copy-out-home-of c = search needs
+
+home-of-requires : tie.Need-home-of-requires
+home-of-requires c κs = search needs
+
+cast-to : tie.Need-cast-to
+cast-to c = search needs
 
 mul-word-or : tie.Need-mul-word-or
 mul-word-or c = search needs
@@ -28,7 +40,10 @@ mul-word-or-2 : tie.Need-mul-word-or-2
 mul-word-or-2 c = search needs
 
 element-copy-out-word-or-3 : tie.Need-element-copy-out-word-or-3
-element-copy-out-word-or-3 c = search needs
+element-copy-out-word-or-3 c =
+    let h = c .before .before .before in
+    let o = h .before .before .before .before in
+    home-there _ _ (o .pre .0) _ (h .home-of .ensures)
 
 word-or-requires : tie.Need-word-or-requires
 word-or-requires c κs = search needs
@@ -55,19 +70,29 @@ mul-u : tie.Need-mul-u
 mul-u c = search needs
 
 element-write-u-2 : tie.Need-element-write-u-2
-element-write-u-2 c = search needs
+element-write-u-2 c =
+    let h = c .before .before .before .before .before .before .before .before .before in
+    let o = h .before .before .before .before in
+    home-there _ _ (o .pre .0) _ (h .home-of .ensures)
+
+-- as many words and marks as their arrays are long
+sized : (o : tie.Start) → (length (o .args .s .held) ≡ allSlots) × (length (o .args .s .marks) ≡ allSlots)
+sized o = (search needs, search needs)
 
 returns : tie.Need-returns
 unfolding withWord
 returns c =
     let e = c .before .before in
-    let o = e .before .before .before .before .before .before .before .before in
+    let w = e .before .before in
+    let h = w .before .before .before .before .before in
+    let o = h .before .before .before .before in
     let a = o .args in
     let p = o .pre in
-    let left = dequeue-is (a .s) (a .l .0) (search needs) (search needs) (p .0) _ _ (p .1) (p .2)
+    let z = sized o in
+    let left = dequeue-is (a .s) (a .q .0) (z .0) (z .1) (p .0) _ _ (p .1) (p .2)
     (e .close-words .ensures) (c .close-marks .ensures) in
-    persist-some (a .s) (a .l .0) (p .0) (p .1) (p .2) (search needs) (search needs) _ _ left
-    (e .before .before .word-or .ensures)
+    persist-some (a .s) (a .q .0) (p .0) (p .1) (p .2) (z .0) (z .1) _ _ _ left
+    (h .home-of .ensures) (w .word-or .ensures)
 
 pub persist-spec : {M : Type 1} → statement M
 persist-spec =
@@ -76,6 +101,9 @@ persist-spec =
     cast-at
     mul-base
     element-copy-out-n
+    element-copy-out-home-of
+    home-of-requires
+    cast-to
     mul-word-or
     element-copy-out-word-or
     element-copy-out-word-or-2

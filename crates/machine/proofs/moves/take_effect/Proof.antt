@@ -8,10 +8,14 @@ use Rattle.machine.proofs.moves.take_effect.Tie as tie
 enum-known-e : tie.Need-enum-known-e
 enum-known-e c = search needs
 
+queue-of-requires : tie.Need-queue-of-requires
+queue-of-requires c κs = search needs
+
 enqueue-requires : tie.Need-enqueue-requires
 enqueue-requires c κs =
-    let a = c .before .before .before in
-    roomy-is _ (a .pre .2) _ (store-named (a .pre .1) _ (c .before .e .given .1))
+    let a = c .before .before .before .before in
+    let named = store-named (a .pre .2) _ (c .before .before .e .given .1) in
+    roomy-is _ (a .pre .0) _ (a .pre .3) _ named _ (c .queue-of .ensures)
 
 enum-told : tie.Need-enum-told
 enum-told c = search needs
@@ -19,20 +23,27 @@ enum-told c = search needs
 enum-known-e-2 : tie.Need-enum-known-e-2
 enum-known-e-2 c = search needs
 
+queue-of-requires-2 : tie.Need-queue-of-requires-2
+queue-of-requires-2 c κs = search needs
+
 add-enqueue : tie.Need-add-enqueue
 add-enqueue c = search needs
 
 enqueue-requires-2 : tie.Need-enqueue-requires-2
 enqueue-requires-2 c κs =
-    let a = c .before .before .before .before in
-    roomy-is _ (a .pre .2) _ (flush-opt-named (a .pre .1) _ (c .before .before .e2 .given .1))
+    let q = c .before in
+    let a = q .before .before .before .before in
+    let named = flush-opt-named (a .pre .2) _ (q .before .before .e2 .given .1) in
+    roomy-is _ (a .pre .0) _ (a .pre .3) _ named _ (q .queue-of2 .ensures)
 
 enum-told-2 : tie.Need-enum-told-2
 enum-told-2 c = search needs
 
 returns : tie.Need-returns
 unfolding effectOf
-returns c = rw (c .before .before .e .given .1) (c .enqueue .ensures)
+returns c =
+    let q = c .before in
+    rw (q .before .before .e .given .1, ← q .queue-of .ensures) (c .enqueue .ensures)
 
 returns-2 : tie.Need-returns-2
 unfolding effectOf
@@ -40,7 +51,9 @@ returns-2 c = rw (c .enum-told .given .1)
 
 returns-3 : tie.Need-returns-3
 unfolding effectOf
-returns-3 c = rw (c .before .before .before .e2 .given .1) (c .enqueue2 .ensures)
+returns-3 c =
+    let q = c .before .before in
+    rw (q .before .before .e2 .given .1, ← q .queue-of2 .ensures) (c .enqueue2 .ensures)
 
 returns-4 : tie.Need-returns-4
 unfolding effectOf
@@ -51,9 +64,11 @@ take-effect-spec =
     tie.close
     (tie.spec
     enum-known-e
+    queue-of-requires
     enqueue-requires
     enum-told
     enum-known-e-2
+    queue-of-requires-2
     add-enqueue
     enqueue-requires-2
     enum-told-2

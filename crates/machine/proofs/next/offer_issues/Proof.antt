@@ -2,6 +2,7 @@
 use Prim.Native.Nat.{_-_, _≤_}
 use mathlib.Core.Path.{_∙_}
 use mathlib.Core.Logic.{⊎-elim}
+use mathlib.Core.List.{[]}
 use native.Mathlib.Omega.{arith}
 use Rattle.cases.specs.Sizes.{mostThreads}
 use Rattle.machine.specs.Next.{issuesFrom, rankOf}
@@ -16,8 +17,13 @@ use Rattle.machine.proofs.next.offer_issues.Tie as tie
 abbrev Inv-loop : tie.InvT-loop
 Inv-loop issued waiting marks lengths ranks₀ count q n₀ t₀ ranks n t =
     (q .threads ≤ mostThreads)
-    × OfferedSoFar (issueRuleAt q issued waiting marks lengths) issuesFrom 1 (q .threads) t (nextWith n ranks)
-    (nextWith n₀ ranks₀)
+    × OfferedSoFar (issueRuleAt q (record {
+      buffers = [];
+      issued = issued;
+      waiting = waiting;
+      marks = marks;
+      lengths = lengths;
+    })) issuesFrom 1 (q .threads) t (nextWith n ranks) (nextWith n₀ ranks₀)
 
 abbrev μ-loop : tie.MeasureT-loop
 μ-loop issued waiting marks lengths ranks₀ count q n₀ t₀ ranks n t = q .threads - t
@@ -85,8 +91,8 @@ loop-again c =
     let l = c .before .before .before .before .before .before .loop in
     let e =
     ⊎-elim
-    (λ w. w .3 ∙ issue-some _ _ _ _ _ _ _ (w .0 .taken) (w .2 .ensures))
-    (λ w. w .1 ∙ issue-none _ _ _ _ _ _ (w .0 .left))
+    (λ w. w .3 ∙ issue-some _ _ _ _ (w .0 .taken) (w .2 .ensures))
+    (λ w. w .1 ∙ issue-none _ _ _ (w .0 .left))
     (c .before .before .if1 .came) in
     (l .inv .0, issue-next (l .inv .1) (omega arith) _ e _ (c .offer .ensures))
 

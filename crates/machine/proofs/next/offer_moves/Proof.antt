@@ -1,5 +1,6 @@
 -- `offer_moves` meets its contract. Assumes nothing.
 use Prim.Native.Nat.{_-_}
+use mathlib.Core.List.{[]}
 use native.Mathlib.Omega.{arith}
 use Rattle.cases.specs.Sizes.{mostInstructions}
 use Rattle.machine.specs.Next.{movesFrom}
@@ -11,20 +12,28 @@ use Rattle.machine.proofs.next.offer_moves.Tie as tie
 
 -- the moves from thread t on, offered to the list so far, give what all of them give to the list at the start
 abbrev Inv-loop : tie.InvT-loop
-Inv-loop threads buffers waiting marks lengths ranks₀ count n₀ t₀ ranks n t =
-    OfferedSoFar (moveRuleAt buffers waiting marks lengths) movesFrom mostInstructions threads t
-    (nextWith n ranks) (nextWith n₀ ranks₀)
+Inv-loop p buffers waiting marks lengths ranks₀ count n₀ t₀ ranks n t =
+    OfferedSoFar (moveRuleAt p (record {
+      buffers = buffers;
+      issued = [];
+      waiting = waiting;
+      marks = marks;
+      lengths = lengths;
+    })) movesFrom mostInstructions (p .threads) t (nextWith n ranks) (nextWith n₀ ranks₀)
 
 abbrev μ-loop : tie.MeasureT-loop
-μ-loop threads buffers waiting marks lengths ranks₀ count n₀ t₀ ranks n t = threads - t
+μ-loop p buffers waiting marks lengths ranks₀ count n₀ t₀ ranks n t = p .threads - t
 
 loop-holds : tie.Need-loop-holds Inv-loop μ-loop
-loop-holds c = offers-start _ _ _ _ _ (omega arith)
+loop-holds c =
+    let w = c .pre .0 .few-threads in
+    offers-start _ _ _ _ _ (omega arith)
 
 offer-moves-of-requires : tie.Need-offer-moves-of-requires Inv-loop μ-loop
 offer-moves-of-requires c κs =
-    let g = c .before .before .before .pre in
-    (omega arith, g .1, g .2, g .3, offers-room (c .before .before .loop .inv) (omega arith))
+    let g = c .before .before .before .before .pre in
+    let w = g .0 .few-threads in
+    (g .0, omega arith, g .1, g .2, g .3, offers-room (c .before .before .before .loop .inv) (omega arith))
 
 add-t : tie.Need-add-t Inv-loop μ-loop
 add-t c = search needs
@@ -33,10 +42,12 @@ loop-less : tie.Need-loop-less Inv-loop μ-loop
 loop-less c = search needs
 
 loop-again : tie.Need-loop-again Inv-loop μ-loop
-loop-again c = thread-next (c .before .before .before .loop .inv) (omega arith) _ (c .offer-moves-of .ensures)
+loop-again c =
+    let l = c .before .before .before .before .loop in
+    thread-next (l .inv) (omega arith) _ (c .offer-moves-of .ensures)
 
 returns : tie.Need-returns Inv-loop μ-loop
-returns c = thread-end (c .before .loop .inv) (omega arith)
+returns c = thread-end (c .before .before .loop .inv) (omega arith)
 
 pub offer-moves-spec : {M : Type 1} → statement M
 offer-moves-spec =

@@ -1,5 +1,6 @@
 -- `offer_moves_of` meets its contract. Assumes nothing.
 use Prim.Native.Nat.{_-_, _≤_}
+use mathlib.Core.List.{[]}
 use native.Mathlib.Omega.{arith}
 use Rattle.cases.specs.Sizes.{mostInstructions}
 use Rattle.machine.specs.Next.{movesAt, rankOf}
@@ -13,13 +14,18 @@ use Rattle.machine.proofs.next.offer_moves_of.Tie as tie
 -- the buffer is within its depth; the thread's moves from position i on, offered to the list so far, give what
 -- all of them give to the list at the start
 abbrev Inv-loop : tie.InvT-loop
-Inv-loop t buffers waiting marks lengths ranks₀ count many n₀ i₀ ranks n i =
+Inv-loop p t buffers waiting marks lengths ranks₀ count many n₀ i₀ ranks n i =
     (many ≤ mostInstructions)
-    × OfferedSoFar (moveRuleAt buffers waiting marks lengths) (movesAt (t .0)) 1 mostInstructions i
-    (nextWith n ranks) (nextWith n₀ ranks₀)
+    × OfferedSoFar (moveRuleAt p (record {
+      buffers = buffers;
+      issued = [];
+      waiting = waiting;
+      marks = marks;
+      lengths = lengths;
+    })) (movesAt (t .0)) 1 mostInstructions i (nextWith n ranks) (nextWith n₀ ranks₀)
 
 abbrev μ-loop : tie.MeasureT-loop
-μ-loop t buffers waiting marks lengths ranks₀ count many n₀ i₀ ranks n i = many - i
+μ-loop p t buffers waiting marks lengths ranks₀ count many n₀ i₀ ranks n i = many - i
 
 cast-many : tie.Need-cast-many Inv-loop μ-loop
 cast-many c = search needs
@@ -29,14 +35,14 @@ element-copy-out-many c = search needs
 
 loop-holds : tie.Need-loop-holds Inv-loop μ-loop
 loop-holds c =
-    let m = movable-at _ _ (c .before .before .pre .1) _ (c .before .before .pre .0) in
+    let m = movable-at _ _ (c .before .before .pre .2) _ (c .before .before .pre .1) in
     (m .0, offers-start _ _ _ _ _ (omega arith))
 
 move-rule-requires : tie.Need-move-rule-requires Inv-loop μ-loop
 move-rule-requires c κs =
     let g = c .before .before .before .before .pre in
-    let m = movable-at _ _ (g .1) _ (g .0) in
-    (g .0, m .0, m .1, g .2, g .3)
+    let m = movable-at _ _ (g .2) _ (g .1) in
+    (g .0, g .1, m .0, m .1, g .3, g .4)
 
 offer-requires : tie.Need-offer-requires Inv-loop μ-loop
 unfolding rankOf
@@ -56,7 +62,7 @@ loop-again c =
     (l .inv .0, position-next _ (l .inv .1) (omega arith) _ e _ (c .offer .ensures))
 
 returns : tie.Need-returns Inv-loop μ-loop
-returns c = position-end _ _ _ _ _ (c .before .loop .inv .1) (omega arith)
+returns c = position-end _ _ _ (c .before .loop .inv .1) (omega arith)
 
 pub offer-moves-of-spec : {M : Type 1} → statement M
 offer-moves-of-spec =

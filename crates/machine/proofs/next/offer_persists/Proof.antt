@@ -1,5 +1,6 @@
 -- `offer_persists` meets its contract. Assumes nothing.
 use Prim.Native.Nat.{_-_}
+use mathlib.Core.List.{[]}
 use native.Mathlib.Omega.{arith}
 use Rattle.machine.specs.Next.{persistsFrom, rankOf}
 use Rattle.machine.specs.Offer.{nextWith, persistRuleAt}
@@ -8,14 +9,20 @@ use borrow.Author.Needs.{needs}
 use Rattle.machine.proofs.next.offer_persists.Statement.{statement}
 use Rattle.machine.proofs.next.offer_persists.Tie as tie
 
--- the persists from location l on, offered to the list so far, give what all of them give to the list at the
+-- the persists from queue q on, offered to the list so far, give what all of them give to the list at the
 -- start
 abbrev Inv-loop : tie.InvT-loop
-Inv-loop locations lengths ranks₀ count n₀ l₀ ranks n l =
-    OfferedSoFar (persistRuleAt lengths) persistsFrom 1 locations l (nextWith n ranks) (nextWith n₀ ranks₀)
+Inv-loop queues lengths ranks₀ count n₀ q₀ ranks n q =
+    OfferedSoFar (persistRuleAt (record {
+      buffers = [];
+      issued = [];
+      waiting = [];
+      marks = [];
+      lengths = lengths;
+    })) persistsFrom 1 queues q (nextWith n ranks) (nextWith n₀ ranks₀)
 
 abbrev μ-loop : tie.MeasureT-loop
-μ-loop locations lengths ranks₀ count n₀ l₀ ranks n l = locations - l
+μ-loop queues lengths ranks₀ count n₀ q₀ ranks n q = queues - q
 
 loop-holds : tie.Need-loop-holds Inv-loop μ-loop
 loop-holds c = offers-start _ _ _ _ _ (omega arith)
@@ -27,8 +34,8 @@ offer-requires : tie.Need-offer-requires Inv-loop μ-loop
 unfolding rankOf
 offer-requires c κs = (offers-low (c .before .before .before .loop .inv) (omega arith), omega arith)
 
-add-l : tie.Need-add-l Inv-loop μ-loop
-add-l c = search needs
+add-q : tie.Need-add-q Inv-loop μ-loop
+add-q c = search needs
 
 loop-less : tie.Need-loop-less Inv-loop μ-loop
 loop-less c = search needs
@@ -51,7 +58,7 @@ offer-persists-spec =
     loop-holds
     persist-rule-requires
     offer-requires
-    add-l
+    add-q
     loop-less
     loop-again
     returns)

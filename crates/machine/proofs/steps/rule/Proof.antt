@@ -1,8 +1,7 @@
 -- `rule` meets its contract: each kind of step has what its rule asks for. Assumes nothing.
 use denote.Ref.{now}
 use native.Mathlib.Omega.{arith}
-use Rattle.cases.proofs.ChoiceLaws.{choices}
-use Rattle.machine.specs.Rules.{ruleIn}
+use Rattle.machine.proofs.PartsLaws.{rule-issue, rule-move, rule-persist}
 use Rattle.machine.proofs.ReadyLaws.{issue-rule-ready, move-rule-ready, location-low}
 use Rattle.machine.proofs.steps.rule.Statement.{statement}
 use Rattle.machine.proofs.steps.rule.Tie as tie
@@ -13,8 +12,7 @@ issue-rule-requires c κs =
     issue-rule-ready _ (e .pre .0) _ (e .pre .4) (now (e .args .marks)) _ (e .pre .2) (e .pre .3) (omega arith)
 
 returns : tie.Need-returns
-unfolding ruleIn
-returns c = search choices
+returns c = rule-issue _ _ _ _ (c .before .if1 .taken) (c .issue-rule .ensures)
 
 move-rule-requires : tie.Need-move-rule-requires
 move-rule-requires c κs =
@@ -23,8 +21,7 @@ move-rule-requires c κs =
     (omega arith)
 
 returns-2 : tie.Need-returns-2
-unfolding ruleIn
-returns-2 c = search choices
+returns-2 c = rule-move _ _ _ _ (c .before .before .if1 .left) (c .before .if2 .taken) (c .move-rule .ensures)
 
 persist-rule-requires : tie.Need-persist-rule-requires
 persist-rule-requires c κs =
@@ -32,8 +29,8 @@ persist-rule-requires c κs =
     location-low _ (e .pre .0) (e .args .k) (e .pre .4) (λ z. omega arith) (λ z. omega arith)
 
 returns-3 : tie.Need-returns-3
-unfolding ruleIn
-returns-3 c = search choices
+returns-3 c =
+    rule-persist _ _ _ _ (c .before .before .if1 .left) (c .before .if2 .left) (c .persist-rule .ensures)
 
 pub rule-spec : {M : Type 1} → statement M
 rule-spec =

@@ -1,5 +1,5 @@
 -- `full_length` meets its contract. Assumes nothing.
-use Rattle.machine.specs.Work.{fullOf}
+use Rattle.machine.specs.Judge.{fullOf}
 use Rattle.cases.proofs.ChoiceLaws.{choices, told-true}
 use Rattle.machine.proofs.FitLaws.{readable-start}
 use Rattle.machine.proofs.WeighLaws.{full-told}

@@ -1,6 +1,6 @@
 -- `work_left` meets its contract. Assumes nothing.
 use Rattle.machine.specs.Fit.{Sized}
-use Rattle.machine.specs.Work.{workOf}
+use Rattle.machine.specs.Judge.{workOf}
 use Rattle.cases.proofs.ChoiceLaws.{choices, told, told-true}
 use Rattle.cases.proofs.ArrayLaws.{unmapped}
 use Rattle.machine.proofs.FitLaws.{readable-fits}

@@ -3,10 +3,11 @@ use Prim.Native.Nat.{ℕ, _+_, _*_, _-_, _<_, _≤_}
 use mathlib.Core.Path.{sym, ap, _∙_}
 use native.Mathlib.Omega.{arith}
 use lib.ListN.{length}
-use Rattle.cases.specs.Sizes.{mostSteps, stepSize}
+use Rattle.cases.specs.Sizes.{stepSize}
+use Rattle.machine.specs.Sizes.{mostWork}
 use Rattle.machine.specs.Work.{work}
 use Rattle.machine.proofs.Promises.{next-asks}
-use Rattle.search.proofs.LoopLaws.{left-spent, left-here, Walking, walking-start, walking-few}
+use Rattle.search.proofs.LoopLaws.{left-used-up, left-here, Walking, walking-start, walking-few}
 use Rattle.search.proofs.LoopLaws.{walking-end}
 use Rattle.search.proofs.TurnLaws.{turn-legal, turn-fits, turn-work, turn-length, turn-put}
 use Rattle.search.proofs.TurnLaws.{turn-room, turn-found, turn-stopped, turn-finished}
@@ -36,7 +37,7 @@ walk-below t = and 1 walk-kinds.ps (falls 1 walk-kinds.ps _<_ μ-walk t) walk.Pr
 -- the run fits the lent bytes; the next steps from position i on are still to be walked
 abbrev walk-Inv-loop : walk-lts.InvT-loop
 walk-Inv-loop p a budget depth run₀ u next left₀ i₀ run left i =
-    (depth + work p u ≤ mostSteps) × (stepSize * (depth + work p u) ≤ length run)
+    (depth + work p u ≤ mostWork) × (stepSize * (depth + work p u) ≤ length run)
     × Walking p a u budget next run₀ run left i
 
 abbrev walk-μ-loop : walk-lts.MeasureT-loop
@@ -62,7 +63,7 @@ walk-returns : (t : ℕ)
     → walk-lts.Need-returns (calls t) (walk-at t) walk.Post walk-Inv-loop walk-μ-loop
 walk-returns t c =
     let a = c .before .before .args in
-    let l = left-spent (a .p) (a .a) (a .s) (a .budget) (a .depth) (a .run .now) (c .if1 .taken) in
+    let l = left-used-up (a .p) (a .a) (a .s) (a .budget) (a .depth) (a .run .now) (c .if1 .taken) in
     (l .told, l .stored)
 
 walk-is-reached-requires : (t : ℕ)

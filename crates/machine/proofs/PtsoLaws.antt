@@ -1,0 +1,28 @@
+-- The machine of document 01 has the laws of a machine, and each of its steps uses up one. Assumes nothing.
+use mathlib.Core.Path.{refl}
+use native.Mathlib.Omega.{arith}
+use Rattle.cases.specs.declared.case.Program.{Program}
+use Rattle.machine.specs.Model.{Lawful, EachCostsOne}
+use Rattle.machine.specs.Fit.{ProgramFits, Fits}
+use Rattle.machine.specs.Next.{rankOf}
+use Rattle.machine.specs.Ptso.{ptso}
+use Rattle.machine.proofs.StartLaws.{start-fits}
+use Rattle.machine.proofs.RangeLaws.{fault-none}
+use Rattle.machine.proofs.StepLaws.{step-fits, step-work}
+use Rattle.machine.proofs.CandidateLaws.{candidate-fault, fault-candidate}
+use Rattle.machine.proofs.OrderLaws.{candidates-rise}
+
+pub each-costs-one : (p : Program) → EachCostsOne (ptso p)
+unfolding EachCostsOne
+each-costs-one p s k = refl
+
+pub ptso-lawful : (p : Program) → ProgramFits p → Lawful (ptso p) (Fits p) rankOf
+ptso-lawful p g =
+    record {
+      starts = start-fits p g;
+      keeps = λ s f k h e. step-fits p s f k (fault-none p k h) e;
+      lowers = λ s f k h e. step-work p s f k (fault-none p k h) e;
+      costs = λ s f k h e. omega arith;
+      complete = λ k. (candidate-fault p k, fault-candidate p k);
+      rises = candidates-rise p g;
+    }
