@@ -29,8 +29,8 @@ use Rattle.cases.specs.declared.record.Header.{Header}
 use Rattle.cases.specs.declared.record.Record.{Record}
 use Rattle.cases.specs.declared.record.Record.the-variants.{Declare, First, Instruct, Want, Passed, Take}
 use Rattle.cases.specs.Sizes.{mostThreads, mostInstructions, mostLocations, mostRegisters, mostSteps}
-use Rattle.cases.specs.Operations.{storeWord, storeRegister, exchange, flushOpt, lastOperation}
-use Rattle.cases.specs.Operations.{move, persist, lastCode}
+use Rattle.cases.specs.Operations.{storeWord, storeRegister, exchange, flushOpt, lastOperation, move}
+use Rattle.cases.specs.Operations.{persist, lastCode}
 use Rattle.cases.specs.Choice.{pick, both, either, refuse}
 
 -- where a kind stands in the order of kinds: by its number

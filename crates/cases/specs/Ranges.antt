@@ -10,8 +10,8 @@ use lib.ListN.{length, getD}
 use Rattle.cases.specs.declared.case.Case.{Case}
 use Rattle.cases.specs.declared.case.Program.{Program}
 use Rattle.cases.specs.declared.case.Instruction.{Instruction}
-use Rattle.cases.specs.Sizes.{mostThreads, mostInstructions, mostLocations}
-use Rattle.cases.specs.Sizes.{mostRegisters, mostSteps, allCode}
+use Rattle.cases.specs.Sizes.{mostThreads, mostInstructions, mostLocations, mostRegisters, mostSteps}
+use Rattle.cases.specs.Sizes.{allCode}
 use Rattle.cases.specs.Operations.{firstOperation, lastOperation}
 use Rattle.cases.specs.Checks.{countAt, limitsOf, stepFault}
 use Rattle.cases.specs.Draft.{noInstruction, noStep}

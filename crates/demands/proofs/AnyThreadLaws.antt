@@ -106,7 +106,8 @@ module _ (p : Program) (fits : ProgramFits p) where
             ∙ w .2
             ∙ ap (fixedFrom p middle (carriedAll p t) t) (last-one p t l (w .0) i (w .1) last)
 
-        go : Settles (p .threads) (coming p middle (carriedAll p t) l) (newest p middle l) (wordOf (then .end) l)
+        go : Settles (p .threads) (coming p middle (carriedAll p t) l) (newest p middle l)
+            (wordOf (then .end) l)
             → wordOf (then .end) l ≡ fixedFrom p middle (carriedAll p t) t i
         go (inl x) = absurd (some (x .0 t (in-threads p fits t i (last .there))))
         go (inr x) = at (x .0) (x .1) (x .2) (x .3) (ℕ-discrete (x .0) t)
@@ -121,7 +122,8 @@ module _ (p : Program) (fits : ProgramFits p) where
         legal = record {
           faultless = faultless-append (ptso p) (othersFrom p t 0 (p .threads)) (carriedAll p t) (first .1)
               (then .faultless);
-          leads = leads-append (ptso p) (startOf p) (othersFrom p t 0 (p .threads)) middle (carriedAll p t) (then .end)
+          leads = leads-append (ptso p) (startOf p) (othersFrom p t 0 (p .threads)) middle (carriedAll p t)
+              (then .end)
               (first .2) (then .leads);
         };
         over = work-stuck (ptso p) (ptso-lawful p fits) (then .end) (then .quiet .fit)

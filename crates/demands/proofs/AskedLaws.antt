@@ -32,10 +32,12 @@ module _ (s : List ℕ) (read : numberOf (readOf s .answer) ≡ 0) (b : ℕ) (ou
   reached-exactly n = (
     (λ e.
         let r = Search.question-reached s b out read room n .0 e in
-        let f = Search.reached-exactly (ptso (readOf s .case .program)) (reaches (readOf s .case .ask)) b (r .0) .0 (r .1) in
+        let f = Search.reached-exactly (ptso (readOf s .case .program)) (reaches (readOf s .case .ask)) b
+        (r .0) .0 (r .1) in
         (f .0, f .1, f .2, f .3, r .2 ∙ ap length (sym (f .4)))),
     (λ f.
-        let a = Search.reached-exactly (ptso (readOf s .case .program)) (reaches (readOf s .case .ask)) b (f .1 .run) .1
+        let a = Search.reached-exactly (ptso (readOf s .case .program)) (reaches (readOf s .case .ask)) b
+        (f .1 .run) .1
         (f .0, f .1, f .2, f .3, refl) in
         Search.question-reached s b out read room n .1 (f .1 .run, a, f .4)),
   )

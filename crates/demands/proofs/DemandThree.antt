@@ -70,7 +70,8 @@ module _ (c : Case) (readable : readsBack c ≡ true) where
     -- "So all runs that cannot go on have one length, known from the program alone."
     pub one-length : CannotGoOn (ptso (c .program)) u → length ks ≡ fullLength (ptso (c .program))
     one-length stuck =
-        EndLaws.one-length (ptso (c .program)) laws (each-costs-one (c .program)) (EndLaws.working (c .program)) ks u
+        EndLaws.one-length (ptso (c .program)) laws (each-costs-one (c .program))
+        (EndLaws.working (c .program)) ks u
         (record { legal = run; over = stuck })
 
     -- Where it cannot go on, every instruction is issued and no entry waits.
@@ -93,7 +94,8 @@ module _ (c : Case) (readable : readsBack c ≡ true) where
           r .0,
           r .1,
           r .2,
-          EndLaws.one-length (ptso (c .program)) laws (each-costs-one (c .program)) (EndLaws.working (c .program))
+          EndLaws.one-length (ptso (c .program)) laws (each-costs-one (c .program))
+              (EndLaws.working (c .program))
               (ks ++ r .0) (r .1) (r .2),
         )
 

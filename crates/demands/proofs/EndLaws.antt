@@ -1,5 +1,5 @@
--- A legal run goes on while there is something to do, and ends where there is nothing: of any machine, and of the
--- one of document 01. Assumes nothing.
+-- A legal run goes on while there is something to do, and ends where there is nothing: of any machine, and of
+-- the one of document 01. Assumes nothing.
 use Prim.Native.Nat.{ℕ, zero, suc, _+_, _-_, _≤_, _<_}
 use mathlib.Core.Path.{_≡_, refl}
 use mathlib.Core.Logic.{_⊎_, inl, inr, _≢_}
@@ -11,7 +11,8 @@ use Rattle.cases.specs.declared.case.Step.{Step}
 use Rattle.cases.specs.declared.case.Program.{Program}
 use Rattle.cases.specs.Checks.{limitsOf, queuesOf, stepFault, countAt}
 use Rattle.machine.specs.declared.cells.State.{State}
-use Rattle.machine.specs.Model.{Model, Lawful, EachCostsOne, Leads, Faultless, LegalRun, CannotGoOn, FinishedRun}
+use Rattle.machine.specs.Model.{Model, Lawful, EachCostsOne, Leads, Faultless, LegalRun, CannotGoOn}
+use Rattle.machine.specs.Model.{FinishedRun}
 use Rattle.machine.specs.Model.{spent, fullLength}
 use Rattle.machine.specs.View.{queue, buffer, issuedOf}
 use Rattle.machine.specs.Rules.{ruleOf}

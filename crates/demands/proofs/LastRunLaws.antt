@@ -39,7 +39,8 @@ module _ (p : Program) (t : ℕ) where
       }
 
   turn-more : (u : ℕ) (s : State) → u < p .threads → u ≢ t → Turn p t u s
-      → (v : State) × Faultless (ptso p) (carriedAll p u) × Leads (ptso p) s (carriedAll p u) v × Turn p t (suc u) v
+      → (v : State) × Faultless (ptso p) (carriedAll p u) × Leads (ptso p) s (carriedAll p u) v
+      × Turn p t (suc u) v
   turn-more u s low e o =
       let c = carries-all p u low s (o .quiet) (o .ahead u (omega arith)) in (
         c .end,
@@ -85,6 +86,7 @@ module _ (p : Program) (t : ℕ) where
           let rest = more (one .0) (omega arith) (one .3) in (
             rest .0,
             faultless-append (ptso p) (carriedAll p u) (othersFrom p t (suc u) n) (one .1) (rest .1),
-            leads-append (ptso p) s (carriedAll p u) (one .0) (othersFrom p t (suc u) n) (rest .0) (one .2) (rest .2),
+            leads-append (ptso p) s (carriedAll p u) (one .0) (othersFrom p t (suc u) n) (rest .0) (one .2)
+                (rest .2),
             rest .3,
           )

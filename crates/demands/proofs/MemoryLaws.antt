@@ -84,7 +84,8 @@ module _ (p : Program) (fits : ProgramFits p) where
       → fixedOf p ks t i ≡ instructionAt p t i .word
   unfolding fixedOf
   own-word ks u run t i there word =
-      let d = stuck-done p u (run-fits (ptso p) (ptso-lawful p fits) ks u (run .legal)) (run .over) .issued t (in-threads t i there) in
+      let d = stuck-done p u (run-fits (ptso p) (ptso-lawful p fits) ks u (run .legal)) (run .over) .issued
+      t (in-threads t i there) in
       fixed-word p (startOf p) ks u t i (start-fits p fits) (run .legal .faultless) (run .legal .leads)
       (let z = start-issued p t in omega arith) (omega arith) word
 

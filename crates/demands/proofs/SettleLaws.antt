@@ -58,7 +58,8 @@ module _ (p : Program) (l : ℕ) (low : l < p .locations) where
       )
 
   -- along a run to its end: what stands there is what was newest, or the last that some thread had to come
-  pub run-settles : (s : State) (ks : List Step) (u : State) → Fits p s → Faultless (ptso p) ks → Leads (ptso p) s ks u
+  pub run-settles : (s : State) (ks : List Step) (u : State) → Fits p s → Faultless (ptso p) ks
+      → Leads (ptso p) s ks u
       → Done p u
       → Settles (p .threads) (coming p s ks l) (newest p s l) (wordOf u l)
   unfolding Faultless Leads
@@ -74,7 +75,8 @@ module _ (p : Program) (l : ℕ) (low : l < p .locations) where
       (passing-newest p s k ks l o) rest)
 
   -- along any run: where nothing is queued and no thread has anything to come, the word stays
-  pub run-keeps : (s : State) (ks : List Step) (u : State) → Fits p s → Faultless (ptso p) ks → Leads (ptso p) s ks u
+  pub run-keeps : (s : State) (ks : List Step) (u : State) → Fits p s → Faultless (ptso p) ks
+      → Leads (ptso p) s ks u
       → onWay p s l ≡ []
       → ((t : ℕ) → t < p .threads → coming p s ks l t ≡ [])
       → wordOf u l ≡ wordOf s l

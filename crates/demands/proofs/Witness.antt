@@ -79,7 +79,8 @@ unfolding reading-computes
 program-first-sound = (refl, refl)
 
 -- lent bytes with room for a run of the full length, of any case: 8 for each step that a case can have
-pub room-enough : (c : Case) → readsBack c ≡ true → stepSize * fullLength (ptso (c .program)) ≤ stepSize * mostSteps
+pub room-enough : (c : Case) → readsBack c ≡ true
+    → stepSize * fullLength (ptso (c .program)) ≤ stepSize * mostSteps
 room-enough c readable = let most = full-length-most (c .program) (program-fits c readable) in omega arith
 
 -- a legal run, after which an instruction is unissued: the empty one
@@ -154,10 +155,12 @@ example-stops = record { within = omega arith; before = refl; broken = λ e. abs
 
 -- a question that is reached: the empty run does where nothing is asked for
 pub example-first :
-    FirstThat (reaches (example .ask)) (walkFrom (ptso (example .program))) [] (here (startOf (example .program)))
+    FirstThat (reaches (example .ask)) (walkFrom (ptso (example .program))) []
+    (here (startOf (example .program)))
 unfolding example emptyCase reaches reachesIn anyFrom missesAt misses lacksAt startOf None Listed both either
 example-first =
-    let w = walk-first (ptso (example .program)) (ptso-lawful (example .program) (program-fits example example-readable)) in
+    let w = walk-first (ptso (example .program))
+    (ptso-lawful (example .program) (program-fits example example-readable)) in
     record { after = w .0; stands = w .1; passes = refl; none = λ v h. absurd h }
 
 -- a question that is not, whatever is asked: of a budget of none

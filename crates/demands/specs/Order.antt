@@ -12,8 +12,8 @@ use Rattle.cases.specs.declared.draft.Draft.{Draft}
 use Rattle.cases.specs.declared.record.Record.{Record}
 use Rattle.cases.specs.declared.record.Record.the-variants.{Declare, First, Instruct, Want, Passed, Take}
 use Rattle.cases.specs.Sizes.{mostInstructions, mostSteps}
-use Rattle.cases.specs.Checks.{disordered, headerOut, instructionOut, instructionLeft, passedOut, limitsOf, stepOut}
-use Rattle.cases.specs.Checks.{stepLeft, countAt}
+use Rattle.cases.specs.Checks.{disordered, headerOut, instructionOut, instructionLeft, passedOut, limitsOf}
+use Rattle.cases.specs.Checks.{stepOut, stepLeft, countAt}
 
 unfoldable pub outOf : Draft → Record → Bool
 outOf d (Declare h) = headerOut h

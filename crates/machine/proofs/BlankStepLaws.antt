@@ -166,6 +166,7 @@ module _ (p : Program) where
       leads-blank (nextOf p s k) ks u (step-fits p s f k in-range (h .0))
       (step-blank p s f b k in-range (h .0)) (r .1) (h .1)
 
-  pub run-blank : (ks : List Step) (u : State) → ProgramFits p → Faultless (ptso p) ks → Leads (ptso p) (startOf p) ks u
+  pub run-blank : (ks : List Step) (u : State) → ProgramFits p → Faultless (ptso p) ks
+      → Leads (ptso p) (startOf p) ks u
       → BlankBehind u
   run-blank ks u fits = leads-blank (startOf p) ks u (start-fits p fits) (start-blank p)

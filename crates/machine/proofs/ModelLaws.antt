@@ -1,5 +1,5 @@
--- Laws of any machine (Model): which steps are next, runs behind runs, and, where it has its laws (Lawful), what
--- a legal run keeps and uses up. Assumes nothing.
+-- Laws of any machine (Model): which steps are next, runs behind runs, and, where it has its laws (Lawful),
+-- what a legal run keeps and uses up. Assumes nothing.
 use Prim.Native.Nat.{ℕ, _+_, _<_, _≤_}
 use mathlib.Core.Path.{_≡_, refl, sym, ap, _∙_}
 use mathlib.Core.Logic.{_⊎_, inl, inr}

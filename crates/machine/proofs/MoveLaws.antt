@@ -2,7 +2,7 @@
 -- from what the code has at hand. Assumes nothing.
 use Prim.Native.Nat.{ℕ, _+_, _*_, _≤_, _<_}
 use mathlib.Core.Path.{_≡_, refl, sym, ap, _∙_}
-use mathlib.Core.List.{List, _∷_}
+use mathlib.Core.List.{List, [], _∷_}
 use native.Mathlib.Omega.{arith}
 use native.Mathlib.Nat.{add-zero}
 use lib.ListN.{length, getD, drop}
@@ -20,14 +20,14 @@ use Rattle.machine.specs.Sizes.{room, allSlots}
 use Rattle.machine.specs.View.{queueOf, homeOf}
 use Rattle.machine.specs.View.{without, marksIn, queueIn, queue, queueLen, withQueue, wordOf, withWord}
 use Rattle.machine.specs.View.{blankWaiting, bufferIn, buffer, bufferLen, withBuffer}
-use Rattle.machine.specs.Parts.{Parts}
+use Rattle.machine.specs.Parts.{Parts, lent}
 use Rattle.machine.specs.Look.{wordOr}
 use Rattle.machine.specs.Rules.{entryAt, effectRule, effectOf, passRule, moveRule, moveOf}
 use Rattle.machine.specs.Rules.{persistFirst, persistOf}
 use Rattle.machine.specs.Fit.{ProgramFits, Named, Roomy}
 use Rattle.machine.proofs.PartLaws.{getD-part}
 use Rattle.machine.proofs.QueueOfLaws.{queue-low, home-low}
-use Rattle.machine.proofs.PartsLaws.{effectParts, effect-lent}
+use Rattle.machine.proofs.PartsLaws.{effect-lent}
 use Rattle.machine.proofs.LookLaws.{slots-next}
 
 -- Named: what it says of each entry that names a location
@@ -90,15 +90,16 @@ module _ (b : List Waiting) (waiting : List ℕ) (t i : ℕ) (h : i < getD waiti
   -- moveRule: at position 0; behind it
   module _ (p : Program) (issued marks lengths : List ℕ) (r : ℕ) where
     abbrev parts : Parts
-    parts = record { buffers = b; issued = issued; waiting = waiting; marks = marks; lengths = lengths }
+    parts = lent b issued waiting marks lengths
 
     pub move-first : i ≡ 0
-        → r ≡ effectRule p (effectParts parts) t (getD b (t * mostInstructions + i) blankWaiting .entry)
+        → r
+        ≡ effectRule p (lent [] [] [] marks lengths) t (getD b (t * mostInstructions + i) blankWaiting .entry)
         → r ≡ moveRule p parts t i
     unfolding moveRule
     move-first z e =
         refuse-next _ _ _ _ (lt-leb _ _ h)
-        (pick-here _ _ _ _ (eq-eqb _ _ z) (rw entry-is (e ∙ effect-lent parts p t _)))
+        (pick-here _ _ _ _ (eq-eqb _ _ z) (rw entry-is (e ∙ effect-lent p parts t _)))
 
     pub move-behind : (i ≡ 0 → ⊥)
         → r ≡ passRule p (bufferIn b waiting t) i (getD b (t * mostInstructions + i) blankWaiting .entry)

@@ -11,41 +11,36 @@ use Rattle.cases.specs.Sizes.{mostInstructions}
 use Rattle.cases.specs.Checks.{queuesOf}
 use Rattle.machine.specs.declared.next.Next.{Next}
 use Rattle.machine.specs.Sizes.{mostCandidates}
-use Rattle.machine.specs.Parts.{Parts}
-use Rattle.machine.specs.Rules.{ruleIn}
+use Rattle.machine.specs.Parts.{Parts, lent}
+use Rattle.machine.specs.Rules.{barrierRule, operationRule, issueRule, persistRule, ruleIn}
 use Rattle.machine.specs.Fit.{ProgramFits}
-use Rattle.machine.specs.Next.{issueStep, moveStep, persistStep, issuesFrom, movesAt, movesFrom}
+use Rattle.machine.specs.Next.{moveStep, issuesFrom, movesAt, movesFrom}
 use Rattle.machine.specs.Next.{persistsFrom, candidates, listed, nextIn}
-use Rattle.machine.specs.Offer.{nextWith, offered, offeredAll, issueRuleAt, moveRuleAt, persistRuleAt}
+use Rattle.machine.specs.Offer.{nextWith, offered, offeredAll}
 use Rattle.machine.proofs.QueueOfLaws.{few-queues}
-use Rattle.machine.proofs.PartsLaws.{issueParts, moveParts, persistParts}
-use Rattle.machine.proofs.PartsLaws.{issue-lent, move-lent, persist-lent}
+use Rattle.machine.proofs.PartsLaws.{move-lent}
 use Rattle.machine.proofs.OfferedLaws.{offered-all-listed, offered-append}
 
--- The rule of a step by its code is the rule over the parts it looks at
+-- The rule of a step over the parts that its function is lent is the rule over all
 module _ (p : Program) (x : Parts) where
-  issues-same : (t m : ℕ) (n : Next)
-      → offeredAll (issueRuleAt p (issueParts x)) (issuesFrom t m) n
+  pub issues-same : (t m : ℕ) (n : Next)
+      → offeredAll (ruleIn p (lent [] (x .issued) (x .waiting) (x .marks) (x .lengths))) (issuesFrom t m) n
       ≡ offeredAll (ruleIn p x) (issuesFrom t m) n
-  unfolding issuesFrom offeredAll issueRuleAt ruleIn pick
+  unfolding issuesFrom offeredAll ruleIn issueRule operationRule barrierRule pick
   issues-same t zero n = refl
-  issues-same t (suc m) n =
-      ap (λ r. offeredAll (issueRuleAt p (issueParts x)) (issuesFrom (suc t) m) (offered r (issueStep t) n))
-      (issue-lent x p t)
-      ∙ issues-same (suc t) m _
+  issues-same t (suc m) n = issues-same (suc t) m _
 
   positions-same : (t i m : ℕ) (n : Next)
-      → offeredAll (moveRuleAt p (moveParts x)) (movesAt t i m) n
+      → offeredAll (ruleIn p (lent (x .buffers) [] (x .waiting) (x .marks) (x .lengths))) (movesAt t i m) n
       ≡ offeredAll (ruleIn p x) (movesAt t i m) n
-  unfolding movesAt offeredAll moveRuleAt ruleIn pick
+  unfolding movesAt offeredAll ruleIn pick
   positions-same t i zero n = refl
   positions-same t i (suc m) n =
-      ap (λ r. offeredAll (moveRuleAt p (moveParts x)) (movesAt t (suc i) m) (offered r (moveStep t i) n))
-      (move-lent x p t i)
-      ∙ positions-same t (suc i) m _
+      positions-same t (suc i) m _
+      ∙ ap (λ r. offeredAll (ruleIn p x) (movesAt t (suc i) m) (offered r (moveStep t i) n)) (move-lent p x t i)
 
-  moves-same : (t m : ℕ) (n : Next)
-      → offeredAll (moveRuleAt p (moveParts x)) (movesFrom t m) n
+  pub moves-same : (t m : ℕ) (n : Next)
+      → offeredAll (ruleIn p (lent (x .buffers) [] (x .waiting) (x .marks) (x .lengths))) (movesFrom t m) n
       ≡ offeredAll (ruleIn p x) (movesFrom t m) n
   unfolding movesFrom
   moves-same t zero n = unfold offeredAll in refl
@@ -54,16 +49,12 @@ module _ (p : Program) (x : Parts) where
       ∙ rw (positions-same t 0 mostInstructions n)
       (moves-same (suc t) m _ ∙ sym (offered-append _ (movesAt t 0 mostInstructions) (movesFrom (suc t) m) n))
 
-  persists-same : (q m : ℕ) (n : Next)
-      → offeredAll (persistRuleAt (persistParts x)) (persistsFrom q m) n
+  pub persists-same : (q m : ℕ) (n : Next)
+      → offeredAll (ruleIn p (lent [] [] [] [] (x .lengths))) (persistsFrom q m) n
       ≡ offeredAll (ruleIn p x) (persistsFrom q m) n
-  unfolding persistsFrom offeredAll persistRuleAt ruleIn pick
+  unfolding persistsFrom offeredAll ruleIn persistRule pick
   persists-same q zero n = refl
-  persists-same q (suc m) n =
-      ap
-      (λ r. offeredAll (persistRuleAt (persistParts x)) (persistsFrom (suc q) m) (offered r (persistStep q) n))
-      (persist-lent x q)
-      ∙ persists-same (suc q) m _
+  persists-same q (suc m) n = persists-same (suc q) m _
 
 -- how many candidates there are
 pub length-issues : (t n : ℕ) → length (issuesFrom t n) ≡ n
@@ -106,26 +97,15 @@ module _ (p : Program) (g : ProgramFits p) where
 
   -- issues, then moves, then persists, offered to the empty list
   pub next-made : (x : Parts) (issues moves all : Next)
-      → issues
-      ≡ offeredAll (issueRuleAt p (issueParts x)) (issuesFrom 0 (p .threads))
-      (nextWith 0 (replicate mostCandidates 0))
-      → moves ≡ offeredAll (moveRuleAt p (moveParts x)) (movesFrom 0 (p .threads)) issues
-      → (queues : ℕ) → queues ≡ queuesOf p
-      → all ≡ offeredAll (persistRuleAt (persistParts x)) (persistsFrom 0 queues) moves
+      → issues ≡ offeredAll (ruleIn p x) (issuesFrom 0 (p .threads)) (nextWith 0 (replicate mostCandidates 0))
+      → moves ≡ offeredAll (ruleIn p x) (movesFrom 0 (p .threads)) issues
+      → all ≡ offeredAll (ruleIn p x) (persistsFrom 0 (queuesOf p)) moves
       → all ≡ nextIn p x
   unfolding nextIn listed
-  next-made x issues moves all a b queues q c =
+  next-made x issues moves all a b c =
       let few : 0 + length (candidates p) ≤ mostCandidates = let f = few-candidates in omega arith in
       let made = offered-all-listed (ruleIn p x) (candidates p) [] few in
-      rw (
-        c,
-        q,
-        b,
-        a,
-        issues-same p x 0 (p .threads),
-        moves-same p x 0 (p .threads),
-        persists-same p x 0 (queuesOf p),
-      )
+      rw (c, b, a)
       (sym (offered-append (ruleIn p x) (issuesFrom 0 (p .threads) ++ movesFrom 0 (p .threads))
       (persistsFrom 0 (queuesOf p)) (listed [])
       ∙ ap (offeredAll (ruleIn p x) (persistsFrom 0 (queuesOf p)))

@@ -3,7 +3,7 @@
 -- and one for the end. Assumes nothing.
 use Prim.Native.Nat.{ℕ, _+_, _*_, _-_, _≤_, _<_}
 use mathlib.Core.Path.{_≡_, sym, _∙_}
-use mathlib.Core.List.{List}
+use mathlib.Core.List.{List, []}
 use native.Mathlib.Omega.{arith}
 use borrow.Author.Tests.{le-leb, lt-leb}
 use lib.ListN.{getD}
@@ -16,13 +16,12 @@ use Rattle.machine.specs.declared.cells.Waiting.{Waiting}
 use Rattle.machine.specs.declared.next.Next.{Next}
 use Rattle.machine.specs.Sizes.{mostCandidates}
 use Rattle.machine.specs.View.{bufferIn}
-use Rattle.machine.specs.Parts.{Parts}
-use Rattle.machine.specs.Rules.{instructionAt, operationRule, issueRule, entryAt}
+use Rattle.machine.specs.Parts.{Parts, lent}
+use Rattle.machine.specs.Rules.{instructionAt, barrierRule, operationRule, issueRule, ruleIn, entryAt}
 use Rattle.machine.specs.Fit.{Named, ProgramFits}
 use Rattle.machine.specs.Next.{issueStep, moveStep, persistStep, issuesFrom, movesAt, movesFrom}
 use Rattle.machine.specs.Next.{persistsFrom}
-use Rattle.machine.specs.Offer.{offered, offeredAll, issueRuleAt, moveRuleAt, Movable}
-use Rattle.machine.proofs.PartsLaws.{operationParts, operation-lent}
+use Rattle.machine.specs.Offer.{offered, offeredAll, Movable}
 use Rattle.machine.proofs.OfferedLaws.{count-offered, count-offered-all, issues-next, issues-end}
 use Rattle.machine.proofs.OfferedLaws.{positions-next, positions-end, moves-next, moves-end}
 use Rattle.machine.proofs.OfferedLaws.{persists-next, persists-end}
@@ -111,21 +110,23 @@ module _ {rule : Step → ℕ} {most i : ℕ} {n start : Next} where
 
 -- the rule against a thread's issue: no instruction is left, or its operation decides
 module _ (p : Program) (x : Parts) (t : ℕ) where
-  pub issue-none : countAt p t ≤ getD (x .issued) t 0 → 21 ≡ issueRuleAt p x (issueStep t)
-  unfolding issueRuleAt issueRule refuse
+  pub issue-none : countAt p t ≤ getD (x .issued) t 0 → 21 ≡ issueRule p x t
+  unfolding issueRule refuse
   issue-none h = rw (le-leb _ _ h)
 
   pub issue-some : (broken : ℕ) → getD (x .issued) t 0 < countAt p t
-      → broken ≡ operationRule (instructionAt p t (getD (x .issued) t 0) .operation) (operationParts x) t
-      → broken ≡ issueRuleAt p x (issueStep t)
-  unfolding issueRuleAt issueRule refuse
-  issue-some broken h e = rw (lt-leb _ _ h) (e ∙ operation-lent x _ t)
+      → broken
+      ≡ operationRule (instructionAt p t (getD (x .issued) t 0) .operation)
+      (lent [] [] (x .waiting) (x .marks) (x .lengths)) t
+      → broken ≡ issueRule p x t
+  unfolding issueRule operationRule barrierRule refuse
+  issue-some broken h e = rw (lt-leb _ _ h) e
 
 -- behind a buffer's entries there is nothing to move
 pub position-end : (p : Program) (x : Parts) (t : ℕ) {most i : ℕ} {n start : Next}
-    → OfferedSoFar (moveRuleAt p x) (movesAt t) 1 most i n start
+    → OfferedSoFar (ruleIn p x) (movesAt t) 1 most i n start
     → getD (x .waiting) t 0 ≤ i
-    → n ≡ offeredAll (moveRuleAt p x) (movesAt t 0 most) start
+    → n ≡ offeredAll (ruleIn p x) (movesAt t 0 most) start
 position-end p x t {most} {i} {n} o h = sym (positions-end p x t (most - i) i n h) ∙ o .rest
 
 -- all issues make the list longer by one a thread at most, all moves by a buffer's depth a thread

@@ -18,11 +18,11 @@ use Rattle.cases.proofs.ChoiceLaws.{pick-true, pick-false, pick-cases}
 use Rattle.machine.specs.declared.next.Next.{Next}
 use Rattle.machine.specs.Sizes.{mostCandidates}
 use Rattle.machine.specs.Parts.{Parts}
-use Rattle.machine.specs.Rules.{moveRule}
+use Rattle.machine.specs.Rules.{moveRule, ruleIn}
 use Rattle.machine.specs.Next.{issueStep, moveStep, persistStep, issuesFrom, movesAt, movesFrom}
 use Rattle.machine.specs.Next.{persistsFrom, rankOf, listed}
 use Rattle.machine.specs.Model.{allowed}
-use Rattle.machine.specs.Offer.{nextWith, offered, offeredAll, moveRuleAt}
+use Rattle.machine.specs.Offer.{nextWith, offered, offeredAll}
 
 -- one more on the list
 push-pad : (m : ℕ) (xs : List ℕ) (r : ℕ)
@@ -154,14 +154,14 @@ module _ (rule : Step → ℕ) (i most : ℕ) (n : Next) where
 
 -- behind a buffer's entries there is nothing to move
 module _ (p : Program) (x : Parts) (t : ℕ) where
-  no-entry : (i : ℕ) → getD (x .waiting) t 0 ≤ i → moveRuleAt p x (moveStep t i) ≢ 0
-  unfolding moveRuleAt moveRule refuse
+  no-entry : (i : ℕ) → getD (x .waiting) t 0 ≤ i → ruleIn p x (moveStep t i) ≢ 0
+  unfolding ruleIn moveRule pick refuse
   no-entry i h = rw (le-leb _ _ h) (λ e. omega arith)
 
   pub positions-end : (m i : ℕ) (n : Next) → getD (x .waiting) t 0 ≤ i
-      → offeredAll (moveRuleAt p x) (movesAt t i m) n ≡ n
+      → offeredAll (ruleIn p x) (movesAt t i m) n ≡ n
   unfolding movesAt offeredAll
   positions-end zero i n h = refl
   positions-end (suc m) i n h =
       let e = offered-none _ (moveStep t i) n (no-entry i h) in
-      ap (offeredAll (moveRuleAt p x) (movesAt t (suc i) m)) e ∙ positions-end m (suc i) n (omega arith)
+      ap (offeredAll (ruleIn p x) (movesAt t (suc i) m)) e ∙ positions-end m (suc i) n (omega arith)

@@ -36,7 +36,8 @@ rule-low p s k = go (rule-table p s k)
     go (inr e) = let h = e .1 in omega arith
 
 -- a run of 96 steps at most: the place is their number, or an index below it
-run-low : (p : Program) (s : State) (ks : List Step) → length ks ≤ mostSteps → Low (judgeFrom (ptso p) 0 s ks .verdict)
+run-low : (p : Program) (s : State) (ks : List Step) → length ks ≤ mostSteps
+    → Low (judgeFrom (ptso p) 0 s ks .verdict)
 run-low p s ks h = go (leads-or-stops (ptso p) s ks)
   where
     go : ((u : State) × Leads (ptso p) s ks u) ⊎ ((n : ℕ) × (u : State) × StopsAt (ptso p) s ks n u)

@@ -129,7 +129,8 @@ module _ (p : Program) (fits : ProgramFits p) where
   full-length-most = StartLaws.full-most p fits
 
   -- every state that a legal run from its start reaches is blank behind its entries
-  pub run-blank : (ks : List Step) (u : State) → Faultless (ptso p) ks → Leads (ptso p) (startOf p) ks u → BlankBehind u
+  pub run-blank : (ks : List Step) (u : State) → Faultless (ptso p) ks → Leads (ptso p) (startOf p) ks u
+      → BlankBehind u
   run-blank ks u = BlankStepLaws.run-blank p ks u fits
 
   -- and two of them that have the same entries are the same state
@@ -193,7 +194,8 @@ module _ (c : Case) (readable : readsBack c ≡ true) where
         (λ e. illegal-says (ptso (c .program)) (startOf (c .program)) (runOf c) i (e .0) r (e .1) (e .2)),
       )
 
-  pub judge-illegal-state : (i : ℕ) (u : State) → StopsAt (ptso (c .program)) (startOf (c .program)) (runOf c) i u
+  pub judge-illegal-state : (i : ℕ) (u : State)
+      → StopsAt (ptso (c .program)) (startOf (c .program)) (runOf c) i u
       → judgeOf c .state ≡ u
   judge-illegal-state i u h = rw judge-is (state-is _ _ _ _ u (says-illegal _ _ _ i u h))
 
@@ -202,7 +204,8 @@ module _ (c : Case) (readable : readsBack c ≡ true) where
   run-faultless = RunLaws.run-faultless c (readable-ranged c readable)
 
   -- a legal run of it ends in a state that fits, and has used up one of the full length for each of its steps
-  pub legal-run-fits : (u : State) → Leads (ptso (c .program)) (startOf (c .program)) (runOf c) u → Fits (c .program) u
+  pub legal-run-fits : (u : State) → Leads (ptso (c .program)) (startOf (c .program)) (runOf c) u
+      → Fits (c .program) u
   legal-run-fits u h =
       leads-fits (ptso (c .program)) (ptso-lawful (c .program) program-fits) _ (runOf c) u
       (start-fits (c .program) program-fits) run-faultless h
@@ -211,7 +214,8 @@ module _ (c : Case) (readable : readsBack c ≡ true) where
       → work (c .program) u + length (runOf c) ≡ fullLength (ptso (c .program))
   unfolding fullLength
   legal-run-work u h =
-      let one = spent-length (ptso (c .program)) (each-costs-one (c .program)) (startOf (c .program)) (runOf c) in
+      let one = spent-length (ptso (c .program)) (each-costs-one (c .program)) (startOf (c .program))
+      (runOf c) in
       let all = leads-work (ptso (c .program)) (ptso-lawful (c .program) program-fits) _ (runOf c) u
       (start-fits (c .program) program-fits) run-faultless h in
       omega arith
@@ -255,7 +259,8 @@ run-again = RunLaws.run-again
 -- where they are a legal run of a case that passes the test for 32: the case with them passes it too, and the
 -- judge passes them, with their number and their end
 module _ (c : Case) (readable : readsBack c ≡ true) (ks : List Step) (u : State)
-    (faultless : Faultless (ptso (c .program)) ks) (legal : Leads (ptso (c .program)) (startOf (c .program)) ks u) where
+    (faultless : Faultless (ptso (c .program)) ks)
+    (legal : Leads (ptso (c .program)) (startOf (c .program)) ks u) where
   pub rerun-reads : readsBack (withRun c (runWith ks)) ≡ true
   rerun-reads = RunLaws.rerun-reads c readable ks u faultless legal
 

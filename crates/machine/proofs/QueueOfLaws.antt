@@ -7,14 +7,14 @@ use lib.Dec.{eqb}
 use Rattle.cases.specs.declared.case.Program.{Program}
 use Rattle.cases.specs.Sizes.{mostLocations}
 use Rattle.cases.specs.Checks.{queuesOf}
+use Rattle.cases.proofs.Promises as Cases
 use Rattle.machine.specs.View.{queueOf, homeOf}
 use Rattle.machine.specs.Fit.{ProgramFits}
 
 module _ (p : Program) (g : ProgramFits p) where
   -- a program has no more queues than there is room for
   pub few-queues : queuesOf p ≤ mostLocations
-  unfolding queuesOf
-  few-queues = g .few-locations
+  few-queues = Cases.few-queues p (g .few-locations)
 
   -- the queue of a location that it has is one that it has, and the queue of any location one that there is
   -- room for

@@ -100,7 +100,8 @@ module _ (p : Program) (s : State) where
   pub next-steps-are : ProgramFits p
       → map stepAt (take (nextSteps p s .count) (nextSteps p s .ranks)) ≡ legalSteps (ptso p) s
   next-steps-are g =
-      rw (next-is p s, ranks-front (legalSteps (ptso p) s)) (all-back (legalSteps (ptso p) s) (legal-back p s g))
+      rw (next-is p s, ranks-front (legalSteps (ptso p) s))
+      (all-back (legalSteps (ptso p) s) (legal-back p s g))
 
   pub next-step-here : ProgramFits p → (i : ℕ) → i < nextSteps p s .count
       → drop i (legalSteps (ptso p) s)

@@ -54,8 +54,8 @@ module _ (p : Program) (g : ProgramFits p) (k : Step) (faultless : stepFault (li
       let b = g .few-threads in
       omega arith
 
-  pub location-low : k .code ≢ 0 → k .code ≢ 1 → k .location .0 < mostLocations
-  location-low h n =
+  pub persist-low : k .code ≢ 0 → k .code ≢ 1 → k .location .0 < mostLocations
+  persist-low h n =
       let r = fault-none p k faultless in
       let c = r .low-code in
       let a = r .low-location (omega arith) in
@@ -175,7 +175,7 @@ module _ (p : Program) (s : State) (f : Fits p s) where
           → (k .location .0 < mostLocations) × (0 < queueLen s (k .location .0))
           × (queueLen s (k .location .0) ≤ room)
       persist-ready h g =
-          let low = location-low p (f .program) k faultless h g in
+          let low = persist-low p (f .program) k faultless h g in
           let r = fault-none p k faultless in
           let c = r .low-code in
           let range = r .low-location (omega arith) in (

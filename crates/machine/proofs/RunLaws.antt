@@ -134,7 +134,8 @@ run-again c ks = take-at ks (replicate (mostSteps - length ks) noStep) (length k
 -- where they are a legal run of a case that can be read: the case with them can be read, and the judge passes
 -- them
 module _ (c : Case) (readable : readsBack c ≡ true) (ks : List Step) (u : State)
-    (faultless : Faultless (ptso (c .program)) ks) (legal : Leads (ptso (c .program)) (startOf (c .program)) ks u) where
+    (faultless : Faultless (ptso (c .program)) ks)
+    (legal : Leads (ptso (c .program)) (startOf (c .program)) ks u) where
   pub rerun-reads : readsBack (withRun c (runWith ks)) ≡ true
   unfolding fullLength
   rerun-reads =

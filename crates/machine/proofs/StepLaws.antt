@@ -176,6 +176,7 @@ module _ (p : Program) (s : State) (f : Fits p s) (k : Step) where
       (persist-fits p s f (k .location .0))
 
   pub step-work : InRange p k → ruleOf p s k ≡ 0 → work p (nextOf p s k) + cost p s k ≡ work p s
+  unfolding cost
   step-work =
       step-cases p s k (λ u. work p u + 1 ≡ work p s)
       (issue-work p s f (k .thread .0))

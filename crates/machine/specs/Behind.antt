@@ -21,8 +21,8 @@ BlankFrom blank base n m xs = (i : ℕ) → n ≤ i → i < m → getD xs (base 
 -- length on up to a thread's instructions is the blank one. Of every queue and every buffer that there is room
 -- for, the program's or not.
 pub record BlankBehind (s : State) : Type 0 where
-  pub words-blank : (l : ℕ) → l < mostLocations → BlankFrom 0 (l * room) (queueLen s l) room (s .held)
-  pub marks-blank : (l : ℕ) → l < mostLocations → BlankFrom 0 (l * room) (queueLen s l) room (s .marks)
+  pub words-blank : (q : ℕ) → q < mostLocations → BlankFrom 0 (q * room) (queueLen s q) room (s .held)
+  pub marks-blank : (q : ℕ) → q < mostLocations → BlankFrom 0 (q * room) (queueLen s q) room (s .marks)
   pub entries-blank : (t : ℕ) → t < mostThreads
       → BlankFrom blankWaiting (t * mostInstructions) (bufferLen s t) mostInstructions (s .buffers)
 
@@ -33,5 +33,5 @@ pub record SameEntries (s u : State) : Type 0 where
   pub same-waiting : s .waiting ≡ u .waiting
   pub same-registers : s .registers ≡ u .registers
   pub same-issued : s .issued ≡ u .issued
-  pub same-queues : (l : ℕ) → l < mostLocations → queue s l ≡ queue u l
+  pub same-queues : (q : ℕ) → q < mostLocations → queue s q ≡ queue u q
   pub same-buffers : (t : ℕ) → t < mostThreads → buffer s t ≡ buffer u t

@@ -121,17 +121,17 @@ pub record Fits (p : Program) (s : State) : Type 0 where
   pub sized : Sized s
   pub few-issued : (t : ℕ) → t < mostThreads → issuedOf s t ≤ countAt p t
   pub few-waiting : (t : ℕ) → t < mostThreads → bufferLen s t + unissued p s t ≤ mostInstructions
-  pub few-queued : (l : ℕ) → l < mostLocations → queueLen s l + due p s ≤ room
+  pub few-queued : (q : ℕ) → q < mostLocations → queueLen s q + due p s ≤ room
   pub no-buffer : (t : ℕ) → t < mostThreads → p .threads ≤ t → bufferLen s t ≡ 0
   pub no-queue : (q : ℕ) → q < mostLocations → queuesOf p ≤ q → queueLen s q ≡ 0
   pub named : (t : ℕ) → t < mostThreads → AllNamed (p .locations) (buffer s t)
-  pub borne : (l : ℕ) → l < mostLocations → AllBorne (p .threads) (marksIn (s .marks) (s .lengths) l)
+  pub borne : (q : ℕ) → q < mostLocations → AllBorne (p .threads) (marksIn (s .marks) (s .lengths) q)
 
 -- What the machine's parts ask for where the whole state is not at hand.
 -- no queue is longer than its room
 unfoldable pub Shallow : List ℕ → Type 0
-Shallow lengths = (l : ℕ) → l < mostLocations → getD lengths l 0 ≤ room
+Shallow lengths = (q : ℕ) → q < mostLocations → getD lengths q 0 ≤ room
 
 -- no queue is full
 unfoldable pub Roomy : State → Type 0
-Roomy s = (l : ℕ) → l < mostLocations → queueLen s l < room
+Roomy s = (q : ℕ) → q < mostLocations → queueLen s q < room

@@ -28,8 +28,6 @@ use Rattle.machine.specs.declared.work.Weighed.{Weighed}
 use Rattle.machine.specs.declared.work.Weighed.the-variants.{Left, Unweighed}
 use Rattle.machine.specs.Model.{Model, fullLength}
 use Rattle.machine.specs.Rules.{startOf}
-use Rattle.machine.specs.Fit.{misfits}
-use Rattle.machine.specs.Work.{work}
 use Rattle.machine.specs.Ptso.{ptso}
 
 -- 01's number of a ruling: legal is 103
@@ -53,7 +51,7 @@ steppedOf m s k =
 unfoldable pub stepOf : Case → State → Step → Stepped
 stepOf c s k =
     pick (not (readsBack c)) (told (Declined 32) s)
-    (pick (misfits (c .program) s) (told (Declined 33) s)
+    (pick (ptso (c .program) .misfits s) (told (Declined 33) s)
     (steppedOf (ptso (c .program)) s k))
 
 -- the empty case's start, where 32 stops it
@@ -74,8 +72,8 @@ weighedWork (Unweighed m) = 0
 unfoldable pub workOf : Case → State → Weighed
 workOf c s =
     pick (not (readsBack c)) (Unweighed 32)
-    (pick (misfits (c .program) s) (Unweighed 33)
-    (Left (work (c .program) s)))
+    (pick (ptso (c .program) .misfits s) (Unweighed 33)
+    (Left (ptso (c .program) .left s)))
 
 unfoldable pub fullOf : Case → Weighed
 fullOf c = pick (not (readsBack c)) (Unweighed 32) (Left (fullLength (ptso (c .program))))

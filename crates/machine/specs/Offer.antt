@@ -3,21 +3,18 @@
 --   nextWith c r           the first c of the ranks r, as such a list
 --   offered rule k n       the list n, with the step k behind it where it breaks no rule
 --   offeredAll rule ks n   the same for each of the steps ks
---   issueRuleAt, moveRuleAt, persistRuleAt   the rule of a step, over the parts of the state that it looks at
 -- Assumes nothing.
 use Prim.Native.Nat.{ℕ, _+_, _<_, _≤_}
 use mathlib.Core.List.{List, [], _∷_}
 use lib.ListN.{set, getD}
 use lib.Dec.{eqb}
 use Rattle.cases.specs.declared.case.Step.{Step}
-use Rattle.cases.specs.declared.case.Program.{Program}
 use Rattle.cases.specs.Choice.{pick}
 use Rattle.cases.specs.Sizes.{mostThreads, mostInstructions, mostLocations}
 use Rattle.machine.specs.declared.cells.Waiting.{Waiting}
 use Rattle.machine.specs.declared.next.Next.{Next}
 use Rattle.machine.specs.View.{bufferIn}
-use Rattle.machine.specs.Parts.{Parts}
-use Rattle.machine.specs.Rules.{issueRule, moveRule, persistRule, entryAt}
+use Rattle.machine.specs.Rules.{entryAt}
 use Rattle.machine.specs.Fit.{Named}
 use Rattle.machine.specs.Next.{rankOf}
 
@@ -31,15 +28,6 @@ offered broken k n =
 unfoldable pub offeredAll : (Step → ℕ) → List Step → Next → Next
 offeredAll rule [] n = n
 offeredAll rule (k ∷ ks) n = offeredAll rule ks (offered (rule k) k n)
-
-unfoldable pub issueRuleAt : Program → Parts → Step → ℕ
-issueRuleAt p x k = issueRule p x (k .thread .0)
-
-unfoldable pub moveRuleAt : Program → Parts → Step → ℕ
-moveRuleAt p x k = moveRule p x (k .thread .0) (k .position)
-
-unfoldable pub persistRuleAt : Parts → Step → ℕ
-persistRuleAt x k = persistRule x (k .location .0)
 
 -- every thread's buffer is within its depth, and its first entry names a location that there is
 unfoldable pub Movable : List Waiting → List ℕ → Type 0

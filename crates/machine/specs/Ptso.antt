@@ -1,4 +1,5 @@
--- The machine of document 01, PTSOsyn, for a program: one among machines.
+-- The machine of document 01, PTSOsyn: one among machines (Model).
+--   ptso p    the machine, for the program p
 -- Assumes nothing.
 use Rattle.cases.specs.declared.case.Step.{Step}
 use Rattle.cases.specs.declared.case.Program.{Program}

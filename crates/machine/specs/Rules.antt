@@ -25,8 +25,8 @@ use Rattle.cases.specs.declared.case.Step.{Step}
 use Rattle.cases.specs.declared.case.Program.{Program}
 use Rattle.cases.specs.Choice.{pick, either, refuse}
 use Rattle.cases.specs.Sizes.{mostThreads, mostInstructions, mostLocations, allCode}
-use Rattle.cases.specs.Operations.{storeWord, storeRegister, load, exchange, flush, flushOpt, mfence}
-use Rattle.cases.specs.Operations.{issue, move}
+use Rattle.cases.specs.Operations.{storeWord, storeRegister, load, exchange, flush, flushOpt, mfence, issue}
+use Rattle.cases.specs.Operations.{move}
 use Rattle.cases.specs.Checks.{countAt}
 use Rattle.cases.specs.Draft.{noInstruction}
 use Rattle.machine.specs.declared.cells.State.{State}
@@ -34,10 +34,9 @@ use Rattle.machine.specs.declared.cells.Waiting.{Waiting}
 use Rattle.machine.specs.declared.cells.Entry.{Entry}
 use Rattle.machine.specs.declared.cells.Entry.the-variants.{Store, Flush, FlushOpt, Sfence}
 use Rattle.machine.specs.Sizes.{allSlots, allRegisters}
-use Rattle.machine.specs.View.{Slot, queueOf, homeOf, writeSlot, markerSlot}
-use Rattle.machine.specs.View.{without, queue, withQueue, blankWaiting}
-use Rattle.machine.specs.View.{bufferIn, buffer, withBuffer, wordOf, withWord}
-use Rattle.machine.specs.View.{registerIn, withRegister, issuedOf, withIssued}
+use Rattle.machine.specs.View.{Slot, queueOf, homeOf, writeSlot, markerSlot, without, queue, withQueue}
+use Rattle.machine.specs.View.{blankWaiting, bufferIn, buffer, withBuffer, wordOf, withWord, registerIn}
+use Rattle.machine.specs.View.{withRegister, issuedOf, withIssued}
 use Rattle.machine.specs.Parts.{Parts, partsOf}
 use Rattle.machine.specs.Look.{wordOr, queuedWord, loadOf, marked, firstBar}
 

@@ -1,5 +1,5 @@
--- The lens through which the rules speak: a state's parts as lists. Queue l is the first so many of the slots
--- from l * room on, buffer t the first so many of the entries from t * mostInstructions on; what stands behind
+-- The lens through which the rules speak: a state's parts as lists. Queue q is the first so many of the slots
+-- from q * room on, buffer t the first so many of the entries from t * mostInstructions on; what stands behind
 -- them is not looked at and not changed, whatever it is.
 --   part base n xs          the first n of xs from base on
 --   put blank base n q xs   xs with q from base on; of the n that stood there, those given up are blank
@@ -78,24 +78,24 @@ unfoldable pub homeOf : ℕ → ℕ → ℕ
 homeOf q mark = q
 
 abbrev pub queueLen : State → ℕ → ℕ
-queueLen s l = getD (s .lengths) l 0
+queueLen s q = getD (s .lengths) q 0
 
 unfoldable pub marksIn : List ℕ → List ℕ → ℕ → List ℕ
-marksIn marks lengths l = part (l * room) (getD lengths l 0) marks
+marksIn marks lengths q = part (q * room) (getD lengths q 0) marks
 
 unfoldable pub queueIn : List ℕ → List ℕ → List ℕ → ℕ → List Slot
-queueIn held marks lengths l = slots (part (l * room) (getD lengths l 0) held) (marksIn marks lengths l)
+queueIn held marks lengths q = slots (part (q * room) (getD lengths q 0) held) (marksIn marks lengths q)
 
 abbrev pub queue : State → ℕ → List Slot
-queue s l = queueIn (s .held) (s .marks) (s .lengths) l
+queue s q = queueIn (s .held) (s .marks) (s .lengths) q
 
 unfoldable pub withQueue : State → ℕ → List Slot → State
-withQueue s l q =
+withQueue s q hs =
     record {
       words = s .words;
-      held = put 0 (l * room) (queueLen s l) (wordsOf q) (s .held);
-      marks = put 0 (l * room) (queueLen s l) (marksOf q) (s .marks);
-      lengths = set (s .lengths) l (length q);
+      held = put 0 (q * room) (queueLen s q) (wordsOf hs) (s .held);
+      marks = put 0 (q * room) (queueLen s q) (marksOf hs) (s .marks);
+      lengths = set (s .lengths) q (length hs);
       buffers = s .buffers;
       waiting = s .waiting;
       registers = s .registers;

@@ -74,5 +74,5 @@ unfoldable pub programWeight : Program → ℕ → ℕ
 programWeight p t = weighCode (part (t * mostInstructions) (countAt p t) (p .code))
 
 -- the same for every legal step today
-abbrev pub cost : Program → State → Step → ℕ
+unfoldable pub cost : Program → State → Step → ℕ
 cost p s k = 1

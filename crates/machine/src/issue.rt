@@ -29,6 +29,7 @@ ghost use Rattle.cases.specs.Sizes.{mostThreads, mostInstructions, mostLocation
 ghost use Rattle.cases.specs.Checks.{countAt};
 ghost use Rattle.machine.specs.Sizes.{room, allSlots};
 ghost use Rattle.machine.specs.View.{queueOf, queueLen, bufferLen, issuedOf};
+ghost use Rattle.machine.specs.Parts.{lent};
 ghost use Rattle.machine.specs.Rules.{instructionAt, isBarrier, barrierRule, operationRule};
 ghost use Rattle.machine.specs.Rules.{issueRule, entryOf, loaded, exchanged, performed, issueOf, await};
 ghost use Rattle.machine.specs.Fit.{Shallow};
@@ -50,13 +51,8 @@ fn barrier_rule<'a>(
     t: Thread,
 ) -> u8
     requires { ⌜ (t .0 < mostThreads) × Shallow (now lengths) × (length (now marks) ≡ allSlots) ⌝ }
-    ensures { λ r. ⌜ r ≡ barrierRule (record {
-      buffers = [];
-      issued = [];
-      waiting = now (waiting .entry);
-      marks = now (marks .entry);
-      lengths = now (lengths .entry);
-    }) (t .0) ⌝ }
+    ensures { λ r. ⌜ r ≡ barrierRule
+        (lent [] [] (now (waiting .entry)) (now (marks .entry)) (now (lengths .entry))) (t .0) ⌝ }
 {
     if 0 < waiting[t.0 as usize] {
         return 22;
@@ -75,13 +71,8 @@ pub(crate) fn operation_rule<'a>(
     t: Thread,
 ) -> u8
     requires { ⌜ (t .0 < mostThreads) × Shallow (now lengths) × (length (now marks) ≡ allSlots) ⌝ }
-    ensures { λ r. ⌜ r ≡ operationRule op (record {
-      buffers = [];
-      issued = [];
-      waiting = now (waiting .entry);
-      marks = now (marks .entry);
-      lengths = now (lengths .entry);
-    }) (t .0) ⌝ }
+    ensures { λ r. ⌜ r ≡ operationRule op
+        (lent [] [] (now (waiting .entry)) (now (marks .entry)) (now (lengths .entry))) (t .0) ⌝ }
 {
     if is_barrier(op) {
         return barrier_rule(waiting, marks, lengths, t);
@@ -100,13 +91,8 @@ pub(crate) fn issue_rule<'a>(
 ) -> u8
     requires { ⌜ (t .0 < mostThreads) × (countAt p (t .0) ≤ mostInstructions) × Shallow (now lengths)
         × (length (now marks) ≡ allSlots) ⌝ }
-    ensures { λ r. ⌜ r ≡ issueRule p (record {
-      buffers = [];
-      issued = now (issued .entry);
-      waiting = now (waiting .entry);
-      marks = now (marks .entry);
-      lengths = now (lengths .entry);
-    }) (t .0) ⌝ }
+    ensures { λ r. ⌜ r ≡ issueRule p (lent [] (now (issued .entry))
+        (now (waiting .entry)) (now (marks .entry)) (now (lengths .entry))) (t .0) ⌝ }
 {
     let q = p;
     let at = t.0 as usize;

@@ -20,6 +20,7 @@ ghost use lib.ListN.{length, getD};
 ghost use Rattle.cases.specs.Sizes.{mostThreads, mostInstructions, mostLocations};
 ghost use Rattle.machine.specs.Sizes.{room, allSlots};
 ghost use Rattle.machine.specs.View.{queueLen, bufferIn, buffer, bufferLen};
+ghost use Rattle.machine.specs.Parts.{lent};
 ghost use Rattle.machine.specs.Rules.{effectRule, effectOf, passRule, entryAt, moveRule, moveOf};
 ghost use Rattle.machine.specs.Rules.{persistRule, persistOf};
 ghost use Rattle.machine.specs.Fit.{ProgramFits, Named, Shallow, Roomy};
@@ -34,13 +35,7 @@ fn effect_rule<'a>(
 ) -> u8
     requires { ⌜ ProgramFits p × (t .0 < mostThreads) × Named mostLocations e × Shallow (now lengths)
         × (length (now marks) ≡ allSlots) ⌝ }
-    ensures { λ r. ⌜ r ≡ effectRule p (record {
-      buffers = [];
-      issued = [];
-      waiting = [];
-      marks = now (marks .entry);
-      lengths = now (lengths .entry);
-    }) (t .0) e ⌝ }
+    ensures { λ r. ⌜ r ≡ effectRule p (lent [] [] [] (now (marks .entry)) (now (lengths .entry))) (t .0) e ⌝ }
 {
     match e {
         Entry::Store(_) => 0,
@@ -99,13 +94,8 @@ pub(crate) fn move_rule<'a>(
     requires { ⌜ ProgramFits p × (t .0 < mostThreads) × (getD (now waiting) (t .0) 0 ≤ mostInstructions)
         × Named mostLocations (entryAt (bufferIn buffers (now waiting) (t .0)) 0) × Shallow (now lengths)
         × (length (now marks) ≡ allSlots) ⌝ }
-    ensures { λ r. ⌜ r ≡ moveRule p (record {
-      buffers = buffers;
-      issued = [];
-      waiting = now (waiting .entry);
-      marks = now (marks .entry);
-      lengths = now (lengths .entry);
-    }) (t .0) i ⌝ }
+    ensures { λ r. ⌜ r ≡ moveRule p
+        (lent buffers [] (now (waiting .entry)) (now (marks .entry)) (now (lengths .entry))) (t .0) i ⌝ }
 {
     let b = buffers;
     let at = t.0 as usize;
@@ -135,8 +125,9 @@ fn take_effect(p: Program, s: State, t: Thread, e: Entry) -> State
 
 // The entry at a position moved, where it breaks no rule.
 pub(crate) fn move_entry(p: Program, s: State, t: Thread, i: u8) -> State
-    requires { ⌜ ProgramFits p × (t .0 < mostThreads) × (i < bufferLen s (t .0)) × (bufferLen s (t .0) ≤ mostInstructions)
-        × Named mostLocations (entryAt (buffer s (t .0)) i) × Roomy s ⌝ }
+    requires { ⌜ ProgramFits p × (t .0 < mostThreads) × (i < bufferLen s (t .0))
+        × (bufferLen s (t .0) ≤ mostInstructions) × Named mostLocations (entryAt (buffer s (t .0)) i)
+        × Roomy s ⌝ }
     ensures { λ r. ⌜ r ≡ moveOf p s (t .0) i ⌝ }
 {
     let mut u = s;
@@ -155,13 +146,7 @@ pub(crate) fn move_entry(p: Program, s: State, t: Thread, i: u8) -> State
 // The rule that persisting a queue's oldest entry breaks; 0 where it is legal.
 pub(crate) fn persist_rule<'a>(lengths: &'a [u8; LOCATIONS], q: Queue) -> u8
     requires { ⌜ q .0 < mostLocations ⌝ }
-    ensures { λ r. ⌜ r ≡ persistRule (record {
-      buffers = [];
-      issued = [];
-      waiting = [];
-      marks = [];
-      lengths = now (lengths .entry);
-    }) (q .0) ⌝ }
+    ensures { λ r. ⌜ r ≡ persistRule (lent [] [] [] [] (now (lengths .entry))) (q .0) ⌝ }
 {
     if lengths[q.0 as usize] == 0 {
         return 29;

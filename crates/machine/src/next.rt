@@ -25,12 +25,14 @@ ghost use mathlib.Core.List.{[]};
 ghost use lib.ListN.{length};
 ghost use Prim.Native.Nat.{_+_, _*_, _<_, _≤_};
 ghost use Rattle.cases.specs.Sizes.{mostThreads, mostInstructions, mostLocations};
+ghost use Rattle.cases.specs.Checks.{queuesOf};
 ghost use Rattle.machine.specs.Sizes.{allSlots, mostCandidates};
+ghost use Rattle.machine.specs.Parts.{lent};
+ghost use Rattle.machine.specs.Rules.{ruleIn};
 ghost use Rattle.machine.specs.Fit.{ProgramFits, Shallow};
 ghost use Rattle.machine.specs.Next.{issuesFrom, movesAt, movesFrom, persistsFrom};
 ghost use Rattle.machine.specs.Next.{rankOf, stepAt, nextIn};
 ghost use Rattle.machine.specs.Offer.{nextWith, offered, offeredAll, Movable};
-ghost use Rattle.machine.specs.Offer.{issueRuleAt, moveRuleAt, persistRuleAt};
 
 // The first `count` ranks are those of the legal next steps; the others are 0.
 pub struct Next {
@@ -98,14 +100,8 @@ fn offer_issues<'a>(
 ) -> u8
     requires { ⌜ ProgramFits p × Shallow (now lengths) × (length (now marks) ≡ allSlots)
         × (count + mostThreads ≤ mostCandidates) ⌝ }
-    ensures { λ r. ⌜ nextWith r (now (ranks .exit)) ≡ offeredAll
-        (issueRuleAt p (record {
-          buffers = [];
-          issued = now (issued .entry);
-          waiting = now (waiting .entry);
-          marks = now (marks .entry);
-          lengths = now (lengths .entry);
-        }))
+    ensures { λ r. ⌜ nextWith r (now (ranks .exit)) ≡ offeredAll (ruleIn p (lent [] (now (issued .entry))
+        (now (waiting .entry)) (now (marks .entry)) (now (lengths .entry))))
         (issuesFrom 0 (p .threads)) (nextWith count (now (ranks .entry))) ⌝ }
 {
     // once for all threads: what is handed on by value is copied each time
@@ -150,13 +146,7 @@ fn offer_moves_of<'a>(
     requires { ⌜ ProgramFits p × (t .0 < mostThreads) × Movable buffers (now waiting) × Shallow (now lengths)
         × (length (now marks) ≡ allSlots) × (count + mostInstructions ≤ mostCandidates) ⌝ }
     ensures { λ r. ⌜ nextWith r (now (ranks .exit)) ≡ offeredAll
-        (moveRuleAt p (record {
-          buffers = buffers;
-          issued = [];
-          waiting = now (waiting .entry);
-          marks = now (marks .entry);
-          lengths = now (lengths .entry);
-        }))
+        (ruleIn p (lent buffers [] (now (waiting .entry)) (now (marks .entry)) (now (lengths .entry))))
         (movesAt (t .0) 0 mostInstructions) (nextWith count (now (ranks .entry))) ⌝ }
 {
     let many = waiting[t.0 as usize];
@@ -192,13 +182,7 @@ fn offer_moves<'a>(
     requires { ⌜ ProgramFits p × Movable buffers (now waiting) × Shallow (now lengths)
         × (length (now marks) ≡ allSlots) × (count + mostThreads * mostInstructions ≤ mostCandidates) ⌝ }
     ensures { λ r. ⌜ nextWith r (now (ranks .exit)) ≡ offeredAll
-        (moveRuleAt p (record {
-          buffers = buffers;
-          issued = [];
-          waiting = now (waiting .entry);
-          marks = now (marks .entry);
-          lengths = now (lengths .entry);
-        }))
+        (ruleIn p (lent buffers [] (now (waiting .entry)) (now (marks .entry)) (now (lengths .entry))))
         (movesFrom 0 (p .threads)) (nextWith count (now (ranks .entry))) ⌝ }
 {
     let mut n = count;
@@ -211,23 +195,17 @@ fn offer_moves<'a>(
 }
 
 fn offer_persists<'a>(
-    queues: u8,
+    p: Program,
     lengths: &'a [u8; LOCATIONS],
     ranks: &mut [u8; CANDIDATES],
     count: u8,
 ) -> u8
-    requires { ⌜ (queues ≤ mostLocations) × (count + mostLocations ≤ mostCandidates) ⌝ }
+    requires { ⌜ ProgramFits p × (count + mostLocations ≤ mostCandidates) ⌝ }
     ensures { λ r. ⌜ nextWith r (now (ranks .exit)) ≡ offeredAll
-        (persistRuleAt (record {
-          buffers = [];
-          issued = [];
-          waiting = [];
-          marks = [];
-          lengths = now (lengths .entry);
-        }))
-        (persistsFrom 0 queues)
-        (nextWith count (now (ranks .entry))) ⌝ }
+        (ruleIn p (lent [] [] [] [] (now (lengths .entry))))
+        (persistsFrom 0 (queuesOf p)) (nextWith count (now (ranks .entry))) ⌝ }
 {
+    let queues = checks::queues_of(p);
     let mut n = count;
     let mut q: u8 = 0;
     while q < queues {
@@ -259,18 +237,13 @@ pub fn next_steps<'a>(
 ) -> Next
     requires { ⌜ ProgramFits p × Movable buffers (now waiting) × Shallow (now lengths)
         × (length (now marks) ≡ allSlots) ⌝ }
-    ensures { λ r. ⌜ r ≡ nextIn p (record {
-      buffers = buffers;
-      issued = now (issued .entry);
-      waiting = now (waiting .entry);
-      marks = now (marks .entry);
-      lengths = now (lengths .entry);
-    }) ⌝ }
+    ensures { λ r. ⌜ r ≡ nextIn p (lent buffers (now (issued .entry))
+        (now (waiting .entry)) (now (marks .entry)) (now (lengths .entry))) ⌝ }
 {
     let mut ranks = [0u8; CANDIDATES];
     let issues = offer_issues(p, issued, waiting, marks, lengths, &mut ranks, 0);
     let moves = offer_moves(p, buffers, waiting, marks, lengths, &mut ranks, issues);
-    let count = offer_persists(checks::queues_of(p), lengths, &mut ranks, moves);
+    let count = offer_persists(p, lengths, &mut ranks, moves);
     Next {
         count: count,
         ranks: ranks,

@@ -23,6 +23,7 @@ ghost use mathlib.Core.Path.{_≡_};
 ghost use lib.ListN.{length};
 ghost use Rattle.cases.specs.Checks.{limitsOf, stepFault};
 ghost use Rattle.machine.specs.Sizes.{allSlots};
+ghost use Rattle.machine.specs.Parts.{lent};
 ghost use Rattle.machine.specs.Rules.{ruleIn, ruleOf, nextOf, startOf};
 ghost use Rattle.machine.specs.Fit.{Fits, ProgramFits, Shallow};
 ghost use Rattle.machine.specs.Offer.{Movable};
@@ -87,13 +88,8 @@ pub(crate) fn rule<'a>(
 ) -> u8
     requires { ⌜ ProgramFits p × Movable buffers (now waiting) × Shallow (now lengths)
         × (length (now marks) ≡ allSlots) × (stepFault (limitsOf p) k ≡ 0) ⌝ }
-    ensures { λ r. ⌜ r ≡ ruleIn p (record {
-      buffers = buffers;
-      issued = now (issued .entry);
-      waiting = now (waiting .entry);
-      marks = now (marks .entry);
-      lengths = now (lengths .entry);
-    }) k ⌝ }
+    ensures { λ r. ⌜ r ≡ ruleIn p (lent buffers (now (issued .entry))
+        (now (waiting .entry)) (now (marks .entry)) (now (lengths .entry))) k ⌝ }
 {
     let code = k.code;
     if code == ISSUE {

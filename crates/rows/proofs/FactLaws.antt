@@ -30,7 +30,8 @@ listed-same f g x (y ∷ ys) e (inr h) = let rest : map f ys ≡ map g ys = cc i
 
 module _ (s : List ℕ) (b : ℕ) (out : List ℕ) (read : numberOf (readOf s .answer) ≡ 0)
     (room : stepSize * fullLength (ptso (readOf s .case .program)) ≤ length out) where
-  pub asked-told : (d : Decided Step) → askOf (ptso (readOf s .case .program)) (reaches (readOf s .case .ask)) b ≡ d
+  pub asked-told : (d : Decided Step)
+      → askOf (ptso (readOf s .case .program)) (reaches (readOf s .case .ask)) b ≡ d
       → questionOf s (length out) b ≡ toldOf d
   unfolding toldOf
   asked-told (reached run) e = question-reached s b out read room (length run) .1 (run, e, refl)
@@ -40,7 +41,8 @@ module _ (s : List ℕ) (b : ℕ) (out : List ℕ) (read : numberOf (readOf s .a
   untold : (o : Outcome) → outcomeNo o ≢ 100 → questionOf s (length out) b ≡ o → shownOf s b out ≡ out
   untold o other e = only-reached-stores s b out (λ h. other (ap outcomeNo (sym e) ∙ h))
 
-  pub asked-shown : (d : Decided Step) → askOf (ptso (readOf s .case .program)) (reaches (readOf s .case .ask)) b ≡ d
+  pub asked-shown : (d : Decided Step)
+      → askOf (ptso (readOf s .case .program)) (reaches (readOf s .case .ask)) b ≡ d
       → shownOf s b out ≡ shownBy d out
   unfolding shownBy toldOf
   asked-shown (reached run) e = shown-run s b out read room run e

@@ -51,7 +51,8 @@ pub data Said : Type 0 where
 
 unfoldable pub said : Row → Said
 said (asked rs full b d) =
-    answers (rowNumber rs) (fullLength (ptso (rowProgram rs))) (askOf (ptso (rowProgram rs)) (reaches (rowAsk rs)) b)
+    answers (rowNumber rs) (fullLength (ptso (rowProgram rs)))
+    (askOf (ptso (rowProgram rs)) (reaches (rowAsk rs)) b)
 said (ruled rs v) = rules (judgeBytes (bytesOf rs) .verdict)
 said (opened rs n at) = opens (rowNumber rs) (rowOffset rs)
 

@@ -68,7 +68,8 @@ reached-short m laws test b run e =
     omega arith
 
 module _ (p : Program) (fits : ProgramFits p) (a : Ask) (b : ℕ) where
-  sought-is : (x : Sought Step) → seek (reaches a) b (walkOf (ptso p) (startOf p)) ≡ x → askOf (ptso p) (reaches a) b ≡ comesTo x
+  sought-is : (x : Sought Step) → seek (reaches a) b (walkOf (ptso p) (startOf p)) ≡ x
+      → askOf (ptso p) (reaches a) b ≡ comesTo x
   unfolding askOf walkFrom
   sought-is x e = sym (seek-decides (reaches a) b (walkOf (ptso p) (startOf p))) ∙ ap comesTo e
 
@@ -80,7 +81,8 @@ module _ (p : Program) (fits : ProgramFits p) (a : Ask) (b : ℕ) where
 
     -- the buffer is too short
     pub answer-short : length out < stepSize * w
-        → (Refused 31 0 ≡ answerFor (ptso p) (reaches a) (length out) b) × (out ≡ shownFor (ptso p) (reaches a) b out)
+        → (Refused 31 0 ≡ answerFor (ptso p) (reaches a) (length out) b)
+        × (out ≡ shownFor (ptso p) (reaches a) b out)
     unfolding answerFor shownFor short
     answer-short h =
         let e = full-is in
@@ -95,9 +97,11 @@ module _ (p : Program) (fits : ProgramFits p) (a : Ask) (b : ℕ) where
       sought = seek (reaches a) b (walkOf (ptso p) s)
 
       abbrev Answers : Outcome → Type 0
-      Answers o = (o ≡ answerFor (ptso p) (reaches a) (length out) b) × (last ≡ shownFor (ptso p) (reaches a) b out)
+      Answers o = (o ≡ answerFor (ptso p) (reaches a) (length out) b)
+          × (last ≡ shownFor (ptso p) (reaches a) b out)
 
-      answer-as : (o : Outcome) → o ≡ toldOf (askOf (ptso p) (reaches a) b) → last ≡ shownBy (askOf (ptso p) (reaches a) b) out → Answers o
+      answer-as : (o : Outcome) → o ≡ toldOf (askOf (ptso p) (reaches a) b)
+          → last ≡ shownBy (askOf (ptso p) (reaches a) b) out → Answers o
       unfolding answerFor shownFor short
       answer-as o e f =
           let g = full-is in
@@ -167,6 +171,8 @@ module _ (s : List ℕ) (r : Reading) (r-is : r ≡ readOf s) (n : ℕ) (n-is : 
     unfolding questionOf shownOf
     question-read b out o last e =
         let t = eq-eqb (numberOf (readOf s .answer)) 0 (sym number-is ∙ h) in
-        let same = ap (λ (x : Reading). answerFor (ptso (x .case .program)) (reaches (x .case .ask)) (length out) b) r-is in
-        let shown = ap (λ (x : Reading). shownFor (ptso (x .case .program)) (reaches (x .case .ask)) b out) r-is in
+        let same = ap (λ (x : Reading). answerFor (ptso (x .case .program)) (reaches (x .case .ask))
+        (length out) b) r-is in
+        let shown = ap (λ (x : Reading). shownFor (ptso (x .case .program)) (reaches (x .case .ask)) b out)
+        r-is in
         (e .0 ∙ same ∙ sym (pick-true _ _ _ t), e .1 ∙ shown ∙ sym (pick-true _ _ _ t))

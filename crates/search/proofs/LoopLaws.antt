@@ -74,7 +74,8 @@ pub record Walking (p : Program) (a : Ask) (s : State) (b : ℕ) (next : Next) (
   pub list : next ≡ nextSteps p s
   pub within : i ≤ next .count
   pub kept : out ≡ before
-  pub same : seek (reaches a) left (restOf p s (drop i (legalSteps (ptso p) s))) ≡ seek (reaches a) b (walkOf (ptso p) s)
+  pub same : seek (reaches a) left (restOf p s (drop i (legalSteps (ptso p) s)))
+      ≡ seek (reaches a) b (walkOf (ptso p) s)
 
 pub walking-start : (p : Program) (a : Ask) (s : State) (b : ℕ) (next : Next) (out : List ℕ) → Fits p s → b ≢ 0
     → reachesIn (a .wanted) (a .want) (a .passed) (s .words) (s .issued) ≡ false

@@ -1,5 +1,5 @@
--- The walk of a model: with some of its legal steps next, or all, it is a machine that can be walked; with all it
--- lists exactly the legal runs. Assumes nothing.
+-- The walk of a model: with some of its legal steps next, or all, it is a machine that can be walked; with all
+-- it lists exactly the legal runs. Assumes nothing.
 use Prim.Native.Nat.{ℕ, suc, _+_, _≤_}
 use mathlib.Core.Path.{_≡_, refl, ap, _∙_}
 use mathlib.Core.Logic.{inl, inr}
@@ -81,7 +81,8 @@ module _ {S K : Type 0} (m : Model S K) {Fit : S → Type 0} {rank : K → ℕ} 
   module _ (s : S) (f : Fit s) (ks : List K) (u : S) where
     pub walk-leads : Listed (record { run = ks; end = u }) (walkOf m s) → Faultless m ks × Leads m s ks u
     unfolding walkOf
-    walk-leads h = thinned-leads (legalSteps m) all-thin s ks u (walk-runs (machineOf m) (suc (m .left s)) s _ h)
+    walk-leads h = thinned-leads (legalSteps m) all-thin s ks u
+        (walk-runs (machineOf m) (suc (m .left s)) s _ h)
 
     pub leads-walk : Faultless m ks → Leads m s ks u → Listed (record { run = ks; end = u }) (walkOf m s)
     unfolding walkOf

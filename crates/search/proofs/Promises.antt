@@ -114,7 +114,8 @@ module _ {S K : Type 0} (m : Model S K) (test : S → Bool) (b : ℕ) where
   )
 
   -- unreachable exactly when the budget covers the whole walk and no run reaches
-  pub unreachable-exactly : (askOf m test b ≡ unreachable) ↔ ((length (walkFrom m) ≤ b) × None test (walkFrom m))
+  pub unreachable-exactly : (askOf m test b ≡ unreachable)
+      ↔ ((length (walkFrom m) ≤ b) × None test (walkFrom m))
   unfolding askOf
   unreachable-exactly = (
     BudgetLaws.unreachable-is test b (walkFrom m),
@@ -144,7 +145,8 @@ module _ {S : Type 0} (m : Model S Step) (test : S → Bool) (b : ℕ) where
   walked-rest = WalkedLaws.walked-rest m test b
 
 -- a budget of just the runs before the first that reaches decides nothing: one less than where that run stands
-pub one-less-undecided : {S K : Type 0} (m : Model S K) (test : S → Bool) (before : List (Visit S K)) (v : Visit S K)
+pub one-less-undecided : {S K : Type 0} (m : Model S K) (test : S → Bool) (before : List (Visit S K))
+    (v : Visit S K)
     → FirstThat test (walkFrom m) before v
     → askOf m test (length before) ≡ undecided
 unfolding askOf
@@ -184,7 +186,8 @@ module _ (s : List ℕ) (b : ℕ) (out : List ℕ) where
 
       -- "the first such run, as kind 6 records in the lent buffer": from the front, and nothing behind is
       -- touched
-      pub shown-run : (run : List Step) → askOf (ptso (readOf s .case .program)) (reaches (readOf s .case .ask)) b ≡ reached run
+      pub shown-run : (run : List Step)
+          → askOf (ptso (readOf s .case .program)) (reaches (readOf s .case .ask)) b ≡ reached run
           → shownOf s b out ≡ stepsBytes run ++ drop (stepSize * length run) out
       shown-run = QuestionLaws.shown-run s b out read room
 

@@ -25,7 +25,8 @@ use Rattle.search.specs.Question.{shownBy, shownFor, shownOf}
 use Rattle.search.proofs.ModelLaws.{walk-short}
 use Rattle.search.proofs.AskLaws.{reached-short}
 
-pub walk-first : {S K : Type 0} (m : Model S K) → (rest : List (Visit S K)) × (walkFrom m ≡ here (m .start) ∷ rest)
+pub walk-first : {S K : Type 0} (m : Model S K)
+    → (rest : List (Visit S K)) × (walkFrom m ≡ here (m .start) ∷ rest)
 unfolding walkFrom walkOf walk
 walk-first m = (_, refl)
 
@@ -69,7 +70,8 @@ module _ (s : List ℕ) (room b : ℕ) where
     question-short h = pick-true _ _ _ (eq-eqb _ _ read) ∙ pick-true _ _ _ (lt-ltb _ _ h)
 
     module _ (h : stepSize * fullLength (ptso (readOf s .case .program)) ≤ room) where
-      told : questionOf s room b ≡ toldOf (askOf (ptso (readOf s .case .program)) (reaches (readOf s .case .ask)) b)
+      told : questionOf s room b ≡ toldOf
+          (askOf (ptso (readOf s .case .program)) (reaches (readOf s .case .ask)) b)
       unfolding questionOf answerFor short
       told = pick-true _ _ _ (eq-eqb _ _ read) ∙ pick-false _ _ _ (le-ltb _ _ h)
 
@@ -139,7 +141,8 @@ unfolding questionOf shownOf
 steps-not-looked-at s t g h p a b out =
     let x = eq-eqb (numberOf (readOf s .answer)) 0 g in
     let y = eq-eqb (numberOf (readOf t .answer)) 0 h in (
-      pick-true _ _ _ x ∙ (λ i. answerFor (ptso (p i)) (reaches (a i)) (length out) b) ∙ sym (pick-true _ _ _ y),
+      pick-true _ _ _ x ∙ (λ i. answerFor (ptso (p i)) (reaches (a i)) (length out) b) ∙
+          sym (pick-true _ _ _ y),
       pick-true _ _ _ x ∙ (λ i. shownFor (ptso (p i)) (reaches (a i)) b out) ∙ sym (pick-true _ _ _ y),
     )
 

@@ -24,7 +24,8 @@ use Rattle.machine.specs.Rules.{startOf}
 use Rattle.machine.specs.Model.{fullLength, Leads, Faultless}
 use Rattle.machine.specs.Judge.{judged, judgeOf, judgeBytes}
 use Rattle.machine.specs.Ptso.{ptso}
-use Rattle.machine.proofs.Promises.{program-fits, ptso-lawful, start-fits, full-length-most, judge-read, rerun-reads}
+use Rattle.machine.proofs.Promises.{program-fits, ptso-lawful, start-fits, full-length-most, judge-read}
+use Rattle.machine.proofs.Promises.{rerun-reads}
 use Rattle.machine.proofs.Promises.{rerun-passes}
 use Rattle.search.specs.Walk.{walkOf, walkFrom}
 use Rattle.search.specs.Question.{reaches, reached, askOf, shownOf}
@@ -46,7 +47,8 @@ reached-leads c h b run q =
     let r = reached-is (reaches (c .ask)) b (walkOf (ptso (c .program)) (startOf (c .program))) run q in
     let v = r .1 in
     let on = first-on (reaches (c .ask)) (walkOf (ptso (c .program)) (startOf (c .program))) (r .0) v (r .2) in
-    let l = walk-leads (ptso (c .program)) (ptso-lawful (c .program) (program-fits c h)) (startOf (c .program)) fits
+    let l = walk-leads (ptso (c .program)) (ptso-lawful (c .program) (program-fits c h))
+    (startOf (c .program)) fits
     (v .run) (v .end) on in (
       v .end,
       subst (Faultless (ptso (c .program))) (r .4) (l .0),

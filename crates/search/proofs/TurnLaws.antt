@@ -90,7 +90,8 @@ module _ {p : Program} {a : Ask} {s : State} {b : ℕ} {next : Next} {before out
 
         on-from : Sought Step → Sought Step
         on-from x =
-            onward (behindStep k x) (λ n. seek (reaches a) n (restOf p s (drop (i + 1) (legalSteps (ptso p) s))))
+            onward (behindStep k x) (λ n. seek (reaches a) n
+            (restOf p s (drop (i + 1) (legalSteps (ptso p) s))))
 
         -- the lent bytes are as many as before, so that there is room for the step's record
         pub turn-length : length last ≡ length out

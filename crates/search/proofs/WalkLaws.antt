@@ -88,8 +88,8 @@ module _ {S K : Type 0} (m : Machine S K) where
       let rest = starting-same f g s ks (λ j l. h j (inr l)) in
       λ i. map (under k) (here i) ++ rest i
 
-  -- of a machine that can be walked: a run stays among the states that fit, and has no more steps than it uses up
-  -- of the work
+  -- of a machine that can be walked: a run stays among the states that fit, and has no more steps than it uses
+  -- up of the work
   module _ {Fit : S → Type 0} {left : S → ℕ} {rank : K → ℕ} (laws : Walkable m Fit left rank) where
     pub runs-fit : (s : S) (ks : List K) (u : S) → Fit s → Runs m s ks u → Fit u
     unfolding Runs
@@ -104,8 +104,8 @@ module _ {S K : Type 0} (m : Machine S K) where
         let b = laws .lowers s f k (r .0) in
         omega arith
 
-    -- "It never goes deeper than the full length, a number that falls at each step down": above the work left the
-    -- walk is the same list, whatever depth it is given
+    -- "It never goes deeper than the full length, a number that falls at each step down": above the work left
+    -- the walk is the same list, whatever depth it is given
     pub walk-enough : (n j : ℕ) (s : S) → Fit s → left s < n → left s < j → walk m n s ≡ walk m j s
     unfolding walk
     walk-enough zero j s f a b = absurd (omega arith)

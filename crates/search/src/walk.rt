@@ -39,7 +39,8 @@ pub(crate) fn walk(
     requires { ⌜ Fits p s × (depth + work p s ≤ mostWork)
         × (stepSize * (depth + work p s) ≤ length (now run)) ⌝ }
     ensures { λ r. ⌜ (r ≡ walkedOf depth (seek (reaches a) budget (walkOf (ptso p) s)))
-        × (now (run .exit) ≡ storedOf depth (seek (reaches a) budget (walkOf (ptso p) s)) (now (run .entry))) ⌝ }
+        × (now (run .exit) ≡ storedOf depth (seek (reaches a) budget (walkOf (ptso p) s))
+        (now (run .entry))) ⌝ }
 {
     if budget == 0 {
         return Walked::Stopped;

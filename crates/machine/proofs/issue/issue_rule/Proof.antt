@@ -1,6 +1,5 @@
 -- `issue_rule` meets its contract. Assumes nothing.
 use Rattle.machine.specs.Rules.{issueRule}
-use Rattle.machine.specs.Offer.{issueRuleAt}
 use Rattle.cases.proofs.ChoiceLaws.{choices}
 use Rattle.machine.proofs.OfferLaws.{issue-some}
 use borrow.Author.Needs.{needs}
@@ -39,7 +38,6 @@ operation-rule-requires : tie.Need-operation-rule-requires
 operation-rule-requires c κs = search needs
 
 returns-2 : tie.Need-returns-2
-unfolding issueRuleAt
 returns-2 c = issue-some _ _ _ _ (c .before .before .if1 .left) (c .operation-rule .ensures)
 
 pub issue-rule-spec : {M : Type 1} → statement M

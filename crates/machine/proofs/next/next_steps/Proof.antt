@@ -1,8 +1,6 @@
 -- `next_steps` meets its contract. Assumes nothing.
-use mathlib.Core.Path.{refl}
-use native.Mathlib.Omega.{arith}
-use Rattle.machine.proofs.QueueOfLaws.{few-queues}
-use Rattle.machine.proofs.NextLaws.{next-made}
+use mathlib.Core.Path.{refl, _∙_}
+use Rattle.machine.proofs.NextLaws.{issues-same, moves-same, persists-same, next-made}
 use Rattle.machine.proofs.OfferLaws.{moves-room, persists-room}
 use borrow.Author.Needs.{needs}
 use Rattle.machine.proofs.next.next_steps.Statement.{statement}
@@ -17,26 +15,19 @@ offer-moves-requires c κs =
     let room = moves-room _ (g .0) _ _ refl _ (c .before .offer-issues .ensures) in
     (g .0, g .1, g .2, g .3, room)
 
-queues-of-requires : tie.Need-queues-of-requires
-queues-of-requires c κs = search needs
-
 offer-persists-requires : tie.Need-offer-persists-requires
 offer-persists-requires c κs =
-    let b = c .before .before in
-    let g = b .before .before .before .before .pre in
-    let e = b .before .before .offer-issues .ensures in
-    let few = few-queues _ (g .0) in
-    let room = persists-room _ (g .0) _ _ refl _ e _ _ (b .offer-moves .ensures) in
-    let n = c .before .queues-of .ensures in
-    (omega arith, omega arith)
+    let g = c .before .before .before .before .before .pre in
+    let e = c .before .before .before .offer-issues .ensures in
+    (g .0, persists-room _ (g .0) _ _ refl _ e _ _ (c .before .offer-moves .ensures))
 
 returns : tie.Need-returns
 returns c =
-    let b = c .before .before .before in
+    let b = c .before .before in
     let g = b .before .before .before .before .pre in
     let e = b .before .before .offer-issues .ensures in
-    next-made _ (g .0) _ _ _ _ e (b .offer-moves .ensures) _ (c .before .before .queues-of .ensures)
-    (c .offer-persists .ensures)
+    next-made _ (g .0) _ _ _ _ (e ∙ issues-same _ _ 0 _ _) (b .offer-moves .ensures ∙ moves-same _ _ 0 _ _)
+    (c .offer-persists .ensures ∙ persists-same _ _ 0 _ _)
 
 pub next-steps-spec : {M : Type 1} → statement M
 next-steps-spec =
@@ -44,6 +35,5 @@ next-steps-spec =
     (tie.spec
     offer-issues-requires
     offer-moves-requires
-    queues-of-requires
     offer-persists-requires
     returns)

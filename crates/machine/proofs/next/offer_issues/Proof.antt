@@ -4,9 +4,12 @@ use mathlib.Core.Path.{_∙_}
 use mathlib.Core.Logic.{⊎-elim}
 use mathlib.Core.List.{[]}
 use native.Mathlib.Omega.{arith}
+use Rattle.cases.specs.Choice.{pick}
 use Rattle.cases.specs.Sizes.{mostThreads}
+use Rattle.machine.specs.Parts.{lent}
+use Rattle.machine.specs.Rules.{ruleIn}
 use Rattle.machine.specs.Next.{issuesFrom, rankOf}
-use Rattle.machine.specs.Offer.{nextWith, issueRuleAt}
+use Rattle.machine.specs.Offer.{nextWith}
 use Rattle.machine.proofs.OfferLaws.{OfferedSoFar, offers-start, offers-low, issue-next}
 use Rattle.machine.proofs.OfferLaws.{issue-end, issue-none, issue-some}
 use borrow.Author.Needs.{needs}
@@ -17,13 +20,8 @@ use Rattle.machine.proofs.next.offer_issues.Tie as tie
 abbrev Inv-loop : tie.InvT-loop
 Inv-loop issued waiting marks lengths ranks₀ count q n₀ t₀ ranks n t =
     (q .threads ≤ mostThreads)
-    × OfferedSoFar (issueRuleAt q (record {
-      buffers = [];
-      issued = issued;
-      waiting = waiting;
-      marks = marks;
-      lengths = lengths;
-    })) issuesFrom 1 (q .threads) t (nextWith n ranks) (nextWith n₀ ranks₀)
+    × OfferedSoFar (ruleIn q (lent [] issued waiting marks lengths)) issuesFrom 1 (q .threads) t
+    (nextWith n ranks) (nextWith n₀ ranks₀)
 
 abbrev μ-loop : tie.MeasureT-loop
 μ-loop issued waiting marks lengths ranks₀ count q n₀ t₀ ranks n t = q .threads - t
@@ -87,6 +85,7 @@ loop-less : tie.Need-loop-less Inv-loop μ-loop
 loop-less c = search needs
 
 loop-again : tie.Need-loop-again Inv-loop μ-loop
+unfolding ruleIn pick
 loop-again c =
     let l = c .before .before .before .before .before .before .loop in
     let e =

@@ -3,8 +3,10 @@ use Prim.Native.Nat.{_-_}
 use mathlib.Core.List.{[]}
 use native.Mathlib.Omega.{arith}
 use Rattle.cases.specs.Sizes.{mostInstructions}
+use Rattle.machine.specs.Parts.{lent}
+use Rattle.machine.specs.Rules.{ruleIn}
 use Rattle.machine.specs.Next.{movesFrom}
-use Rattle.machine.specs.Offer.{nextWith, moveRuleAt}
+use Rattle.machine.specs.Offer.{nextWith}
 use Rattle.machine.proofs.OfferLaws.{OfferedSoFar, offers-start, offers-room, thread-next, thread-end}
 use borrow.Author.Needs.{needs}
 use Rattle.machine.proofs.next.offer_moves.Statement.{statement}
@@ -13,13 +15,8 @@ use Rattle.machine.proofs.next.offer_moves.Tie as tie
 -- the moves from thread t on, offered to the list so far, give what all of them give to the list at the start
 abbrev Inv-loop : tie.InvT-loop
 Inv-loop p buffers waiting marks lengths ranks₀ count n₀ t₀ ranks n t =
-    OfferedSoFar (moveRuleAt p (record {
-      buffers = buffers;
-      issued = [];
-      waiting = waiting;
-      marks = marks;
-      lengths = lengths;
-    })) movesFrom mostInstructions (p .threads) t (nextWith n ranks) (nextWith n₀ ranks₀)
+    OfferedSoFar (ruleIn p (lent buffers [] waiting marks lengths)) movesFrom mostInstructions
+    (p .threads) t (nextWith n ranks) (nextWith n₀ ranks₀)
 
 abbrev μ-loop : tie.MeasureT-loop
 μ-loop p buffers waiting marks lengths ranks₀ count n₀ t₀ ranks n t = p .threads - t

@@ -2,9 +2,12 @@
 use Prim.Native.Nat.{_-_, _≤_}
 use mathlib.Core.List.{[]}
 use native.Mathlib.Omega.{arith}
+use Rattle.cases.specs.Choice.{pick}
 use Rattle.cases.specs.Sizes.{mostInstructions}
+use Rattle.machine.specs.Parts.{lent}
+use Rattle.machine.specs.Rules.{ruleIn}
 use Rattle.machine.specs.Next.{movesAt, rankOf}
-use Rattle.machine.specs.Offer.{nextWith, moveRuleAt}
+use Rattle.machine.specs.Offer.{nextWith}
 use Rattle.machine.proofs.OfferLaws.{OfferedSoFar, offers-start, offers-low, movable-at}
 use Rattle.machine.proofs.OfferLaws.{position-next, position-end}
 use borrow.Author.Needs.{needs}
@@ -16,13 +19,8 @@ use Rattle.machine.proofs.next.offer_moves_of.Tie as tie
 abbrev Inv-loop : tie.InvT-loop
 Inv-loop p t buffers waiting marks lengths ranks₀ count many n₀ i₀ ranks n i =
     (many ≤ mostInstructions)
-    × OfferedSoFar (moveRuleAt p (record {
-      buffers = buffers;
-      issued = [];
-      waiting = waiting;
-      marks = marks;
-      lengths = lengths;
-    })) (movesAt (t .0)) 1 mostInstructions i (nextWith n ranks) (nextWith n₀ ranks₀)
+    × OfferedSoFar (ruleIn p (lent buffers [] waiting marks lengths)) (movesAt (t .0)) 1
+    mostInstructions i (nextWith n ranks) (nextWith n₀ ranks₀)
 
 abbrev μ-loop : tie.MeasureT-loop
 μ-loop p t buffers waiting marks lengths ranks₀ count many n₀ i₀ ranks n i = many - i
@@ -55,7 +53,7 @@ loop-less : tie.Need-loop-less Inv-loop μ-loop
 loop-less c = search needs
 
 loop-again : tie.Need-loop-again Inv-loop μ-loop
-unfolding moveRuleAt
+unfolding ruleIn pick
 loop-again c =
     let l = c .before .before .before .before .loop in
     let e = c .before .before .move-rule .ensures in

@@ -1,38 +1,48 @@
 -- `offer_persists` meets its contract. Assumes nothing.
-use Prim.Native.Nat.{_-_}
+use Prim.Native.Nat.{_-_, _≤_}
 use mathlib.Core.List.{[]}
 use native.Mathlib.Omega.{arith}
+use Rattle.cases.specs.declared.case.Program.{Program}
+use Rattle.cases.specs.Choice.{pick}
+use Rattle.cases.specs.Sizes.{mostLocations}
+use Rattle.machine.specs.Parts.{lent}
+use Rattle.machine.specs.Rules.{ruleIn}
 use Rattle.machine.specs.Next.{persistsFrom, rankOf}
-use Rattle.machine.specs.Offer.{nextWith, persistRuleAt}
+use Rattle.machine.specs.Offer.{nextWith}
+use Rattle.machine.proofs.QueueOfLaws.{few-queues}
 use Rattle.machine.proofs.OfferLaws.{OfferedSoFar, offers-start, offers-low, persist-next, persist-end}
 use borrow.Author.Needs.{needs}
 use Rattle.machine.proofs.next.offer_persists.Statement.{statement}
 use Rattle.machine.proofs.next.offer_persists.Tie as tie
 
 -- the persists from queue q on, offered to the list so far, give what all of them give to the list at the
--- start
+-- start, whatever the program: only how many queues it has is kept in the loop
 abbrev Inv-loop : tie.InvT-loop
-Inv-loop queues lengths ranks₀ count n₀ q₀ ranks n q =
-    OfferedSoFar (persistRuleAt (record {
-      buffers = [];
-      issued = [];
-      waiting = [];
-      marks = [];
-      lengths = lengths;
-    })) persistsFrom 1 queues q (nextWith n ranks) (nextWith n₀ ranks₀)
+Inv-loop lengths ranks₀ count queues n₀ q₀ ranks n q =
+    (queues ≤ mostLocations)
+    × ((p : Program) → OfferedSoFar (ruleIn p (lent [] [] [] [] lengths)) persistsFrom 1 queues q
+    (nextWith n ranks) (nextWith n₀ ranks₀))
 
 abbrev μ-loop : tie.MeasureT-loop
-μ-loop queues lengths ranks₀ count n₀ q₀ ranks n q = queues - q
+μ-loop lengths ranks₀ count queues n₀ q₀ ranks n q = queues - q
+
+queues-of-requires : tie.Need-queues-of-requires Inv-loop μ-loop
+queues-of-requires c κs = search needs
 
 loop-holds : tie.Need-loop-holds Inv-loop μ-loop
-loop-holds c = offers-start _ _ _ _ _ (omega arith)
+loop-holds c =
+    let w = few-queues _ (c .before .pre .0) in
+    let e = c .queues-of .ensures in
+    (omega arith, λ p. offers-start _ _ _ _ _ (omega arith))
 
 persist-rule-requires : tie.Need-persist-rule-requires Inv-loop μ-loop
 persist-rule-requires c κs = search needs
 
 offer-requires : tie.Need-offer-requires Inv-loop μ-loop
 unfolding rankOf
-offer-requires c κs = (offers-low (c .before .before .before .loop .inv) (omega arith), omega arith)
+offer-requires c κs =
+    let l = c .before .before .before in
+    (offers-low (l .loop .inv .1 (l .before .before .args .p)) (omega arith), omega arith)
 
 add-q : tie.Need-add-q Inv-loop μ-loop
 add-q c = search needs
@@ -41,13 +51,16 @@ loop-less : tie.Need-loop-less Inv-loop μ-loop
 loop-less c = search needs
 
 loop-again : tie.Need-loop-again Inv-loop μ-loop
-unfolding persistRuleAt
+unfolding ruleIn pick
 loop-again c =
     let l = c .before .before .before .before .loop in
-    persist-next (l .inv) (omega arith) _ (c .before .before .persist-rule .ensures) _ (c .offer .ensures)
+    let e = c .before .before .persist-rule .ensures in
+    (l .inv .0, λ p. persist-next (l .inv .1 p) (omega arith) _ e _ (c .offer .ensures))
 
 returns : tie.Need-returns Inv-loop μ-loop
-returns c = persist-end (c .before .loop .inv) (omega arith)
+returns c =
+    let l = c .before in
+    rw (← l .before .queues-of .ensures) (persist-end (l .loop .inv .1 _) (omega arith))
 
 pub offer-persists-spec : {M : Type 1} → statement M
 offer-persists-spec =
@@ -55,6 +68,7 @@ offer-persists-spec =
     (tie.spec
     Inv-loop
     μ-loop
+    queues-of-requires
     loop-holds
     persist-rule-requires
     offer-requires

@@ -2,7 +2,7 @@
 use denote.Ref.{now}
 use native.Mathlib.Omega.{arith}
 use Rattle.machine.proofs.PartsLaws.{rule-issue, rule-move, rule-persist}
-use Rattle.machine.proofs.ReadyLaws.{issue-rule-ready, move-rule-ready, location-low}
+use Rattle.machine.proofs.ReadyLaws.{issue-rule-ready, move-rule-ready, persist-low}
 use Rattle.machine.proofs.steps.rule.Statement.{statement}
 use Rattle.machine.proofs.steps.rule.Tie as tie
 
@@ -26,7 +26,7 @@ returns-2 c = rule-move _ _ _ _ (c .before .before .if1 .left) (c .before .if2 .
 persist-rule-requires : tie.Need-persist-rule-requires
 persist-rule-requires c κs =
     let e = c .before .before in
-    location-low _ (e .pre .0) (e .args .k) (e .pre .4) (λ z. omega arith) (λ z. omega arith)
+    persist-low _ (e .pre .0) (e .args .k) (e .pre .4) (λ z. omega arith) (λ z. omega arith)
 
 returns-3 : tie.Need-returns-3
 returns-3 c =
