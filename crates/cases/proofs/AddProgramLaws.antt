@@ -21,8 +21,8 @@ use Rattle.cases.proofs.SeatLaws.{seat-first, seat-code, seat-same}
 use Rattle.cases.proofs.WithLaws.{first-same, first-other, instruction-same, instruction-other}
 use Rattle.cases.proofs.CountLaws.{count-more, count-few, count-front}
 use Rattle.cases.proofs.FitLaws.{RecordFits}
-use Rattle.cases.proofs.DraftLaws.{rank-rises, seated-kind, in-turn, first-seated}
-use Rattle.cases.proofs.DraftLaws.{instruction-seated, ordered}
+use Rattle.cases.proofs.DraftLaws.{rank-rises, seated-kind, in-turn, first-seated, instruction-seated}
+use Rattle.cases.proofs.DraftLaws.{ordered}
 use Rattle.cases.proofs.SoundLaws.{ProgramSized, Sound, Added, added}
 
 -- A faultless record behind a sound draft: that it is added as `Added` says

@@ -18,14 +18,12 @@ use Rattle.cases.specs.Sizes.{mostThreads, mostLocations}
 use Rattle.cases.specs.Choice.{pick}
 use Rattle.cases.specs.Bytes.{halfBytes, wordBytes, IsBytes}
 use Rattle.cases.specs.Record.{payloadOf, payloadBytes, recordBytes}
-use Rattle.cases.specs.Checks.{outside, countAt}
-use Rattle.cases.specs.Checks.{headerOut, passedOut, limitsOf}
-use Rattle.cases.specs.Seats.{seats}
-use Rattle.cases.specs.Seats.{seatBytes, bytesAt, each, encodeOf}
+use Rattle.cases.specs.Checks.{outside, countAt, headerOut, passedOut, limitsOf}
+use Rattle.cases.specs.Seats.{seats, seatBytes, bytesAt, each, encodeOf}
 use Rattle.cases.proofs.ChoiceLaws.{either-false}
-use Rattle.cases.proofs.FitLaws.{RecordFits, SeatFits, outside-low}
+use Rattle.cases.proofs.FitLaws.{RecordFits, SeatFits, outside-low, few-queues, instruction-fits}
+use Rattle.cases.proofs.FitLaws.{step-low}
 use Rattle.cases.proofs.SoundLaws.{ProgramSized, Sound}
-use Rattle.cases.proofs.FitLaws.{few-queues, instruction-fits, step-low}
 
 data Bytewise : List ℕ → Type 0 where
   none : Bytewise []

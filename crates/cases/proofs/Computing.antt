@@ -11,8 +11,8 @@ use Rattle.cases.specs.Checks.{queuesOf, stepOut, stepLeft, faultOf}
 use Rattle.cases.specs.Draft.{emptyCase, withSizes, withFirst, withInstruction, withWant, withPassed}
 use Rattle.cases.specs.Draft.{withStep, withProgram, withAsk, withRun, blankDraft, addOf}
 use Rattle.cases.specs.Reading.{refusedOf, endedOf, readFrom, readOf}
-use Rattle.cases.specs.Seats.{headerSeat, firstSeat, instructionSeat, wantSeat, passedSeat}
-use Rattle.cases.specs.Seats.{stepSeat, seatOf, seatBytes, bytesAt, each, encodeOf}
+use Rattle.cases.specs.Seats.{headerSeat, firstSeat, instructionSeat, wantSeat, passedSeat, stepSeat}
+use Rattle.cases.specs.Seats.{seatOf, seatBytes, bytesAt, each, encodeOf}
 use Rattle.cases.specs.Writing.{sameList, sameInstruction, sameStep, sameProgram, sameAsk, sameRun}
 use Rattle.cases.specs.Writing.{sameCase, readsAs, readsBack}
 

@@ -19,11 +19,10 @@ use Rattle.cases.specs.declared.seats.Seat.{Seat}
 use Rattle.cases.specs.declared.seats.Seat.the-variants.{Holds, Empty}
 use Rattle.cases.specs.Sizes.{mostThreads, mostInstructions, mostLocations}
 use Rattle.cases.specs.Choice.{both, either}
-use Rattle.cases.specs.Checks.{outside, beyond, leftOver, countAt}
-use Rattle.cases.specs.Checks.{headerOut, instructionOut, instructionLeft, passedOut}
-use Rattle.cases.specs.Checks.{queuesOf, Limits, limitsOf, stepOut, stepLeft}
-use Rattle.cases.specs.Ranges.{InstructionFits}
+use Rattle.cases.specs.Checks.{outside, beyond, leftOver, countAt, headerOut, instructionOut}
+use Rattle.cases.specs.Checks.{instructionLeft, passedOut, queuesOf, Limits, limitsOf, stepOut, stepLeft}
 use Rattle.cases.specs.Checks.{usesLocation, usesRegister}
+use Rattle.cases.specs.Ranges.{InstructionFits}
 use Rattle.cases.proofs.ChoiceLaws.{either-false}
 use Rattle.cases.specs.Operations.{lastOperation, move, persist, lastCode}
 

@@ -18,15 +18,13 @@ use Rattle.cases.specs.Sizes.{mostThreads, mostInstructions, mostLocatio
 use Rattle.cases.specs.Choice.{refuse}
 use Rattle.cases.specs.Checks.{passedOut, limitsOf, stepFault}
 use Rattle.cases.specs.Draft.{noInstruction, noStep}
-use Rattle.cases.specs.Seats.{fromCode, fromWants, fromPassed, fromSteps}
-use Rattle.cases.specs.Seats.{instructionSeat, wantSeat, passedSeat, stepSeat}
-use Rattle.cases.specs.Seats.{seatOf}
+use Rattle.cases.specs.Seats.{fromCode, fromWants, fromPassed, fromSteps, instructionSeat, wantSeat}
+use Rattle.cases.specs.Seats.{passedSeat, stepSeat, seatOf}
 use Rattle.cases.specs.Ranges.{InstructionFits, Ranged}
 use Rattle.cases.proofs.ChoiceLaws.{never-both, either-false, pick-true, pick-false}
 use Rattle.cases.proofs.SeatLaws.{seat-code, seat-want, seat-passed, seat-step}
-use Rattle.cases.proofs.FitLaws.{RecordFits, SeatFits}
+use Rattle.cases.proofs.FitLaws.{RecordFits, SeatFits, instruction-fits}
 use Rattle.cases.proofs.SoundLaws.{Sound}
-use Rattle.cases.proofs.FitLaws.{instruction-fits}
 
 -- an index where something stands is within its list
 within : {A : Type 0} (l : List A) (i : ℕ) (blank : A) → getD l i blank ≢ blank → i < length l

@@ -21,8 +21,8 @@ use Rattle.cases.specs.Sizes.{mostThreads, mostInstructions, mostLocatio
 use Rattle.cases.specs.Record.{recordBytes}
 use Rattle.cases.specs.Checks.{kindRank}
 use Rattle.cases.specs.Draft.{addOf}
-use Rattle.cases.specs.Seats.{fromFirsts, fromCode, fromWants, fromPassed, fromSteps}
-use Rattle.cases.specs.Seats.{seats, seatOf, seatBytes, bytesAt, encodeOf}
+use Rattle.cases.specs.Seats.{fromFirsts, fromCode, fromWants, fromPassed, fromSteps, seats, seatOf}
+use Rattle.cases.specs.Seats.{seatBytes, bytesAt, encodeOf}
 use Rattle.cases.proofs.EachLaws.{each-more}
 use Rattle.cases.proofs.FitLaws.{RecordFits, SeatFits, Grown, record-grown, seat-grown}
 

@@ -14,7 +14,7 @@ use Rattle.machine.specs.Rules.{startOf}
 use Rattle.machine.specs.Fit.{ProgramFits}
 use Rattle.machine.specs.Model.{Leads, Faultless, FinishedRun}
 use Rattle.machine.specs.Ptso.{ptso}
-use Rattle.machine.proofs.Promises.{ptso-lawful, start-fits}
+use Rattle.machine.proofs.Promises.{ptso-lawful, start-fits, leads-append, faultless-append}
 use Rattle.machine.proofs.Effects.{start-buffer, start-queue, start-issued}
 use Rattle.demands.specs.Writes.{fixedFrom, fixedOf, Writer, LastWrite}
 use Rattle.demands.specs.Carried.{carriedAll, othersFrom, lastRun}
@@ -25,7 +25,6 @@ use Rattle.demands.proofs.ComingLaws.{coming}
 use Rattle.demands.proofs.SettleLaws.{Done, newest, run-settles}
 use Rattle.demands.proofs.LastWriteLaws.{fixes-last, fixes-unwritten, writer-last, last-one}
 use Rattle.demands.proofs.FixedLaws.{fixed-behind}
-use Rattle.machine.proofs.Promises.{leads-append, faultless-append}
 use Rattle.demands.proofs.EndLaws.{work-stuck, done-work}
 use Rattle.demands.proofs.MemoryLaws.{in-threads, unissued-coming, written-low}
 use Rattle.demands.proofs.CarryLaws.{Carries, carries-all}

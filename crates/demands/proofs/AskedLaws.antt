@@ -16,9 +16,8 @@ use Rattle.machine.specs.Model.{fullLength}
 use Rattle.machine.specs.Judge.{judgeBytes}
 use Rattle.machine.specs.Ptso.{ptso}
 use Rattle.search.specs.declared.ask.Outcome.the-variants.{Reached, Unreachable, Undecided}
-use Rattle.search.specs.Walk.{Visit}
+use Rattle.search.specs.Walk.{Visit, walkFrom}
 use Rattle.search.specs.Question.{reaches, None, FirstThat, questionOf, shownOf}
-use Rattle.search.specs.Walk.{walkFrom}
 use Rattle.search.proofs.Promises as Search
 
 module _ (s : List ℕ) (read : numberOf (readOf s .answer) ≡ 0) (b : ℕ) (out : List ℕ)

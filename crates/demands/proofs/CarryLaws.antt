@@ -16,11 +16,10 @@ use Rattle.machine.specs.Joins.{joins, exchanges}
 use Rattle.machine.specs.Model.{Leads, Faultless}
 use Rattle.machine.specs.Next.{issueStep}
 use Rattle.machine.specs.Ptso.{ptso}
-use Rattle.machine.proofs.Promises.{step-fits, few-queues, issue-legal}
+use Rattle.machine.proofs.Promises.{step-fits, few-queues, issue-legal, leads-append, faultless-append}
 use Rattle.machine.proofs.Effects.{issue-issued, issue-issued-other, issue-buffer, issue-buffer-other}
 use Rattle.machine.proofs.Effects.{issue-queue}
 use Rattle.demands.specs.Carried.{carried, carriedFrom, carriedAll}
-use Rattle.machine.proofs.Promises.{leads-append, faultless-append}
 use Rattle.demands.proofs.ThroughLaws.{Quiet, Through, behind}
 
 -- The steps ks lead from s to where nothing waits; thread t has then issued n instructions, the others no more

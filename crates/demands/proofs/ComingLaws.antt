@@ -15,17 +15,14 @@ use Rattle.cases.specs.Checks.{countAt, queuesOf}
 use Rattle.machine.specs.declared.cells.State.{State}
 use Rattle.machine.specs.declared.cells.Entry.the-variants.{FlushOpt}
 use Rattle.machine.specs.View.{buffer, wordOf, issuedOf}
-use Rattle.machine.specs.Joins.{onWay}
+use Rattle.machine.specs.Joins.{onWay, lastOr, storeOf}
 use Rattle.machine.specs.Rules.{entryAt, ruleOf, nextOf}
 use Rattle.machine.specs.Fit.{Fits}
 use Rattle.machine.specs.Next.{moveStep, persistStep}
 use Rattle.machine.proofs.Effects.{move-within, move-first-or, move-issued, move-buffer, move-buffer-other}
 use Rattle.machine.proofs.Effects.{move-words, move-word, persist-issued, persist-buffer, persist-words}
 use Rattle.demands.specs.Writes.{issuesAt, fixedFrom}
-use Rattle.machine.specs.Joins.{lastOr}
-use Rattle.demands.proofs.WriteLaws.{storesOf, fixesFrom}
-use Rattle.machine.specs.Joins.{storeOf}
-use Rattle.demands.proofs.WriteLaws.{stores-without, fixes-same}
+use Rattle.demands.proofs.WriteLaws.{storesOf, fixesFrom, stores-without, fixes-same}
 use Rattle.demands.proofs.IssuesLaws.{fixed-next, move-issues, persist-issues}
 
 -- what thread t has to come to location l in the run ks from s: what waits in its buffer, then what it fixes

@@ -31,9 +31,8 @@ use Rattle.machine.specs.declared.work.Weighed.the-variants.{Unweighed}
 use Rattle.machine.specs.Rules.{ruleOf, nextOf, startOf}
 use Rattle.machine.specs.Fit.{misfits}
 use Rattle.machine.specs.Model.{fullLength}
-use Rattle.machine.specs.Judge.{workOf, fullOf}
-use Rattle.machine.specs.Judge.{verdictNo, rulingNo, told, startedOf, steppedOf, stepOf, stopped, judgeOf}
-use Rattle.machine.specs.Judge.{judgeBytes}
+use Rattle.machine.specs.Judge.{workOf, fullOf, verdictNo, rulingNo, told, startedOf, steppedOf, stepOf}
+use Rattle.machine.specs.Judge.{stopped, judgeOf, judgeBytes}
 use Rattle.machine.specs.Ptso.{ptso}
 use Rattle.machine.proofs.Promises as Machine
 use Rattle.search.specs.declared.ask.Outcome.the-variants.{Refused}

@@ -30,9 +30,8 @@ use Rattle.machine.specs.Fit.{Fits}
 use Rattle.machine.specs.Ptso.{ptso}
 use Rattle.machine.proofs.Promises as Machine
 use Rattle.search.specs.declared.ask.Outcome.the-variants.{Reached, Unreachable, Undecided}
-use Rattle.search.specs.Walk.{Visit, InOrder}
+use Rattle.search.specs.Walk.{Visit, InOrder, walkFrom}
 use Rattle.search.specs.Question.{reaches, None, FirstThat, questionOf, shownOf}
-use Rattle.search.specs.Walk.{walkFrom}
 use Rattle.search.proofs.Promises as Search
 use Rattle.demands.proofs.AskedLaws as AskedLaws
 

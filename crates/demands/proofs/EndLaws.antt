@@ -12,8 +12,7 @@ use Rattle.cases.specs.declared.case.Program.{Program}
 use Rattle.cases.specs.Checks.{limitsOf, queuesOf, stepFault, countAt}
 use Rattle.machine.specs.declared.cells.State.{State}
 use Rattle.machine.specs.Model.{Model, Lawful, EachCostsOne, Leads, Faultless, LegalRun, CannotGoOn}
-use Rattle.machine.specs.Model.{FinishedRun}
-use Rattle.machine.specs.Model.{spent, fullLength}
+use Rattle.machine.specs.Model.{FinishedRun, spent, fullLength}
 use Rattle.machine.specs.View.{queue, buffer, issuedOf}
 use Rattle.machine.specs.Rules.{ruleOf}
 use Rattle.machine.specs.Fit.{Fits}

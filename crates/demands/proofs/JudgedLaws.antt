@@ -17,8 +17,8 @@ use Rattle.machine.specs.Rules.{startOf}
 use Rattle.machine.specs.Judge.{verdictNo, judged, runOf, stopped, judgeOf}
 use Rattle.machine.specs.Model.{Leads, Faultless, LegalRun}
 use Rattle.machine.specs.Ptso.{ptso}
-use Rattle.machine.proofs.Promises.{run-faultless, judge-legal, judge-legal-state, judge-unreadable}
-use Rattle.machine.proofs.Promises.{run-again, rerun-passes}
+use Rattle.machine.proofs.Promises.{run-faultless, judge-legal, judge-legal-state, judge-unreadable, run-again}
+use Rattle.machine.proofs.Promises.{rerun-passes}
 
 module _ (c : Case) (readable : readsBack c ≡ true) (ks : List Step) (u : State) where
   abbrev rerun : Case

@@ -13,9 +13,8 @@ use Rattle.cases.specs.Checks.{countAt}
 use Rattle.machine.specs.Rules.{instructionAt}
 use Rattle.demands.specs.Writes.{writes, Writer, LastWrite}
 use Rattle.demands.proofs.LastLaws.{last-append, cons-some, append-some}
-use Rattle.machine.specs.Joins.{lastOr}
+use Rattle.machine.specs.Joins.{lastOr, onlyIf}
 use Rattle.demands.proofs.WriteLaws.{fixesFrom}
-use Rattle.machine.specs.Joins.{onlyIf}
 
 -- Of the n instructions of thread t from the i-th on: none writes location l, or j is the last that does
 module _ (p : Program) (t l : ℕ) (f : ℕ → ℕ) where

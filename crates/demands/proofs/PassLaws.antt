@@ -14,15 +14,13 @@ use Rattle.cases.specs.Operations.{exchange}
 use Rattle.machine.specs.declared.cells.State.{State}
 use Rattle.machine.specs.View.{buffer, issuedOf}
 use Rattle.machine.specs.Rules.{instructionAt, ruleOf, nextOf}
-use Rattle.machine.specs.Joins.{joins, swapOf}
+use Rattle.machine.specs.Joins.{joins, swapOf, lastOr}
 use Rattle.machine.specs.Fit.{Fits}
 use Rattle.machine.specs.Next.{issueStep, moveStep, persistStep}
 use Rattle.machine.proofs.Effects.{step-kinds, issue-left, issue-issued, issue-issued-other, issue-buffer}
 use Rattle.machine.proofs.Effects.{issue-buffer-other, issue-words, issue-word, exchange-alone}
 use Rattle.demands.specs.Writes.{fixedFrom}
-use Rattle.machine.specs.Joins.{lastOr}
-use Rattle.demands.proofs.WriteLaws.{storesOf, fixesFrom, stores-append}
-use Rattle.demands.proofs.WriteLaws.{fixes-same, splits, apart}
+use Rattle.demands.proofs.WriteLaws.{storesOf, fixesFrom, stores-append, fixes-same, splits, apart}
 use Rattle.demands.proofs.IssuesLaws.{fixed-here, fixed-next, issues-here, issues-later, issues-other}
 use Rattle.demands.proofs.ComingLaws.{coming, Passing, coming-taken, in-range, persist-passing}
 use Rattle.demands.proofs.ComingLaws.{move-passing}

@@ -15,11 +15,9 @@ use Rattle.machine.specs.Fit.{ProgramFits, Fits}
 use Rattle.machine.specs.Model.{Leads, Faultless}
 use Rattle.machine.specs.Ptso.{ptso}
 use Rattle.machine.proofs.Promises.{step-fits, queue-there}
-use Rattle.demands.proofs.LastLaws.{last-append, append-empty, cons-some, Settles}
-use Rattle.machine.specs.Joins.{lastOr, onWay}
-use Rattle.demands.proofs.LastLaws.{settles-before}
+use Rattle.demands.proofs.LastLaws.{last-append, append-empty, cons-some, Settles, settles-before}
+use Rattle.machine.specs.Joins.{lastOr, onWay, writesOf}
 use Rattle.demands.proofs.WriteLaws.{storesOf, fixesFrom}
-use Rattle.machine.specs.Joins.{writesOf}
 use Rattle.demands.proofs.ComingLaws.{coming, Passing}
 use Rattle.demands.proofs.PassLaws.{step-passing}
 

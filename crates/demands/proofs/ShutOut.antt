@@ -30,10 +30,9 @@ use Rattle.machine.specs.Judge.{verdictNo, verdictPlace, judged, runOf, judgeOf
 use Rattle.machine.specs.Next.{persistStep}
 use Rattle.machine.specs.Ptso.{ptso}
 use Rattle.search.specs.declared.ask.Outcome.the-variants.{Reached}
-use Rattle.search.specs.Walk.{Visit, here}
-use Rattle.search.specs.Question.{reaches, Decided, reached, unreachable, undecided, FirstThat}
-use Rattle.search.specs.Walk.{walkFrom}
-use Rattle.search.specs.Question.{questionOf, outcomePlace}
+use Rattle.search.specs.Walk.{Visit, here, walkFrom}
+use Rattle.search.specs.Question.{reaches, Decided, reached, unreachable, undecided, FirstThat, questionOf}
+use Rattle.search.specs.Question.{outcomePlace}
 use Rattle.search.proofs.Promises as Search
 use Rattle.demands.specs.Example.{example}
 use Rattle.demands.proofs.DemandTwo as DemandTwo

@@ -33,10 +33,9 @@ use Rattle.machine.specs.Next.{persistStep}
 use Rattle.machine.specs.Ptso.{ptso}
 use Rattle.machine.proofs.Promises.{program-fits, ptso-lawful, full-length-most}
 use Rattle.machine.proofs.Effects.{start-issued}
-use Rattle.search.specs.Walk.{here}
-use Rattle.search.specs.Question.{misses, missesAt, lacksAt, reachesIn, reaches, None, FirstThat}
-use Rattle.search.specs.Walk.{walkFrom}
-use Rattle.search.specs.Question.{askOf, undecided}
+use Rattle.search.specs.Walk.{here, walkFrom}
+use Rattle.search.specs.Question.{misses, missesAt, lacksAt, reachesIn, reaches, None, FirstThat, askOf}
+use Rattle.search.specs.Question.{undecided}
 use Rattle.search.proofs.Promises.{walk-first, undecided-exactly}
 use Rattle.demands.specs.Example.{example, threadless, stepFirst, programFirst}
 use Rattle.demands.specs.Writes.{isWrite, writes, Writer, LastWrite, Unwritten, Alone}

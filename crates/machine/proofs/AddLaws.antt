@@ -21,8 +21,8 @@ use Rattle.machine.specs.declared.cells.Waiting.{Waiting}
 use Rattle.machine.specs.declared.cells.Entry.{Entry}
 use Rattle.machine.specs.declared.cells.Entry.the-variants.{Store, Flush, FlushOpt, Sfence}
 use Rattle.machine.specs.Sizes.{room}
-use Rattle.machine.specs.View.{Slot, queueOf, writeSlot, markerSlot, queue, queueLen, withQueue}
-use Rattle.machine.specs.View.{buffer, withBuffer, wordOf, withRegister, issuedOf}
+use Rattle.machine.specs.View.{Slot, queueOf, writeSlot, markerSlot, queue, queueLen, withQueue, buffer}
+use Rattle.machine.specs.View.{withBuffer, wordOf, withRegister, issuedOf}
 use Rattle.machine.specs.Rules.{enqueue, await, isBarrier, entryOf, loaded, exchanged, performed}
 use Rattle.machine.specs.Rules.{effectOf}
 use Rattle.machine.specs.Joins.{joins, exchanges, enters}

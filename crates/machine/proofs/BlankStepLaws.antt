@@ -25,8 +25,8 @@ use Rattle.machine.specs.Parts.{partsOf}
 use Rattle.machine.specs.Behind.{BlankBehind}
 use Rattle.machine.specs.Look.{wordOr}
 use Rattle.machine.specs.Rules.{enqueue, await, instructionAt, issueRule, entryOf, loaded, exchanged}
-use Rattle.machine.specs.Rules.{performed, issueOf, effectOf, moveRule, moveOf, persistFirst}
-use Rattle.machine.specs.Rules.{persistOf, ruleOf, nextOf, startOf}
+use Rattle.machine.specs.Rules.{performed, issueOf, effectOf, moveRule, moveOf, persistFirst, persistOf}
+use Rattle.machine.specs.Rules.{ruleOf, nextOf, startOf}
 use Rattle.machine.specs.Fit.{ProgramFits, Fits, Named}
 use Rattle.machine.specs.Model.{Leads, Faultless}
 use Rattle.machine.specs.Ptso.{ptso}
@@ -150,9 +150,9 @@ module _ (p : Program) (s : State) (f : Fits p s) (blank : BlankBehind s) where
   pub step-blank : (k : Step) → InRange p k → ruleOf p s k ≡ 0 → BlankBehind (nextOf p s k)
   step-blank k =
       step-cases p s k BlankBehind
-      (issue-blank (k .thread .0))
-      (move-blank (k .thread .0) (k .position))
-      (λ low legal. persist-blank (k .location .0) low)
+      (λ c. issue-blank (k .thread .0))
+      (λ c. move-blank (k .thread .0) (k .position))
+      (λ c low legal. persist-blank (k .location .0) low)
 
 -- a run; one from the start
 module _ (p : Program) where

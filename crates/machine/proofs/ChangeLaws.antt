@@ -11,15 +11,14 @@ use Rattle.machine.specs.declared.cells.State.{State}
 use Rattle.machine.specs.declared.cells.Waiting.{Waiting}
 use Rattle.machine.specs.declared.cells.Entry.{Entry}
 use Rattle.machine.specs.Sizes.{room, allSlots}
-use Rattle.machine.specs.View.{Slot, wordsOf, marksOf, part, put, shift, closeGap, without}
-use Rattle.machine.specs.View.{marksIn, queueIn, queueLen, queue, withQueue}
-use Rattle.machine.specs.View.{blankWaiting, bufferIn, bufferLen, buffer, withBuffer}
+use Rattle.machine.specs.View.{Slot, wordsOf, marksOf, part, put, shift, closeGap, without, marksIn}
+use Rattle.machine.specs.View.{queueIn, queueLen, queue, withQueue, blankWaiting, bufferIn, bufferLen}
+use Rattle.machine.specs.View.{buffer, withBuffer}
 use Rattle.machine.specs.Rules.{enqueue, await}
 use Rattle.machine.proofs.PartLaws.{length-part}
 use Rattle.machine.proofs.PutLaws.{put-push, put-without, shift-none, shift-next, length-without}
 use Rattle.machine.proofs.QueueLaws.{words-queue, marks-queue, length-queue}
-use Rattle.machine.proofs.SlotLaws.{words-append, marks-append}
-use Rattle.machine.proofs.SlotLaws.{words-drop, marks-drop}
+use Rattle.machine.proofs.SlotLaws.{words-append, marks-append, words-drop, marks-drop}
 
 -- a loop closes the gap at `from` in a row of n and has come to i: the row is the one before, shifted so far
 pub record Closing {A : Type 0} (from end n : ℕ) (before row : List A) (i : ℕ) : Type 0 where

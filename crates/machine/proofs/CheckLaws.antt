@@ -20,8 +20,8 @@ use Rattle.machine.specs.declared.cells.State.{State}
 use Rattle.machine.specs.declared.cells.Waiting.{Waiting}
 use Rattle.machine.specs.Sizes.{room}
 use Rattle.machine.specs.View.{part, marksIn, queueLen, blankWaiting, buffer, bufferLen, issuedOf}
-use Rattle.machine.specs.Fit.{sumTo, strays, anyStrays, anyForeign, unissued, due}
-use Rattle.machine.specs.Fit.{threadMisfits, queueMisfits}
+use Rattle.machine.specs.Fit.{sumTo, strays, anyStrays, anyForeign, unissued, due, threadMisfits}
+use Rattle.machine.specs.Fit.{queueMisfits}
 use Rattle.machine.proofs.PartLaws.{getD-part, part-next, part-end}
 use Rattle.machine.proofs.SumLaws.{sum-most}
 

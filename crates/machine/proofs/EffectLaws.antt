@@ -22,12 +22,11 @@ use Rattle.machine.specs.declared.cells.State.{State}
 use Rattle.machine.specs.declared.cells.Waiting.{Waiting}
 use Rattle.machine.specs.declared.cells.Entry.{Entry}
 use Rattle.machine.specs.declared.cells.Entry.the-variants.{Store, Flush, FlushOpt, Sfence}
-use Rattle.machine.specs.View.{without, queue, bufferIn, buffer, bufferLen, withBuffer, wordOf}
-use Rattle.machine.specs.View.{issuedOf, withIssued}
+use Rattle.machine.specs.View.{without, queue, bufferIn, buffer, bufferLen, withBuffer, wordOf, issuedOf}
+use Rattle.machine.specs.View.{withIssued}
 use Rattle.machine.specs.Parts.{partsOf}
-use Rattle.machine.specs.Rules.{instructionAt, entryAt, isBarrier, barrierRule, operationRule}
-use Rattle.machine.specs.Rules.{issueRule, issueOf, effectRule, passRule, moveRule, moveOf, ruleIn}
-use Rattle.machine.specs.Rules.{ruleOf, nextOf}
+use Rattle.machine.specs.Rules.{instructionAt, entryAt, isBarrier, barrierRule, operationRule, issueRule}
+use Rattle.machine.specs.Rules.{issueOf, effectRule, passRule, moveRule, moveOf, ruleIn, ruleOf, nextOf}
 use Rattle.machine.specs.Joins.{joins, exchanges, enters}
 use Rattle.machine.specs.Next.{issueStep, moveStep}
 use Rattle.machine.specs.Fit.{Fits}

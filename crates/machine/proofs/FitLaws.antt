@@ -21,8 +21,8 @@ use Rattle.machine.specs.declared.cells.Entry.the-variants.{Store, Flush
 use Rattle.machine.specs.Sizes.{room}
 use Rattle.machine.specs.View.{queueLen, marksIn, buffer, bufferLen, issuedOf}
 use Rattle.machine.specs.Rules.{startOf}
-use Rattle.machine.specs.Fit.{strays, anyStrays, anyForeign, unissued, due, threadMisfits}
-use Rattle.machine.specs.Fit.{queueMisfits, misfits, Sized, ProgramFits, Named, AllNamed, AllBorne, Fits}
+use Rattle.machine.specs.Fit.{strays, anyStrays, anyForeign, unissued, due, threadMisfits, queueMisfits}
+use Rattle.machine.specs.Fit.{misfits, Sized, ProgramFits, Named, AllNamed, AllBorne, Fits}
 use Rattle.machine.proofs.AnyLaws.{any-none, none-any}
 use Rattle.machine.proofs.StartLaws.{ranged-fits, start-fits}
 

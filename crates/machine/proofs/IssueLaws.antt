@@ -19,8 +19,7 @@ use Rattle.machine.specs.View.{writeSlot, queueOf, queue, queueLen, buff
 use Rattle.machine.specs.View.{issuedOf, withIssued}
 use Rattle.machine.specs.Parts.{partsOf}
 use Rattle.machine.specs.Look.{newestWrite, newestStore, queuedWord, loadOf}
-use Rattle.machine.specs.Rules.{instructionAt, issueRule, entryOf, loaded, exchanged}
-use Rattle.machine.specs.Rules.{performed, issueOf}
+use Rattle.machine.specs.Rules.{instructionAt, issueRule, entryOf, loaded, exchanged, performed, issueOf}
 use Rattle.machine.specs.Fit.{Fits, Named}
 use Rattle.machine.specs.Work.{unissuedWeight, waitingWeight, work}
 use Rattle.machine.proofs.OperationLaws.{each-operation, of}

@@ -12,8 +12,8 @@ use Rattle.cases.specs.Checks.{queuesOf}
 use Rattle.machine.specs.declared.cells.State.{State}
 use Rattle.machine.specs.declared.cells.Waiting.{Waiting}
 use Rattle.machine.specs.Sizes.{room}
-use Rattle.machine.specs.View.{Slot, marksOf, marksIn, queue, queueLen, withQueue}
-use Rattle.machine.specs.View.{buffer, bufferLen, withBuffer, withWord, withRegister}
+use Rattle.machine.specs.View.{Slot, marksOf, marksIn, queue, queueLen, withQueue, buffer, bufferLen}
+use Rattle.machine.specs.View.{withBuffer, withWord, withRegister}
 use Rattle.machine.specs.Fit.{sumTo, unissued, due, Fits, AllNamed, AllBorne}
 use Rattle.machine.proofs.SumLaws.{sum-change}
 use Rattle.machine.proofs.QueueOfLaws.{few-queues}

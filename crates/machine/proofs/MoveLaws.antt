@@ -17,13 +17,12 @@ use Rattle.machine.specs.declared.cells.Waiting.{Waiting}
 use Rattle.machine.specs.declared.cells.Entry.{Entry}
 use Rattle.machine.specs.declared.cells.Entry.the-variants.{Store, Flush, FlushOpt}
 use Rattle.machine.specs.Sizes.{room, allSlots}
-use Rattle.machine.specs.View.{queueOf, homeOf}
-use Rattle.machine.specs.View.{without, marksIn, queueIn, queue, queueLen, withQueue, wordOf, withWord}
-use Rattle.machine.specs.View.{blankWaiting, bufferIn, buffer, bufferLen, withBuffer}
+use Rattle.machine.specs.View.{queueOf, homeOf, without, marksIn, queueIn, queue, queueLen, withQueue}
+use Rattle.machine.specs.View.{wordOf, withWord, blankWaiting, bufferIn, buffer, bufferLen, withBuffer}
 use Rattle.machine.specs.Parts.{Parts, lent}
 use Rattle.machine.specs.Look.{wordOr}
-use Rattle.machine.specs.Rules.{entryAt, effectRule, effectOf, passRule, moveRule, moveOf}
-use Rattle.machine.specs.Rules.{persistFirst, persistOf}
+use Rattle.machine.specs.Rules.{entryAt, effectRule, effectOf, passRule, moveRule, moveOf, persistFirst}
+use Rattle.machine.specs.Rules.{persistOf}
 use Rattle.machine.specs.Fit.{ProgramFits, Named, Roomy}
 use Rattle.machine.proofs.PartLaws.{getD-part}
 use Rattle.machine.proofs.QueueOfLaws.{queue-low, home-low}

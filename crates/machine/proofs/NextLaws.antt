@@ -14,8 +14,8 @@ use Rattle.machine.specs.Sizes.{mostCandidates}
 use Rattle.machine.specs.Parts.{Parts, lent}
 use Rattle.machine.specs.Rules.{barrierRule, operationRule, issueRule, persistRule, ruleIn}
 use Rattle.machine.specs.Fit.{ProgramFits}
-use Rattle.machine.specs.Next.{moveStep, issuesFrom, movesAt, movesFrom}
-use Rattle.machine.specs.Next.{persistsFrom, candidates, listed, nextIn}
+use Rattle.machine.specs.Next.{moveStep, issuesFrom, movesAt, movesFrom, persistsFrom, candidates, listed}
+use Rattle.machine.specs.Next.{nextIn}
 use Rattle.machine.specs.Offer.{nextWith, offered, offeredAll}
 use Rattle.machine.proofs.QueueOfLaws.{few-queues}
 use Rattle.machine.proofs.PartsLaws.{move-lent}

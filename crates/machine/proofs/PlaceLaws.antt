@@ -18,9 +18,9 @@ use Rattle.machine.specs.declared.cells.State.{State}
 use Rattle.machine.specs.declared.runs.Verdict.{Verdict}
 use Rattle.machine.specs.declared.runs.Judged.{Judged}
 use Rattle.machine.specs.Rules.{ruleOf}
-use Rattle.machine.specs.Judge.{verdictNo, verdictPlace, judged, judgeFrom}
+use Rattle.machine.specs.Judge.{verdictNo, verdictPlace, judged, judgeFrom, runOf, judgeRun, stopped}
+use Rattle.machine.specs.Judge.{judgeBytes}
 use Rattle.machine.specs.Model.{Leads, StopsAt}
-use Rattle.machine.specs.Judge.{runOf, judgeRun, stopped, judgeBytes}
 use Rattle.machine.specs.Ptso.{ptso}
 use Rattle.machine.proofs.RuleLaws.{rule-table}
 use Rattle.machine.proofs.JudgeLaws.{leads-or-stops, legal-says, illegal-says}

@@ -24,8 +24,8 @@ use Rattle.machine.specs.View.{part, queueOf, marksIn, queue, queueLen, 
 use Rattle.machine.specs.View.{issuedOf}
 use Rattle.machine.specs.Parts.{Parts, partsOf}
 use Rattle.machine.specs.Look.{markerAmong, markerFrom, markerOf, marked}
-use Rattle.machine.specs.Rules.{barrierRule, operationRule, issueRule, effectRule, moveRule}
-use Rattle.machine.specs.Rules.{persistRule, ruleIn, ruleOf}
+use Rattle.machine.specs.Rules.{barrierRule, operationRule, issueRule, effectRule, moveRule, persistRule}
+use Rattle.machine.specs.Rules.{ruleIn, ruleOf}
 use Rattle.machine.specs.Fit.{unissued, ProgramFits, Fits, Named}
 use Rattle.machine.specs.Work.{weighCode, weighBuffer, unissuedCode, threadWork, work, Unfinished}
 use Rattle.machine.specs.Next.{issueStep, moveStep, persistStep}

@@ -29,11 +29,10 @@ use Rattle.machine.specs.Look.{markerOf, isAt, foundQueue, foundPosition
 use Rattle.machine.specs.Rules.{ruleOf, nextOf, startOf}
 use Rattle.machine.specs.Fit.{sumTo, misfits, Sized, ProgramFits, Fits, Shallow}
 use Rattle.machine.specs.Work.{work, Unfinished, programWeight, cost}
-use Rattle.machine.specs.Model.{Model, Lawful, EachCostsOne, spent}
-use Rattle.machine.specs.Model.{fullLength, Leads, Faultless, StopsAt, legalSteps, Listed, Ascending}
-use Rattle.machine.specs.Judge.{rulingNo, told, steppedOf, stepOf, verdictNo}
-use Rattle.machine.specs.Judge.{verdictPlace, judged, judgeFrom, runOf, judgeRun, stopped, judgeOf}
-use Rattle.machine.specs.Judge.{judgeBytes}
+use Rattle.machine.specs.Model.{Model, Lawful, EachCostsOne, spent, fullLength, Leads, Faultless, StopsAt}
+use Rattle.machine.specs.Model.{legalSteps, Listed, Ascending}
+use Rattle.machine.specs.Judge.{rulingNo, told, steppedOf, stepOf, verdictNo, verdictPlace, judged}
+use Rattle.machine.specs.Judge.{judgeFrom, runOf, judgeRun, stopped, judgeOf, judgeBytes}
 use Rattle.machine.specs.Next.{issueStep, moveStep, persistStep, rankOf, stepAt, nextSteps}
 use Rattle.machine.specs.Ptso.{ptso}
 use Rattle.machine.specs.Offer.{Movable}
@@ -54,8 +53,8 @@ use Rattle.machine.proofs.FoundLaws as FoundLaws
 use Rattle.machine.proofs.PlaceLaws as PlaceLaws
 use Rattle.machine.proofs.BlankStepLaws as BlankStepLaws
 use Rattle.machine.proofs.SameEntryLaws as SameEntryLaws
-use Rattle.machine.proofs.JudgeLaws.{leads-or-stops, says-legal, says-illegal, legal-says}
-use Rattle.machine.proofs.JudgeLaws.{illegal-says, says-leads, says-stops, state-is}
+use Rattle.machine.proofs.JudgeLaws.{leads-or-stops, says-legal, says-illegal, legal-says, illegal-says}
+use Rattle.machine.proofs.JudgeLaws.{says-leads, says-stops, state-is}
 
 -- the program of a case that is handed out with 0 is one that the machine can run
 pub read-fits : (s : List ℕ) → numberOf (readOf s .answer) ≡ 0 → ProgramFits (readOf s .case .program)

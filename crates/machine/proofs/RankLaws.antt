@@ -17,9 +17,9 @@ use Rattle.machine.specs.Sizes.{mostCandidates, kindRanks}
 use Rattle.machine.specs.Parts.{partsOf}
 use Rattle.machine.specs.Rules.{ruleIn, ruleOf}
 use Rattle.machine.specs.Fit.{ProgramFits}
-use Rattle.machine.specs.Next.{issueStep, moveStep, persistStep, candidates}
+use Rattle.machine.specs.Next.{issueStep, moveStep, persistStep, candidates, rankOf, stepAt, listed}
+use Rattle.machine.specs.Next.{nextIn, nextSteps}
 use Rattle.machine.specs.Model.{allowed, legalSteps, Listed}
-use Rattle.machine.specs.Next.{rankOf, stepAt, listed, nextIn, nextSteps}
 use Rattle.machine.specs.Ptso.{ptso}
 use Rattle.machine.proofs.NextLaws.{few-candidates}
 use Rattle.machine.proofs.CandidateLaws.{candidates-all}

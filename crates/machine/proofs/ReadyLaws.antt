@@ -20,9 +20,7 @@ use Rattle.machine.specs.declared.cells.Entry.the-variants.{Store, Flush
 use Rattle.machine.specs.Sizes.{room, allSlots}
 use Rattle.machine.specs.View.{queueOf, queueLen, buffer, bufferIn, bufferLen, issuedOf}
 use Rattle.machine.specs.Parts.{partsOf}
-use Rattle.machine.specs.Rules.{instructionAt, issueRule, moveRule, persistRule, ruleIn}
-use Rattle.machine.specs.Rules.{ruleOf}
-use Rattle.machine.specs.Rules.{entryAt}
+use Rattle.machine.specs.Rules.{instructionAt, issueRule, moveRule, persistRule, ruleIn, ruleOf, entryAt}
 use Rattle.machine.specs.Fit.{ProgramFits, Fits, Named, AllNamed, Shallow, Roomy, unissued, due}
 use Rattle.machine.specs.Offer.{Movable}
 use Rattle.machine.proofs.SumLaws.{sum-part}

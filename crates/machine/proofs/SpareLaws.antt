@@ -15,8 +15,8 @@ use Rattle.machine.specs.declared.cells.State.{State}
 use Rattle.machine.specs.declared.cells.Waiting.{Waiting}
 use Rattle.machine.specs.declared.cells.Entry.{Entry}
 use Rattle.machine.specs.Sizes.{room}
-use Rattle.machine.specs.View.{Slot, marksOf, marksIn, queue, queueLen, without}
-use Rattle.machine.specs.View.{buffer, bufferLen, withBuffer, withRegister, issuedOf, withIssued}
+use Rattle.machine.specs.View.{Slot, marksOf, marksIn, queue, queueLen, without, buffer, bufferLen}
+use Rattle.machine.specs.View.{withBuffer, withRegister, issuedOf, withIssued}
 use Rattle.machine.specs.Rules.{enqueue, await}
 use Rattle.machine.specs.Fit.{sumTo, unissued, due, Fits, Named, AllNamed, AllBorne}
 use Rattle.machine.proofs.SumLaws.{sum-change}

@@ -11,6 +11,7 @@ use lib.ListN.{length}
 use Rattle.cases.specs.declared.case.Step.{Step}
 use Rattle.cases.specs.declared.case.Program.{Program}
 use Rattle.cases.specs.Choice.{pick}
+use Rattle.cases.specs.Operations.{issue, move, persist}
 use Rattle.cases.specs.Sizes.{mostLocations}
 use Rattle.cases.specs.Checks.{queuesOf}
 use Rattle.cases.proofs.ChoiceLaws.{refuse-none}
@@ -21,17 +22,14 @@ use Rattle.machine.specs.View.{Slot, queueOf, homeOf, writeSlot, markerS
 use Rattle.machine.specs.View.{buffer, bufferLen, blankWaiting, wordOf, withWord}
 use Rattle.machine.specs.Parts.{partsOf}
 use Rattle.machine.specs.Look.{wordOr}
-use Rattle.machine.specs.Rules.{enqueue, issueRule}
-use Rattle.machine.specs.Rules.{issueOf, effectOf, entryAt, moveRule, moveOf, persistRule, persistFirst}
-use Rattle.machine.specs.Rules.{persistOf, ruleIn, ruleOf, nextOf}
+use Rattle.machine.specs.Rules.{enqueue, issueRule, issueOf, effectOf, entryAt, moveRule, moveOf}
+use Rattle.machine.specs.Rules.{persistRule, persistFirst, persistOf, ruleIn, ruleOf, nextOf}
 use Rattle.machine.specs.Fit.{Fits, Named, AllBorne, due, unissued}
 use Rattle.machine.specs.Work.{waitingWeight, work, cost}
 use Rattle.machine.proofs.QueueOfLaws.{few-queues, queue-there}
 use Rattle.machine.proofs.KeepLaws.{queue-within, queue-long, buffer-long, fits-queue, fits-word}
-use Rattle.machine.proofs.SpareLaws.{Spare, named-get, marks-fit, taken-spare}
-use Rattle.machine.proofs.SpareLaws.{enqueue-fits}
-use Rattle.machine.proofs.WorkLaws.{work-queue, work-enqueue, work-without}
-use Rattle.machine.proofs.WorkLaws.{work-word}
+use Rattle.machine.proofs.SpareLaws.{Spare, named-get, marks-fit, taken-spare, enqueue-fits}
+use Rattle.machine.proofs.WorkLaws.{work-queue, work-enqueue, work-without, work-word}
 use Rattle.machine.proofs.RangeLaws.{InRange}
 use Rattle.machine.proofs.IssueLaws.{issue-fits, issue-work}
 
@@ -142,43 +140,46 @@ module _ (p : Program) (s : State) (f : Fits p s) (q : ℕ) (low : q < queuesOf 
   unfolding persistOf
   persist-work = first-work (queue s q) refl
 
--- A legal step is one of three: what holds of each of them holds of it
+-- A legal step is one of three, by its code: what holds of each of them holds of it
 pub step-cases {ℓ} : (p : Program) (s : State) (k : Step) (Q : State → Type ℓ)
-    → (issueRule p (partsOf s) (k .thread .0) ≡ 0 → Q (issueOf p s (k .thread .0)))
-    → (k .thread .0 < p .threads → moveRule p (partsOf s) (k .thread .0) (k .position) ≡ 0
+    → (k .code ≡ issue → issueRule p (partsOf s) (k .thread .0) ≡ 0 → Q (issueOf p s (k .thread .0)))
+    → (k .code ≡ move → k .thread .0 < p .threads → moveRule p (partsOf s) (k .thread .0) (k .position) ≡ 0
     → Q (moveOf p s (k .thread .0) (k .position)))
-    → (k .location .0 < queuesOf p → persistRule (partsOf s) (k .location .0) ≡ 0
+    → (k .code ≡ persist → k .location .0 < queuesOf p → persistRule (partsOf s) (k .location .0) ≡ 0
     → Q (persistOf s (k .location .0)))
     → InRange p k → ruleOf p s k ≡ 0 → Q (nextOf p s k)
 unfolding ruleOf ruleIn nextOf pick
-step-cases p s k Q issue move persist r legal = go (eqb (k .code) 0) refl (eqb (k .code) 1) refl legal
+step-cases p s k Q issued moved persisted r legal = go (eqb (k .code) issue) refl (eqb (k .code) move) refl
+    legal
   where
-    go : (a : Bool) → eqb (k .code) 0 ≡ a → (b : Bool) → eqb (k .code) 1 ≡ b
+    go : (a : Bool) → eqb (k .code) issue ≡ a → (b : Bool) → eqb (k .code) move ≡ b
         → pick a (issueRule p (partsOf s) (k .thread .0))
         (pick b (moveRule p (partsOf s) (k .thread .0) (k .position))
         (persistRule (partsOf s) (k .location .0))) ≡ 0
         → Q (pick a (issueOf p s (k .thread .0))
         (pick b (moveOf p s (k .thread .0) (k .position)) (persistOf s (k .location .0))))
-    go true e b g h = issue h
-    go false e true g h = let c : k .code ≡ 1 = eqb-true _ _ g in move (r .low-thread (omega arith)) h
+    go true e b g h = issued (eqb-true _ _ e) h
+    go false e true g h =
+        let c : k .code ≡ move = eqb-true _ _ g in
+        moved c (r .low-thread (omega arith)) h
     go false e false g h =
-        let c : k .code ≢ 0 = eqb-false _ _ e in
-        let d : k .code ≢ 1 = eqb-false _ _ g in
+        let c : k .code ≢ issue = eqb-false _ _ e in
+        let d : k .code ≢ move = eqb-false _ _ g in
         let m = r .low-code in
-        persist (r .low-location (omega arith)) h
+        persisted (omega arith) (r .low-location (omega arith)) h
 
 module _ (p : Program) (s : State) (f : Fits p s) (k : Step) where
   pub step-fits : InRange p k → ruleOf p s k ≡ 0 → Fits p (nextOf p s k)
   step-fits =
       step-cases p s k (Fits p)
-      (issue-fits p s f (k .thread .0))
-      (move-fits p s f (k .thread .0) (k .position))
-      (persist-fits p s f (k .location .0))
+      (λ c. issue-fits p s f (k .thread .0))
+      (λ c. move-fits p s f (k .thread .0) (k .position))
+      (λ c. persist-fits p s f (k .location .0))
 
   pub step-work : InRange p k → ruleOf p s k ≡ 0 → work p (nextOf p s k) + cost p s k ≡ work p s
   unfolding cost
   step-work =
       step-cases p s k (λ u. work p u + 1 ≡ work p s)
-      (issue-work p s f (k .thread .0))
-      (move-work p s f (k .thread .0) (k .position))
-      (persist-work p s f (k .location .0))
+      (λ c. issue-work p s f (k .thread .0))
+      (λ c. move-work p s f (k .thread .0) (k .position))
+      (λ c. persist-work p s f (k .location .0))

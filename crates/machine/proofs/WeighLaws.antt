@@ -19,8 +19,7 @@ use Rattle.machine.specs.declared.work.Weighed.the-variants.{Left}
 use Rattle.machine.specs.View.{part, blankWaiting}
 use Rattle.machine.specs.Rules.{startOf}
 use Rattle.machine.specs.Fit.{misfits}
-use Rattle.machine.specs.Work.{unissuedWeight, waitingWeight, weighCode, weighBuffer}
-use Rattle.machine.specs.Work.{work}
+use Rattle.machine.specs.Work.{unissuedWeight, waitingWeight, weighCode, weighBuffer, work}
 use Rattle.machine.specs.Model.{fullLength}
 use Rattle.machine.specs.Judge.{workOf, fullOf}
 use Rattle.machine.proofs.PartLaws.{part-next, part-end, drop-part}

@@ -16,9 +16,8 @@ use Rattle.machine.specs.declared.cells.State.{State}
 use Rattle.machine.specs.declared.cells.Waiting.{Waiting}
 use Rattle.machine.specs.declared.cells.Entry.{Entry}
 use Rattle.machine.specs.Sizes.{room}
-use Rattle.machine.specs.View.{Slot, queue, queueLen, withQueue, without}
-use Rattle.machine.specs.View.{buffer, bufferLen, withBuffer, withWord, withRegister, issuedOf}
-use Rattle.machine.specs.View.{withIssued}
+use Rattle.machine.specs.View.{Slot, queue, queueLen, withQueue, without, buffer, bufferLen, withBuffer}
+use Rattle.machine.specs.View.{withWord, withRegister, issuedOf, withIssued}
 use Rattle.machine.specs.Rules.{instructionAt, enqueue, await}
 use Rattle.machine.specs.Fit.{sumTo, unissued, Fits}
 use Rattle.machine.specs.Work.{unissuedWeight, waitingWeight, weighCode, weighBuffer, unissuedCode}

@@ -12,8 +12,7 @@ use Rattle.cases.specs.Sizes.{stepSize}
 use Rattle.machine.specs.Model.{fullLength, Listed}
 use Rattle.machine.specs.Ptso.{ptso}
 use Rattle.search.specs.declared.ask.Outcome.{Outcome}
-use Rattle.search.specs.Question.{reaches, Decided, reached, unreachable, undecided, askOf, outcomeNo}
-use Rattle.search.specs.Question.{toldOf}
+use Rattle.search.specs.Question.{reaches, Decided, reached, unreachable, undecided, askOf, outcomeNo, toldOf}
 use Rattle.search.specs.Question.{questionOf, shownBy, shownOf}
 use Rattle.search.proofs.Promises.{question-reached, question-unreachable, question-undecided, shown-run}
 use Rattle.search.proofs.Promises.{only-reached-stores}

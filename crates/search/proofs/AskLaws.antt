@@ -35,8 +35,7 @@ use Rattle.search.specs.Question.{questionOf, shownBy, shownFor, shownOf
 use Rattle.search.specs.Seek.{Sought, hit, done, usedUp, seek, walkedOf, storedOf}
 use Rattle.machine.proofs.ListLaws.{listed-right}
 use Rattle.search.proofs.ModelLaws.{walk-short}
-use Rattle.search.proofs.SeekLaws.{comesTo, seek-decides}
-use Rattle.search.proofs.SeekLaws.{walked-found, walked-finished, walked-stopped}
+use Rattle.search.proofs.SeekLaws.{comesTo, seek-decides, walked-found, walked-finished, walked-stopped}
 use Rattle.search.proofs.BudgetLaws.{reached-is}
 
 -- the first that reaches is on the list

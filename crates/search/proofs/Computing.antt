@@ -2,12 +2,12 @@
 use Prim.Native.Nat.{ℕ}
 use Rattle.machine.specs.Fit.{anyFrom}
 use Rattle.machine.proofs.Computing.{work-computes, next-computes}
-use Rattle.search.specs.Walk.{starting, walk, thinned, walkOf, walkFrom}
+use Rattle.search.specs.Walk.{starting, walk, walkFrom}
 use Rattle.search.specs.Question.{misses, missesAt, lacksAt, reachesIn, reaches, firstOf, decidedBy}
 use Rattle.search.specs.Question.{decided, askOf}
 
 -- askOf
 unfoldable pub asking-computes : ℕ
-unfolding work-computes next-computes starting walk thinned walkOf anyFrom misses missesAt lacksAt reachesIn
+unfolding work-computes next-computes starting walk anyFrom misses missesAt lacksAt reachesIn
     reaches firstOf decidedBy decided walkFrom askOf
 asking-computes = 0

@@ -14,6 +14,7 @@ mod WalkedLaws
 mod StoreLaws
 mod LoopLaws
 mod TurnLaws
+mod PtsoLaws
 mod AskLaws
 -- what it is to reach, and the run that is shown
 mod ReachLaws

@@ -45,7 +45,7 @@ module _ {S K : Type 0} (m : Model S K) {Fit : S → Type 0} {rank : K → ℕ} 
     thin-legal s k h = next-legal m laws s k .0 (sub-listed k (nexts s) (legalSteps m s) (thin s) h)
 
     pub thinned-walkable : Walkable (thinned m nexts) Fit (m .left) rank
-    unfolding thinned Thinned
+    unfolding Thinned
     thinned-walkable =
         record {
           keeps = λ s f k h. let n = thin-legal s k h in laws .keeps s f k (n .0) (n .1);
@@ -56,7 +56,7 @@ module _ {S K : Type 0} (m : Model S K) {Fit : S → Type 0} {rank : K → ℕ} 
     -- a run of such steps is a legal run of steps that pass the checks 5 and 8
     pub thinned-leads : (s : S) (ks : List K) (u : S) → Runs (thinned m nexts) s ks u
         → Faultless m ks × Leads m s ks u
-    unfolding thinned Runs Faultless Leads
+    unfolding Runs Faultless Leads
     thinned-leads s [] u r = (tt, r)
     thinned-leads s (k ∷ ks) u r =
         let n = thin-legal s k (r .0) in
@@ -72,7 +72,7 @@ module _ {S K : Type 0} (m : Model S K) {Fit : S → Type 0} {rank : K → ℕ} 
   walkable = thinned-walkable (legalSteps m) all-thin
 
   leads-runs : (s : S) (ks : List K) (u : S) → Faultless m ks → Leads m s ks u → Runs (machineOf m) s ks u
-  unfolding thinned Runs Faultless Leads
+  unfolding Runs Faultless Leads
   leads-runs s [] u c l = l
   leads-runs s (k ∷ ks) u c l =
       (next-legal m laws s k .1 (c .0, l .0), leads-runs (m .after s k) ks u (c .1) (l .1))
@@ -80,21 +80,17 @@ module _ {S K : Type 0} (m : Model S K) {Fit : S → Type 0} {rank : K → ℕ} 
   -- the walk from a state that fits
   module _ (s : S) (f : Fit s) (ks : List K) (u : S) where
     pub walk-leads : Listed (record { run = ks; end = u }) (walkOf m s) → Faultless m ks × Leads m s ks u
-    unfolding walkOf
     walk-leads h = thinned-leads (legalSteps m) all-thin s ks u
         (walk-runs (machineOf m) (suc (m .left s)) s _ h)
 
     pub leads-walk : Faultless m ks → Leads m s ks u → Listed (record { run = ks; end = u }) (walkOf m s)
-    unfolding walkOf
     leads-walk c l =
         let r = leads-runs s ks u c l in
         let e = runs-work (machineOf m) walkable s ks u f r in
         runs-walk (machineOf m) (suc (m .left s)) s ks u r (omega arith)
 
     pub walk-short : Listed (record { run = ks; end = u }) (walkOf m s) → m .left u + length ks ≤ m .left s
-    unfolding walkOf
     walk-short h = runs-work (machineOf m) walkable s ks u f (walk-runs (machineOf m) (suc (m .left s)) s _ h)
 
   pub walk-ordered : (s : S) → Fit s → InOrder rank (walkOf m s)
-  unfolding walkOf
   walk-ordered s f = walk-in-order rank (machineOf m) walkable (suc (m .left s)) s f

@@ -5,8 +5,7 @@ use mathlib.Core.Logic.{_⊎_, inl, inr, _≢_}
 use mathlib.Core.List.{List, [], _∷_, _++_, map}
 use native.Mathlib.Omega.{arith}
 use Rattle.machine.specs.Model.{Listed, Ascending}
-use Rattle.search.specs.Walk.{Machine, Visit, under, starting, walk, Walkable}
-use Rattle.search.specs.Walk.{Before, InOrder}
+use Rattle.search.specs.Walk.{Machine, Visit, under, starting, walk, Walkable, Before, InOrder}
 use Rattle.machine.proofs.ListLaws.{listed-right, listed-either}
 use Rattle.search.proofs.WalkLaws.{on-under, on-starting}
 

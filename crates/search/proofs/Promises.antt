@@ -23,8 +23,8 @@ use Rattle.machine.specs.Ptso.{ptso}
 use Rattle.search.specs.declared.ask.Outcome.the-variants.{Reached, Unreachable, Undecided, Refused}
 use Rattle.search.specs.Walk.{Machine, Visit, here, walk, Runs, Walkable, InOrder, thinned, Thinned}
 use Rattle.search.specs.Walk.{walkFrom}
-use Rattle.search.specs.Question.{reaches, reached, unreachable, undecided, None, FirstThat}
-use Rattle.search.specs.Question.{askOf, outcomeNo, outcomePlace, toldOf, questionOf, shownOf}
+use Rattle.search.specs.Question.{reaches, reached, unreachable, undecided, None, FirstThat, askOf}
+use Rattle.search.specs.Question.{outcomeNo, outcomePlace, toldOf, questionOf, shownOf}
 use Rattle.search.specs.Seek.{seek, walkedOf, walkedNo, walkedPlace, walkedRest}
 use Rattle.search.proofs.WalkLaws as WalkLaws
 use Rattle.search.proofs.ModelLaws as ModelLaws

@@ -18,16 +18,16 @@ use Rattle.machine.specs.Ptso.{ptso}
 use Rattle.machine.proofs.Promises.{read-fits, ptso-lawful, full-length-most}
 use Rattle.search.specs.declared.ask.Outcome.{Outcome}
 use Rattle.search.specs.declared.ask.Outcome.the-variants.{Reached, Unreachable, Undecided, Refused}
-use Rattle.search.specs.Walk.{Visit, here, walk, walkOf, walkFrom}
-use Rattle.search.specs.Question.{Decided, reached, unreachable, undecided, reaches, askOf}
-use Rattle.search.specs.Question.{outcomeNo, outcomePlace, toldOf, short, answerFor, questionOf}
-use Rattle.search.specs.Question.{shownBy, shownFor, shownOf}
+use Rattle.search.specs.Walk.{Visit, here, walk, walkFrom}
+use Rattle.search.specs.Question.{Decided, reached, unreachable, undecided, reaches, askOf, outcomeNo}
+use Rattle.search.specs.Question.{outcomePlace, toldOf, short, answerFor, questionOf, shownBy, shownFor}
+use Rattle.search.specs.Question.{shownOf}
 use Rattle.search.proofs.ModelLaws.{walk-short}
 use Rattle.search.proofs.AskLaws.{reached-short}
 
 pub walk-first : {S K : Type 0} (m : Model S K)
     → (rest : List (Visit S K)) × (walkFrom m ≡ here (m .start) ∷ rest)
-unfolding walkFrom walkOf walk
+unfolding walkFrom walk
 walk-first m = (_, refl)
 
 pub walk-deep : {S K : Type 0} (m : Model S K) {Fit : S → Type 0} {rank : K → ℕ} → Lawful m Fit rank

@@ -25,8 +25,7 @@ use Rattle.machine.specs.Model.{fullLength, Leads, Faultless}
 use Rattle.machine.specs.Judge.{judged, judgeOf, judgeBytes}
 use Rattle.machine.specs.Ptso.{ptso}
 use Rattle.machine.proofs.Promises.{program-fits, ptso-lawful, start-fits, full-length-most, judge-read}
-use Rattle.machine.proofs.Promises.{rerun-reads}
-use Rattle.machine.proofs.Promises.{rerun-passes}
+use Rattle.machine.proofs.Promises.{rerun-reads, rerun-passes}
 use Rattle.search.specs.Walk.{walkOf, walkFrom}
 use Rattle.search.specs.Question.{reaches, reached, askOf, shownOf}
 use Rattle.search.proofs.ModelLaws.{walk-leads}

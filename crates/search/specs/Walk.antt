@@ -63,7 +63,7 @@ InOrder rank [] = Unit {0}
 InOrder {S} {K} rank (v ∷ vs) =
     ((w : Visit S K) → Listed w vs → Before rank (v .run) (w .run)) × InOrder rank vs
 
-unfoldable pub thinned : {S K : Type 0} → Model S K → (S → List K) → Machine S K
+abbrev pub thinned : {S K : Type 0} → Model S K → (S → List K) → Machine S K
 thinned m nexts = record { nexts = nexts; after = m .after }
 
 abbrev pub machineOf : {S K : Type 0} → Model S K → Machine S K
@@ -78,7 +78,7 @@ unfoldable pub Thinned : {S K : Type 0} → Model S K → (S → List K) → Typ
 Thinned {S} {K} m nexts = (s : S) → Sublist (nexts s) (legalSteps m s)
 
 -- "It never goes deeper than the full length, a number that falls at each step down"
-unfoldable pub walkOf : {S K : Type 0} → Model S K → S → List (Visit S K)
+abbrev pub walkOf : {S K : Type 0} → Model S K → S → List (Visit S K)
 walkOf m s = walk (machineOf m) (suc (m .left s)) s
 
 unfoldable pub walkFrom : {S K : Type 0} → Model S K → List (Visit S K)

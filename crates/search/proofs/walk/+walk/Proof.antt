@@ -6,10 +6,13 @@ use lib.ListN.{length}
 use Rattle.cases.specs.Sizes.{stepSize}
 use Rattle.machine.specs.Sizes.{mostWork}
 use Rattle.machine.specs.Work.{work}
+use Rattle.machine.specs.Ptso.{ptso}
+use Rattle.search.specs.Walk.{machineOf}
+use Rattle.search.specs.Question.{reaches}
 use Rattle.machine.proofs.Promises.{next-asks}
-use Rattle.search.proofs.LoopLaws.{left-used-up, left-here, Walking, walking-start, walking-few}
-use Rattle.search.proofs.LoopLaws.{walking-end}
-use Rattle.search.proofs.TurnLaws.{turn-legal, turn-fits, turn-work, turn-length, turn-put}
+use Rattle.search.proofs.LoopLaws.{left-used-up, left-here, walking-end}
+use Rattle.search.proofs.PtsoLaws.{Walks, reaches-lent, walks-start, walks-legal}
+use Rattle.search.proofs.TurnLaws.{turn-listed, turn-fits, turn-work, turn-length, turn-put}
 use Rattle.search.proofs.TurnLaws.{turn-room, turn-found, turn-stopped, turn-finished}
 use borrow.Author.Needs.{needs}
 use borrow.Fn.Kinds.{In}
@@ -38,7 +41,7 @@ walk-below t = and 1 walk-kinds.ps (falls 1 walk-kinds.ps _<_ μ-walk t) walk.Pr
 abbrev walk-Inv-loop : walk-lts.InvT-loop
 walk-Inv-loop p a budget depth run₀ u next left₀ i₀ run left i =
     (depth + work p u ≤ mostWork) × (stepSize * (depth + work p u) ≤ length run)
-    × Walking p a u budget next run₀ run left i
+    × Walks p a u budget next run₀ run left i
 
 abbrev walk-μ-loop : walk-lts.MeasureT-loop
 walk-μ-loop p a budget depth run₀ u next left₀ i₀ run left i = next .count - i
@@ -63,7 +66,9 @@ walk-returns : (t : ℕ)
     → walk-lts.Need-returns (calls t) (walk-at t) walk.Post walk-Inv-loop walk-μ-loop
 walk-returns t c =
     let a = c .before .before .args in
-    let l = left-used-up (a .p) (a .a) (a .s) (a .budget) (a .depth) (a .run .now) (c .if1 .taken) in
+    let l = left-used-up (reaches (a .a)) (a .budget) (a .depth) (a .run .now) (machineOf (ptso (a .p))) _
+    (a .s)
+    (c .if1 .taken) in
     (l .told, l .stored)
 
 walk-is-reached-requires : (t : ℕ)
@@ -75,8 +80,9 @@ walk-returns-2 : (t : ℕ)
 walk-returns-2 t c =
     let g = c .before .before .before .before .before .before .before .before .before in
     let a = g .before .before .args in
-    let t = sym (c .before .is-reached .ensures) ∙ c .if2 .taken in
-    let l = left-here (a .p) (a .a) (a .s) (a .budget) (a .depth) (a .run .now) (g .if1 .left) t in
+    let t = reaches-lent (a .a) (a .s) _ (sym (c .before .is-reached .ensures) ∙ c .if2 .taken) in
+    let l = left-here (reaches (a .a)) (a .budget) (a .depth) (a .run .now) (machineOf (ptso (a .p))) _ (a .s)
+    (g .if1 .left) t in
     (l .told, l .stored)
 
 walk-next-steps-requires : (t : ℕ)
@@ -97,7 +103,7 @@ walk-loop-holds t c =
     let h = g .before .before .pre .1 in
     let t = sym (i .before .is-reached .ensures) ∙ i .if2 .left in
     let e = c .next-steps .ensures in
-    (h .1, h .2, walking-start _ _ _ _ _ _ (h .0) (g .if1 .left) t e)
+    (h .1, h .2, walks-start _ _ (h .0) _ _ _ _ (g .if1 .left) t e)
 
 walk-cast-step-at : (t : ℕ)
     → walk-lts.Need-cast-step-at (calls t) (walk-at t) walk.Post walk-Inv-loop walk-μ-loop
@@ -105,7 +111,7 @@ walk-cast-step-at t c = search needs
 
 walk-element-copy-out-step-at : (t : ℕ)
     → walk-lts.Need-element-copy-out-step-at (calls t) (walk-at t) walk.Post walk-Inv-loop walk-μ-loop
-walk-element-copy-out-step-at t c = let few = walking-few (c .before .loop .inv .2) in omega arith
+walk-element-copy-out-step-at t c = let few = c .before .loop .inv .2 .list .few in omega arith
 
 walk-step-at-requires : (t : ℕ)
     → walk-lts.Need-step-at-requires (calls t) (walk-at t) walk.Post walk-Inv-loop walk-μ-loop
@@ -115,7 +121,8 @@ walk-take-step-requires : (t : ℕ)
     → walk-lts.Need-take-step-requires (calls t) (walk-at t) walk.Post walk-Inv-loop walk-μ-loop
 walk-take-step-requires t c κs =
     let l = c .before .before .before .loop in
-    let n = turn-legal (l .inv .2) (omega arith) _ (c .step-at .ensures) in
+    let n = walks-legal _ _ (l .inv .2 .fit) _
+    (turn-listed (l .inv .2) (omega arith) _ (c .step-at .ensures)) in
     (l .inv .2 .fit, n .0, n .1)
 
 walk-add-walk : (t : ℕ)
@@ -210,7 +217,7 @@ walk-add-i : (t : ℕ)
     → walk-lts.Need-add-i (calls t) (walk-at t) walk.Post walk-Inv-loop walk-μ-loop
 walk-add-i t c =
     let l = c .before .before .before .before .before .before .before .before .before .before .before .loop in
-    let few = walking-few (l .inv .2) in
+    let few = l .inv .2 .list .few in
     omega arith
 
 walk-loop-less : (t : ℕ)
