@@ -46,6 +46,10 @@ module _ (c : Case) (readable : readsBack c ≡ true) where
   fit : (ks : List Step) (u : State) → LegalRun (ptso (c .program)) ks u → Fits (c .program) u
   fit = EndLaws.run-fits (ptso (c .program)) laws
 
+  working : (s : State) → Fits (c .program) s → 0 < work (c .program) s
+      → (k : Step) × (stepFault (limitsOf (c .program)) k ≡ 0) × (ruleOf (c .program) s k ≡ 0)
+  working = EndLaws.working (c .program)
+
   -- A legal run is one that the judge passes, put into the case as its steps, and no other.
   pub legal-as-judged : (ks : List Step) (u : State)
       → LegalRun (ptso (c .program)) ks u
@@ -69,10 +73,7 @@ module _ (c : Case) (readable : readsBack c ≡ true) where
 
     -- "So all runs that cannot go on have one length, known from the program alone."
     pub one-length : CannotGoOn (ptso (c .program)) u → length ks ≡ fullLength (ptso (c .program))
-    one-length stuck =
-        EndLaws.one-length (ptso (c .program)) laws (each-costs-one (c .program))
-        (EndLaws.working (c .program)) ks u
-        (record { legal = run; over = stuck })
+    one-length = EndLaws.one-length (ptso (c .program)) laws working (each-costs-one (c .program)) ks u run
 
     -- Where it cannot go on, every instruction is issued and no entry waits.
     pub nothing-left : CannotGoOn (ptso (c .program)) u → Unfinished (c .program) u → ⊥
@@ -90,14 +91,7 @@ module _ (c : Case) (readable : readsBack c ≡ true) where
         × FinishedRun (ptso (c .program)) (ks ++ ms) v
         × (length (ks ++ ms) ≡ fullLength (ptso (c .program)))
     every-run-ends =
-        let r = EndLaws.every-run-ends (ptso (c .program)) laws (EndLaws.working (c .program)) ks u run in (
-          r .0,
-          r .1,
-          r .2,
-          EndLaws.one-length (ptso (c .program)) laws (each-costs-one (c .program))
-              (EndLaws.working (c .program))
-              (ks ++ r .0) (r .1) (r .2),
-        )
+        EndLaws.every-run-ends (ptso (c .program)) laws working (each-costs-one (c .program)) ks u run
 
   -- "At their end each location holds the last write, in program order, of one of the threads that write it, or
   -- its first content if none does;" The word is the one that the instruction fixed as this run issued it.

@@ -44,6 +44,23 @@ module _ {S K : Type 0} (m : Model S K) {Fit : S → Type 0} {rank : K → ℕ} 
         let n = spent-least m laws (m .start) ks u (laws .starts) (run .faultless) (run .leads) in
         omega arith
 
+  -- where every step uses up one
+  module _ (one : EachCostsOne m) where
+    -- "by exactly one"
+    pub step-one : (u : S) → Fit u → (k : K) → m .fault k ≡ 0 → m .rule u k ≡ 0
+        → m .left (m .after u k) + 1 ≡ m .left u
+    unfolding EachCostsOne
+    step-one u f k faultless legal =
+        let w = laws .lowers u f k faultless legal in
+        let c = one u k in
+        omega arith
+
+    pub full-length-ends : (ks : List K) (u : S) → LegalRun m ks u → length ks ≡ fullLength m → CannotGoOn m u
+    full-length-ends ks u run e =
+        let w = run-work ks u run in
+        let n = spent-length m one (m .start) ks in
+        work-stuck u (run-fits ks u run) (omega arith)
+
   -- where some step is legal while work is left
   module _ (going : (s : S) → Fit s → 0 < m .left s → (k : K) × (m .fault k ≡ 0) × (m .rule s k ≡ 0)) where
     stuck-none : (u : S) → Fit u → CannotGoOn m u → m .left u ≡ 0
@@ -55,10 +72,11 @@ module _ {S K : Type 0} (m : Model S K) {Fit : S → Type 0} {rank : K → ℕ} 
         go (inr e) = let k = going u f e in absurd (stuck (k .0) (k .1) (k .2))
 
     -- a run that cannot go on uses up the full length
-    pub finished-spends : (ks : List K) (u : S) → FinishedRun m ks u → spent m (m .start) ks ≡ fullLength m
-    finished-spends ks u run =
-        let w = run-work ks u (run .legal) in
-        let z = stuck-none u (run-fits ks u (run .legal)) (run .over) in
+    pub finished-spends : (ks : List K) (u : S) → LegalRun m ks u → CannotGoOn m u
+        → spent m (m .start) ks ≡ fullLength m
+    finished-spends ks u run stuck =
+        let w = run-work ks u run in
+        let z = stuck-none u (run-fits ks u run) stuck in
         omega arith
 
     -- from any state that fits, a run to where no work is left
@@ -79,9 +97,10 @@ module _ {S K : Type 0} (m : Model S K) {Fit : S → Type 0} {rank : K → ℕ} 
             let r = more (m .after u (k .0)) (laws .keeps u f (k .0) (k .1) (k .2)) (omega arith) in
             (k .0 ∷ r .0, r .1, (k .1, r .2), (k .2, r .3), r .4, r .5)
 
-    pub every-run-ends : (ks : List K) (u : S) → LegalRun m ks u
+    -- every legal run can be made one that cannot go on
+    pub run-ends : (ks : List K) (u : S) → LegalRun m ks u
         → (js : List K) × (v : S) × FinishedRun m (ks ++ js) v
-    every-run-ends ks u run =
+    run-ends ks u run =
         let r = goes-on (m .left u) u (run-fits ks u run) (omega arith) in (
           r .0,
           r .1,
@@ -94,33 +113,19 @@ module _ {S K : Type 0} (m : Model S K) {Fit : S → Type 0} {rank : K → ℕ} 
           },
         )
 
-  -- where every step uses up one: "by exactly one", "one length"
-  module _ (one : EachCostsOne m) where
-    pub step-one : (u : S) → Fit u → (k : K) → m .fault k ≡ 0 → m .rule u k ≡ 0
-        → m .left (m .after u k) + 1 ≡ m .left u
-    unfolding EachCostsOne
-    step-one u f k faultless legal =
-        let w = laws .lowers u f k faultless legal in
-        let c = one u k in
-        omega arith
+    -- "one length": where every step uses up one
+    module _ (one : EachCostsOne m) where
+      pub one-length : (ks : List K) (u : S) → LegalRun m ks u → CannotGoOn m u → length ks ≡ fullLength m
+      one-length ks u run stuck =
+          let w = finished-spends ks u run stuck in
+          let n = spent-length m one (m .start) ks in
+          omega arith
 
-    pub length-left : (ks : List K) (u : S) → LegalRun m ks u → m .left u + length ks ≡ fullLength m
-    length-left ks u run =
-        let w = run-work ks u run in
-        let n = spent-length m one (m .start) ks in
-        omega arith
-
-    pub full-length-ends : (ks : List K) (u : S) → LegalRun m ks u → length ks ≡ fullLength m → CannotGoOn m u
-    full-length-ends ks u run e =
-        let w = length-left ks u run in
-        work-stuck u (run-fits ks u run) (omega arith)
-
-    pub one-length : ((s : S) → Fit s → 0 < m .left s → (k : K) × (m .fault k ≡ 0) × (m .rule s k ≡ 0))
-        → (ks : List K) (u : S) → FinishedRun m ks u → length ks ≡ fullLength m
-    one-length going ks u run =
-        let w = finished-spends going ks u run in
-        let n = spent-length m one (m .start) ks in
-        omega arith
+      pub every-run-ends : (ks : List K) (u : S) → LegalRun m ks u
+          → (js : List K) × (v : S) × FinishedRun m (ks ++ js) v × (length (ks ++ js) ≡ fullLength m)
+      every-run-ends ks u run =
+          let r = run-ends ks u run in
+          (r .0, r .1, r .2, one-length (ks ++ r .0) (r .1) (r .2 .legal) (r .2 .over))
 
 -- is a list empty?
 empty-or : {A : Type 0} (xs : List A) → (xs ≡ []) ⊎ (xs ≢ [])

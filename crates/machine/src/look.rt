@@ -28,14 +28,14 @@ pub enum Found {
     Nothing,
 }
 
-// The queue that a location's entries go through.
+// The queue that a location's entries go through: its own, whatever the program.
 pub(crate) fn queue_of(p: Program, l: Location) -> Queue
     ensures { λ r. ⌜ r .0 ≡ queueOf p (l .0) ⌝ }
 {
     Queue(l.0)
 }
 
-// The location that a write of a queue goes to, by its mark.
+// The location that a write of a queue goes to, by its mark: the one whose queue it is.
 pub(crate) fn home_of(q: Queue, mark: u8) -> Location
     ensures { λ r. ⌜ r .0 ≡ homeOf (q .0) mark ⌝ }
 {
