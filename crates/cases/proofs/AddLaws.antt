@@ -15,13 +15,14 @@ use Rattle.cases.specs.declared.record.Record.the-variants.{Declare, Fir
 use Rattle.cases.specs.Checks.{disordered, faultOf, passedOut, limitsOf, stepOut, stepLeft}
 use Rattle.cases.specs.Draft.{addOf, withAsk, withRun, withWant, withPassed, withStep}
 use Rattle.cases.specs.Seats.{fromWants, fromPassed, fromSteps, wantSeat, passedSeat}
+use Rattle.cases.specs.Ranges.{ProgramSized}
 use Rattle.cases.proofs.ChoiceLaws.{refuse-none}
 use Rattle.cases.proofs.SeatLaws.{seat-want, seat-passed, seat-step, seat-same}
 use Rattle.cases.proofs.WithLaws.{want-same, want-other, passed-same, passed-other, step-same}
 use Rattle.cases.proofs.WithLaws.{step-other}
 use Rattle.cases.proofs.FitLaws.{RecordFits, Grown}
 use Rattle.cases.proofs.DraftLaws.{rank-rises, in-turn, want-seated, passed-seated, step-seated, ordered}
-use Rattle.cases.proofs.SoundLaws.{ProgramSized, Sound, Added, added}
+use Rattle.cases.proofs.SoundLaws.{Sound, Added, added}
 use Rattle.cases.proofs.AddProgramLaws.{declared-once, add-first, add-instruction}
 
 -- a program that a record leaves as it is
@@ -57,6 +58,8 @@ module _ (d : Draft) (front : ℕ) (s : Sound d front) where
         fit = in-range .0;
         sized = record {
           of-program = sized;
+          some-threads = s .sized .some-threads;
+          some-locations = s .sized .some-locations;
           of-ask = record {
             wanted-long = simp length-set (ask .wanted-long);
             want-long = simp length-set (ask .want-long);
@@ -97,6 +100,8 @@ module _ (d : Draft) (front : ℕ) (s : Sound d front) where
         fit = in-range .0;
         sized = record {
           of-program = sized;
+          some-threads = s .sized .some-threads;
+          some-locations = s .sized .some-locations;
           of-ask = record {
             wanted-long = ask .wanted-long;
             want-long = ask .want-long;
@@ -135,6 +140,8 @@ module _ (d : Draft) (front : ℕ) (s : Sound d front) where
         fit = (in-range .0, clean .0);
         sized = record {
           of-program = sized;
+          some-threads = s .sized .some-threads;
+          some-locations = s .sized .some-locations;
           of-ask = s .sized .of-ask;
           of-run = record { steps-long = simp length-set (run .steps-long); few-steps = omega arith };
         };

@@ -16,6 +16,7 @@ use Rattle.cases.specs.Sizes.{mostInstructions}
 use Rattle.cases.specs.Checks.{misplaced, disordered, countAt, faultOf, instructionOut, instructionLeft}
 use Rattle.cases.specs.Draft.{addOf, withProgram, withFirst, withInstruction}
 use Rattle.cases.specs.Seats.{fromFirsts, fromCode, headerSeat, firstSeat, instructionSeat}
+use Rattle.cases.specs.Ranges.{ProgramSized}
 use Rattle.cases.proofs.ChoiceLaws.{refuse-none}
 use Rattle.cases.proofs.SeatLaws.{seat-first, seat-code, seat-same}
 use Rattle.cases.proofs.WithLaws.{first-same, first-other, instruction-same, instruction-other}
@@ -23,7 +24,7 @@ use Rattle.cases.proofs.CountLaws.{count-more, count-few, count-front}
 use Rattle.cases.proofs.FitLaws.{RecordFits}
 use Rattle.cases.proofs.DraftLaws.{rank-rises, seated-kind, in-turn, first-seated, instruction-seated}
 use Rattle.cases.proofs.DraftLaws.{ordered}
-use Rattle.cases.proofs.SoundLaws.{ProgramSized, Sound, Added, added}
+use Rattle.cases.proofs.SoundLaws.{Sound, Added, added}
 
 -- A faultless record behind a sound draft: that it is added as `Added` says
 module _ (d : Draft) (front : ℕ) (s : Sound d front) where
@@ -58,12 +59,12 @@ module _ (d : Draft) (front : ℕ) (s : Sound d front) where
             first-long = simp length-set (sized .first-long);
             counts-long = sized .counts-long;
             code-long = sized .code-long;
-            some-threads = sized .some-threads;
             few-threads = sized .few-threads;
-            some-locations = sized .some-locations;
             few-locations = sized .few-locations;
             few-instructions = sized .few-instructions;
           };
+          some-threads = s .sized .some-threads;
+          some-locations = s .sized .some-locations;
           of-ask = s .sized .of-ask;
           of-run = s .sized .of-run;
         };
@@ -104,12 +105,12 @@ module _ (d : Draft) (front : ℕ) (s : Sound d front) where
             first-long = sized .first-long;
             counts-long = simp length-set (sized .counts-long);
             code-long = simp length-set (sized .code-long);
-            some-threads = sized .some-threads;
             few-threads = sized .few-threads;
-            some-locations = sized .some-locations;
             few-locations = sized .few-locations;
             few-instructions = count-few program t low few (sized .few-instructions);
           };
+          some-threads = s .sized .some-threads;
+          some-locations = s .sized .some-locations;
           of-ask = s .sized .of-ask;
           of-run = s .sized .of-run;
         };

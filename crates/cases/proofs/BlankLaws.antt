@@ -88,12 +88,12 @@ module _ (h : Header) (fit : headerOut h ≡ false) where
             first-long = refl;
             counts-long = refl;
             code-long = refl;
-            some-threads = t .0;
             few-threads = t .1;
-            some-locations = l .0;
             few-locations = l .1;
             few-instructions = λ u. omega (arith, getD-blank {A = ℕ} mostThreads u 0);
           };
+          some-threads = t .0;
+          some-locations = l .0;
           of-ask = record { wanted-long = refl; want-long = refl; passed-long = refl };
           of-run = record { steps-long = refl; few-steps = omega arith };
         };

@@ -22,7 +22,7 @@ pick-false t x y h = rw h
 pub never-both : {b : Bool} → b ≡ true → b ≡ false → ⊥
 never-both e d = let z : _≡_ {A = ℕ} 0 1 = cc in omega arith
 
--- both tests are true; neither is
+-- both tests are true; neither is, and back
 pub both-true : (a b : Bool) → both a b ≡ true → (a ≡ true) × (b ≡ true)
 unfolding both
 both-true true b h = (refl, h)
@@ -32,6 +32,10 @@ pub either-false : (a b : Bool) → either a b ≡ false → (a ≡ false) × (b
 unfolding either
 either-false true b h = absurd (let z : _≡_ {A = ℕ} 0 1 = cc in omega arith)
 either-false false b h = (refl, h)
+
+pub either-none : (a b : Bool) → a ≡ false → b ≡ false → either a b ≡ false
+unfolding either
+either-none a b h k = rw (h, k)
 
 -- a chain of checks that ends in 0: this fault is not there, and the later checks end in 0
 pub refuse-none : (t : Bool) (n rest : ℕ) → refuse t (suc n) rest ≡ 0 → (t ≡ false) × (rest ≡ 0)

@@ -3,8 +3,8 @@
 use Prim.Native.Nat.{ℕ}
 use Rattle.cases.specs.Choice.{pick, both, either, refuse}
 use Rattle.cases.specs.Bytes.{half, wordAt, halfBytes, wordBytes}
-use Rattle.cases.specs.Record.{payloadOf, payloadBytes, recordBytes, asHeader, asWrite, asInstruction}
-use Rattle.cases.specs.Record.{asStep, recordOf, openNo, sizeOf}
+use Rattle.cases.specs.Record.{payloadOf, payloadBytes, recordBytes, bytesOf, asHeader, asWrite}
+use Rattle.cases.specs.Record.{asInstruction, asStep, recordOf, openNo, sizeOf}
 use Rattle.cases.specs.Checks.{kindRank, misplaced, disordered, outside, beyond, leftOver, headerOut}
 use Rattle.cases.specs.Checks.{usesRegister, usesWord, instructionOut, instructionLeft, passedOut}
 use Rattle.cases.specs.Checks.{queuesOf, stepOut, stepLeft, faultOf}
@@ -24,9 +24,9 @@ unfolding pick both either refuse half wordAt payloadOf asHeader asWrite asInstr
     withWant withPassed withStep withProgram withAsk withRun blankDraft addOf refusedOf endedOf readFrom readOf
 reading-computes = 0
 
--- a record's bytes
+-- the bytes of records
 unfoldable pub bytes-compute : ℕ
-unfolding pick halfBytes wordBytes payloadOf payloadBytes recordBytes
+unfolding pick halfBytes wordBytes payloadOf payloadBytes recordBytes bytesOf
 bytes-compute = 0
 
 -- encodeOf

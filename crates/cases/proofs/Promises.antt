@@ -15,7 +15,7 @@ use Rattle.cases.specs.declared.draft.Draft.{Draft}
 use Rattle.cases.specs.declared.record.Record.{Record}
 use Rattle.cases.specs.declared.reader.Answer.the-variants.{Whole}
 use Rattle.cases.specs.declared.writer.Wrote.the-variants.{Stored, Untouched}
-use Rattle.cases.specs.Sizes.{mostLocations, mostSteps, longest, longestRecord, stepSize}
+use Rattle.cases.specs.Sizes.{mostThreads, mostLocations, mostSteps, longest, longestRecord, stepSize}
 use Rattle.cases.specs.Choice.{both}
 use Rattle.cases.specs.Bytes.{IsBytes, half}
 use Rattle.cases.specs.Record.{recordOf, openNo, sizeOf}
@@ -23,7 +23,7 @@ use Rattle.cases.specs.Checks.{queuesOf, limitsOf, stepFault, faultOf}
 use Rattle.cases.specs.Draft.{noStep, emptyCase, runWith, withRun, blankDraft, addOf}
 use Rattle.cases.specs.Reading.{numberOf, offsetOf, refusedOf, readFrom, readOf, unreadOf}
 use Rattle.cases.specs.Seats.{encodeOf, stepsBytes}
-use Rattle.cases.specs.Ranges.{Ranged}
+use Rattle.cases.specs.Ranges.{ProgramFits, Ranged}
 use Rattle.cases.specs.Writing.{readsAs, readsBack, wroteOf, writtenOf}
 use Rattle.cases.proofs.ChoiceLaws.{both-true}
 use Rattle.cases.proofs.FitLaws as FitLaws
@@ -31,6 +31,7 @@ use Rattle.cases.proofs.ReadLaws as ReadLaws
 use Rattle.cases.proofs.RoundTrip.{read-all}
 use Rattle.cases.proofs.PrefixLaws.{read-prefix, fuel-same}
 use Rattle.cases.proofs.BytewiseLaws.{sound-bytes}
+use Rattle.cases.proofs.RangeLaws as RangeLaws
 use Rattle.cases.proofs.RangeLaws.{sound-ranged}
 use Rattle.cases.proofs.RunLaws.{steps-length, file-more}
 use Rattle.cases.proofs.RerunLaws.{run-steps, other-readable}
@@ -135,6 +136,10 @@ read-ranged s h =
 -- a program with no more than the most locations has no more queues than that
 pub few-queues : (p : Program) → p .locations ≤ mostLocations → queuesOf p ≤ mostLocations
 few-queues = FitLaws.few-queues
+
+-- a thread of a program that fits is one that there may be
+pub thread-low : {p : Program} → ProgramFits p → {t : ℕ} → t < p .threads → t < mostThreads
+thread-low = RangeLaws.thread-low
 
 -- A case that passes the test for 32
 module _ (c : Case) (readable : readsBack c ≡ true) where

@@ -20,7 +20,7 @@ use Rattle.cases.specs.Checks.{passedOut, limitsOf, stepFault}
 use Rattle.cases.specs.Draft.{noInstruction, noStep}
 use Rattle.cases.specs.Seats.{fromCode, fromWants, fromPassed, fromSteps, instructionSeat, wantSeat}
 use Rattle.cases.specs.Seats.{passedSeat, stepSeat, seatOf}
-use Rattle.cases.specs.Ranges.{InstructionFits, Ranged}
+use Rattle.cases.specs.Ranges.{InstructionFits, ProgramFits, Ranged}
 use Rattle.cases.proofs.ChoiceLaws.{never-both, either-false, pick-true, pick-false}
 use Rattle.cases.proofs.SeatLaws.{seat-code, seat-want, seat-passed, seat-step}
 use Rattle.cases.proofs.FitLaws.{RecordFits, SeatFits, instruction-fits}
@@ -62,7 +62,7 @@ module _ (d : Draft) (front : ℕ) (s : Sound d front) where
       seat-code (d .case) (fromCode + m) m refl (omega arith)
       ∙ rw (q, r) (pick-false (leb (getD (program .counts) t 0) i) _ _ (lt-leb _ _ h)) in
       let f = held (fromCode + m) _ e in
-      instruction-fits program (record { 0 = t }) _ (p .some-locations) (f .0) (f .1)
+      instruction-fits program (record { 0 = t }) _ (s .sized .some-locations) (f .0) (f .1)
 
   want-ranged : (l : ℕ) → getD (d .case .ask .wanted) l false ≡ true → l < program .locations
   unfolding RecordFits wantSeat
@@ -102,24 +102,17 @@ module _ (d : Draft) (front : ℕ) (s : Sound d front) where
   -- every number of its case is in range
   pub sound-ranged : Ranged (d .case)
   sound-ranged =
-      let p = s .sized .of-program in
-      let a = s .sized .of-ask in
       record {
-        first-long = p .first-long;
-        counts-long = p .counts-long;
-        code-long = p .code-long;
-        wanted-long = a .wanted-long;
-        want-long = a .want-long;
-        passed-long = a .passed-long;
-        steps-long = s .sized .of-run .steps-long;
-        some-threads = p .some-threads;
-        few-threads = p .few-threads;
-        some-locations = p .some-locations;
-        few-locations = p .few-locations;
-        few-instructions = p .few-instructions;
-        instructions = instruction-ranged;
+        program = record { sized = s .sized .of-program; instructions = instruction-ranged };
+        ask = s .sized .of-ask;
+        run = s .sized .of-run;
+        some-threads = s .sized .some-threads;
+        some-locations = s .sized .some-locations;
         wants = want-ranged;
         passed = passed-ranged;
-        few-steps = s .sized .of-run .few-steps;
         steps = step-ranged;
       }
+
+-- a thread of a program is one that there may be
+pub thread-low : {p : Program} → ProgramFits p → {t : ℕ} → t < p .threads → t < mostThreads
+thread-low g h = let w = g .sized .few-threads in omega arith

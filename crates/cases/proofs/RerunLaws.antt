@@ -19,7 +19,7 @@ use Rattle.cases.specs.declared.reader.Reading.{Reading}
 use Rattle.cases.specs.Sizes.{mostSteps}
 use Rattle.cases.specs.Choice.{pick, both, either, refuse}
 use Rattle.cases.specs.Bytes.{IsBytes}
-use Rattle.cases.specs.Record.{recordBytes}
+use Rattle.cases.specs.Record.{recordBytes, bytesOf}
 use Rattle.cases.specs.Checks.{kindRank, misplaced, limitsOf, stepFault, faultOf}
 use Rattle.cases.specs.Draft.{noStep, emptyCase, runWith, withRun, withStep, blankDraft, addOf}
 use Rattle.cases.specs.Reading.{numberOf, readOf}
@@ -49,7 +49,7 @@ steps-go : (ks : List Step) (d : Draft) (js : List Step) → d .kind ≢ 0 → k
     × Goes d (stepsBytes ks) e
     × (e .kind ≢ 0)
     × (e .case ≡ withRun (d .case) (runWith (js ++ ks)))
-unfolding stepsBytes addOf withRun runWith
+unfolding stepsBytes bytesOf addOf withRun runWith
 steps-go [] d js begun low run few clean =
     (d, goes-none d, begun, rw (append-nil js) (ap (withRun (d .case)) run))
 steps-go (k ∷ ks) d js begun low run few clean =

@@ -14,7 +14,7 @@ use Rattle.cases.specs.declared.record.Record.the-variants.{Take}
 use Rattle.cases.specs.declared.seats.Seat.{Seat}
 use Rattle.cases.specs.Sizes.{mostSteps, stepSize}
 use Rattle.cases.specs.Bytes.{halfBytes}
-use Rattle.cases.specs.Record.{payloadBytes, recordBytes}
+use Rattle.cases.specs.Record.{payloadBytes, recordBytes, bytesOf}
 use Rattle.cases.specs.Draft.{runWith, withRun, withStep}
 use Rattle.cases.specs.Seats.{fromSteps, seats, stepSeat, seatBytes, bytesAt, encodeOf, stepsBytes}
 use Rattle.cases.proofs.ChoiceLaws.{pick-true}
@@ -24,7 +24,7 @@ use Rattle.cases.proofs.WithLaws.{step-same, step-other}
 
 -- how long the steps' bytes are
 pub steps-length : (ks : List Step) → length (stepsBytes ks) ≡ stepSize * length ks
-unfolding stepsBytes recordBytes payloadBytes halfBytes
+unfolding stepsBytes bytesOf recordBytes payloadBytes halfBytes
 steps-length [] = refl
 steps-length (k ∷ ks) = omega (arith, length-append (recordBytes (Take k)) (stepsBytes ks), steps-length ks)
 
@@ -60,7 +60,7 @@ step-longer c r k h long =
 -- the steps ks behind the steps js
 pub file-more : (c : Case) (ks js : List Step) → length js + length ks ≤ mostSteps
     → encodeOf (withRun c (runWith (js ++ ks))) ≡ encodeOf (withRun c (runWith js)) ++ stepsBytes ks
-unfolding stepsBytes runWith
+unfolding stepsBytes bytesOf runWith
 file-more c [] js h = rw (append-nil js) (sym (append-nil (encodeOf (withRun c (runWith js)))))
 file-more c (k ∷ ks) js h =
     let longer = step-longer c (runWith js) k (omega arith) (run-long js (omega arith)) in

@@ -5,49 +5,30 @@ use mathlib.Core.Path.{_≡_, refl, ap, _∙_}
 use mathlib.Core.Logic.{_≢_}
 use mathlib.Core.List.{_++_}
 use mathlib.Core.Bool.{Bool, true, false}
-use lib.ListN.{length, getD}
+use lib.ListN.{getD}
 use lib.Dec.{eqb}
 use borrow.Author.Tests.{eqb-true, eqb-false}
 use native.Mathlib.Omega.{arith}
 use Rattle.cases.specs.declared.case.Case.{Case}
-use Rattle.cases.specs.declared.case.Program.{Program}
-use Rattle.cases.specs.declared.case.Ask.{Ask}
-use Rattle.cases.specs.declared.case.Run.{Run}
 use Rattle.cases.specs.declared.draft.Draft.{Draft}
 use Rattle.cases.specs.declared.record.Record.{Record}
 use Rattle.cases.specs.declared.seats.Seat.{Seat}
 use Rattle.cases.specs.declared.seats.Seat.the-variants.{Holds, Empty}
-use Rattle.cases.specs.Sizes.{mostThreads, mostInstructions, mostLocations, mostSteps, allCode}
+use Rattle.cases.specs.Sizes.{mostInstructions}
 use Rattle.cases.specs.Record.{recordBytes}
 use Rattle.cases.specs.Checks.{kindRank}
 use Rattle.cases.specs.Draft.{addOf}
 use Rattle.cases.specs.Seats.{fromFirsts, fromCode, fromWants, fromPassed, fromSteps, seats, seatOf}
 use Rattle.cases.specs.Seats.{seatBytes, bytesAt, encodeOf}
+use Rattle.cases.specs.Ranges.{ProgramSized, AskSized, RunSized}
 use Rattle.cases.proofs.EachLaws.{each-more}
 use Rattle.cases.proofs.FitLaws.{RecordFits, SeatFits, Grown, record-grown, seat-grown}
 
--- how long the arrays are, and how much they hold at most
-pub record ProgramSized (p : Program) : Type 0 where
-  pub first-long : length (p .first) ≡ mostLocations
-  pub counts-long : length (p .counts) ≡ mostThreads
-  pub code-long : length (p .code) ≡ allCode
-  pub some-threads : 1 ≤ p .threads
-  pub few-threads : p .threads ≤ mostThreads
-  pub some-locations : 1 ≤ p .locations
-  pub few-locations : p .locations ≤ mostLocations
-  pub few-instructions : (t : ℕ) → getD (p .counts) t 0 ≤ mostInstructions
-
-pub record AskSized (a : Ask) : Type 0 where
-  pub wanted-long : length (a .wanted) ≡ mostLocations
-  pub want-long : length (a .want) ≡ mostLocations
-  pub passed-long : length (a .passed) ≡ mostThreads
-
-pub record RunSized (r : Run) : Type 0 where
-  pub steps-long : length (r .steps) ≡ mostSteps
-  pub few-steps : r .count ≤ mostSteps
-
+-- how long the arrays are, and how much they hold at least and at most
 pub record Sized (c : Case) : Type 0 where
   pub of-program : ProgramSized (c .program)
+  pub some-threads : 1 ≤ c .program .threads
+  pub some-locations : 1 ≤ c .program .locations
   pub of-ask : AskSized (c .ask)
   pub of-run : RunSized (c .run)
 

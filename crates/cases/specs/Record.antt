@@ -3,6 +3,7 @@
 --   payloadOf k        how long the payload of kind k is; 0: there is no such kind
 --   recordBytes r      the record's bytes: "a two-byte payload length, a two-byte kind, the payload"
 --   payloadBytes r     its payload's
+--   bytesOf rs         the bytes of the records rs, one behind the other
 --   asHeader, asWrite, asInstruction, asStep   the bytes s as what a payload holds, behind a head of 4 bytes
 --   recordOf k s       the record of kind k whose bytes s starts with
 --   openNo s           0 where s starts with a whole record, else the number of the refusal
@@ -58,6 +59,10 @@ payloadBytes (Take k) = k .thread .0 ∷ k .code ∷ k .position ∷ k .location
 
 unfoldable pub recordBytes : Record → List ℕ
 recordBytes r = halfBytes (payloadOf (kindOf r)) ++ halfBytes (kindOf r) ++ payloadBytes r
+
+unfoldable pub bytesOf : List Record → List ℕ
+bytesOf [] = []
+bytesOf (r ∷ rs) = recordBytes r ++ bytesOf rs
 
 -- a record's bytes as the code holds them: 0 behind them
 unfoldable pub paddedOf : List ℕ → Padded

@@ -12,7 +12,7 @@
 --   stepsBytes ks  the bytes of the steps ks: what stands at the end of the file of a case with that run
 -- Assumes nothing.
 use Prim.Native.Nat.{ℕ, zero, suc, _+_, _-_, _/_, _%_}
-use mathlib.Core.List.{List, [], _∷_, _++_}
+use mathlib.Core.List.{List, [], _++_, map}
 use mathlib.Core.Bool.{false}
 use lib.ListN.{getD}
 use lib.Dec.{eqb, leb, ltb}
@@ -26,7 +26,7 @@ use Rattle.cases.specs.declared.seats.Seat.{Seat}
 use Rattle.cases.specs.declared.seats.Seat.the-variants.{Holds, Empty}
 use Rattle.cases.specs.Sizes.{mostThreads, mostInstructions, mostLocations, mostSteps, allCode}
 use Rattle.cases.specs.Choice.{pick}
-use Rattle.cases.specs.Record.{recordBytes}
+use Rattle.cases.specs.Record.{recordBytes, bytesOf}
 use Rattle.cases.specs.Checks.{countAt}
 use Rattle.cases.specs.Draft.{noInstruction, noStep}
 
@@ -101,7 +101,5 @@ each (suc n) f = each n f ++ f n
 unfoldable pub encodeOf : Case → List ℕ
 encodeOf c = each seats (bytesAt c)
 
--- the records of the steps ks, one behind the other
 unfoldable pub stepsBytes : List Step → List ℕ
-stepsBytes [] = []
-stepsBytes (k ∷ ks) = recordBytes (Take k) ++ stepsBytes ks
+stepsBytes ks = bytesOf (map Take ks)

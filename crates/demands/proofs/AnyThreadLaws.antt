@@ -11,7 +11,7 @@ use Rattle.cases.specs.Checks.{countAt}
 use Rattle.machine.specs.declared.cells.State.{State}
 use Rattle.machine.specs.View.{wordOf, issuedOf}
 use Rattle.machine.specs.Rules.{startOf}
-use Rattle.machine.specs.Fit.{ProgramFits}
+use Rattle.cases.specs.Ranges.{ProgramFits}
 use Rattle.machine.specs.Model.{Leads, Faultless, FinishedRun}
 use Rattle.machine.specs.Ptso.{ptso}
 use Rattle.machine.proofs.Promises.{ptso-lawful, start-fits, leads-append, faultless-append}

@@ -45,7 +45,7 @@ module _ (p : Program) (s : State) (o : Quiet p s) (t : ℕ) (low : t < p .threa
 
   issued-others : (k : ℕ) → k < p .threads → k ≢ t → buffer issued k ≡ []
   issued-others k h e =
-      let w = o .fit .program .few-threads in
+      let w = o .fit .program .sized .few-threads in
       issue-buffer-other p s (o .fit) t low (may-issue .1) k (omega arith) e ∙ o .buffers k h
 
   issued-buffer : buffer issued t ≡ joins (s .registers) t next

@@ -61,7 +61,7 @@ coming-taken p s k ks l t new h e b =
 -- a thread of the program is below the most that a program may have
 module _ (p : Program) (s : State) (f : Fits p s) where
   pub in-range : (t : ℕ) → t < p .threads → t < mostThreads
-  in-range t h = let w = f .program .few-threads in omega arith
+  in-range t h = let w = f .program .sized .few-threads in omega arith
 
 module _ (p : Program) (s : State) (f : Fits p s) (ks : List Step) (l : ℕ) (there : l < p .locations) where
   -- Persist

@@ -16,7 +16,7 @@ use Rattle.cases.specs.Operations.{storeRegister}
 use Rattle.machine.specs.declared.cells.State.{State}
 use Rattle.machine.specs.View.{buffer, wordOf, issuedOf}
 use Rattle.machine.specs.Rules.{instructionAt, startOf}
-use Rattle.machine.specs.Fit.{ProgramFits}
+use Rattle.cases.specs.Ranges.{ProgramFits}
 use Rattle.machine.proofs.Promises.{ptso-lawful, start-fits}
 use Rattle.machine.proofs.Effects.{start-buffer, start-words, start-issued, start-word}
 use Rattle.machine.specs.Model.{LegalRun, FinishedRun}

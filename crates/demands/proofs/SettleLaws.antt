@@ -11,7 +11,8 @@ use Rattle.cases.specs.Checks.{countAt, queuesOf}
 use Rattle.machine.specs.declared.cells.State.{State}
 use Rattle.machine.specs.View.{queueOf, queue, buffer, wordOf, issuedOf}
 use Rattle.machine.specs.Rules.{nextOf}
-use Rattle.machine.specs.Fit.{ProgramFits, Fits}
+use Rattle.cases.specs.Ranges.{ProgramFits}
+use Rattle.machine.specs.Fit.{Fits}
 use Rattle.machine.specs.Model.{Leads, Faultless}
 use Rattle.machine.specs.Ptso.{ptso}
 use Rattle.machine.proofs.Promises.{step-fits, queue-there}

@@ -114,7 +114,7 @@ module _ (p : Program) (s : State) (t : ℕ) (low : t < p .threads) (e : Entry) 
       go (yes d) =
           rw (d, move-buffer p s (o .fit) t 0 low (may-move .1), o .here) (unfold without in refl)
       go (no d) =
-          let w = o .fit .program .few-threads in
+          let w = o .fit .program .sized .few-threads in
           move-buffer-other p s (o .fit) t 0 low (may-move .1) k (omega arith) d ∙ o .others k h d
 
   moved-queue : (q : ℕ) → q < queuesOf p → queue moved q ≡ enters p t q e

@@ -26,7 +26,8 @@ use Rattle.cases.proofs.Computing.{reading-computes, writing-computes, testing-
 use Rattle.cases.specs.Operations.{storeRegister}
 use Rattle.machine.specs.declared.cells.State.{State}
 use Rattle.machine.specs.Rules.{instructionAt, persistRule, ruleIn, ruleOf, startOf}
-use Rattle.machine.specs.Fit.{ProgramFits, anyFrom}
+use Rattle.cases.specs.Ranges.{ProgramFits}
+use Rattle.machine.specs.Fit.{anyFrom}
 use Rattle.machine.specs.Work.{Unfinished}
 use Rattle.machine.specs.Model.{fullLength, Leads, Faultless, StopsAt, Listed, LegalRun, FinishedRun}
 use Rattle.machine.specs.Next.{persistStep}

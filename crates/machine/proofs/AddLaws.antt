@@ -65,7 +65,7 @@ module _ (p : Program) (s : State) (t : ℕ) (o : Spare p s t) where
   adds-await : t < p .threads → (e : Entry) → Adds s (await s t e) t (record { entry = e } ∷ []) (λ q. [])
   unfolding await
   adds-await low e =
-      let z = o .fit .program .few-threads in
+      let z = o .fit .program .sized .few-threads in
       let m : t < mostThreads = omega arith in
       let n = buffer-within p s (o .fit) t m in
       let h = buffer-long p s (o .fit) t m in

@@ -27,7 +27,8 @@ use Rattle.machine.specs.Look.{wordOr}
 use Rattle.machine.specs.Rules.{enqueue, await, instructionAt, issueRule, entryOf, loaded, exchanged}
 use Rattle.machine.specs.Rules.{performed, issueOf, effectOf, moveRule, moveOf, persistFirst, persistOf}
 use Rattle.machine.specs.Rules.{ruleOf, nextOf, startOf}
-use Rattle.machine.specs.Fit.{ProgramFits, Fits, Named}
+use Rattle.cases.specs.Ranges.{ProgramFits}
+use Rattle.machine.specs.Fit.{Fits, Named}
 use Rattle.machine.specs.Model.{Leads, Faultless}
 use Rattle.machine.specs.Ptso.{ptso}
 use Rattle.machine.proofs.PutLaws.{length-without}
@@ -68,7 +69,7 @@ module _ (p : Program) (s : State) (t : ℕ) (o : Spare p s t) (blank : BlankBeh
   await-blank : t < p .threads → (e : Entry) → BlankBehind (await s t e)
   unfolding await
   await-blank low e =
-      let z = o .fit .program .few-threads in
+      let z = o .fit .program .sized .few-threads in
       let n = buffer-long p s (o .fit) t (omega arith) in
       let w = o .space in
       let k : length (buffer s t ++ (record { entry = e } ∷ [])) ≤ mostInstructions
@@ -119,7 +120,7 @@ module _ (p : Program) (s : State) (f : Fits p s) (blank : BlankBehind s) where
   move-blank : (t i : ℕ) → t < p .threads → moveRule p (partsOf s) t i ≡ 0 → BlankBehind (moveOf p s t i)
   unfolding moveOf
   move-blank t i low legal =
-      let z = f .program .few-threads in
+      let z = f .program .sized .few-threads in
       let there = move-there p s f t i low legal in
       let n = buffer-long p s f t (omega arith) in
       let m = buffer-within p s f t (omega arith) in

@@ -1,14 +1,12 @@
--- Laws of the test of a state's fit, for each point of the code that makes it: loops through the entries of a
--- buffer, the marks of a queue, the threads or the queues; loops that sum; chains of tests. Assumes nothing.
-use Prim.Native.Nat.{ℕ, zero, suc, _+_, _*_, _≤_, _<_}
+-- Laws of the test of a state's fit, for each point of the code that makes it: loops that sum; chains of tests.
+-- Loops that ask one after the other are in AnyLaws. Assumes nothing.
+use Prim.Native.Nat.{ℕ, _+_, _*_, _≤_, _<_}
 use mathlib.Core.Path.{_≡_, refl}
 use mathlib.Core.Logic.{_⊎_, inl, inr}
 use mathlib.Core.Bool.{Bool, true, false}
-use mathlib.Core.List.{List, [], _∷_}
 use native.Mathlib.Omega.{arith}
 use native.Mathlib.Numerals.{add-one}
 use lib.Dec.{leb, ltb}
-use lib.ListN.{length, getD, drop}
 use borrow.Author.Tests.{lt-ltb, le-ltb, le-leb, lt-leb}
 use mir.Syntax.{w8}
 use mir.Val.{Fits}
@@ -17,77 +15,10 @@ use Rattle.cases.specs.Choice.{both, either}
 use Rattle.cases.specs.Sizes.{mostThreads, mostInstructions}
 use Rattle.cases.specs.Checks.{countAt, queuesOf}
 use Rattle.machine.specs.declared.cells.State.{State}
-use Rattle.machine.specs.declared.cells.Waiting.{Waiting}
 use Rattle.machine.specs.Sizes.{room}
-use Rattle.machine.specs.View.{part, marksIn, queueLen, blankWaiting, buffer, bufferLen, issuedOf}
-use Rattle.machine.specs.Fit.{sumTo, strays, anyStrays, anyForeign, unissued, due, threadMisfits}
-use Rattle.machine.specs.Fit.{queueMisfits}
-use Rattle.machine.proofs.PartLaws.{getD-part, part-next, part-end}
+use Rattle.machine.specs.View.{marksIn, queueLen, buffer, bufferLen, issuedOf}
+use Rattle.machine.specs.Fit.{sumTo, unissued, due, threadMisfits, queueMisfits, anyOf, strayed}
 use Rattle.machine.proofs.SumLaws.{sum-most}
-
--- a loop has looked at the first i of the n entries from base on: those still to look at say what all say
-pub record StraySoFar (k : ℕ) (xs : List Waiting) (base n i : ℕ) : Type 0 where
-  pub within : base + n ≤ length xs
-  pub rest : anyStrays k (drop i (part base n xs)) ≡ anyStrays k (part base n xs)
-
-pub stray-start : (k : ℕ) (xs : List Waiting) (base n : ℕ) → base + n ≤ length xs → StraySoFar k xs base n 0
-stray-start k xs base n h = record { within = h; rest = refl }
-
--- an entry that names a location that there is; one that doesn't; the buffer ends
-module _ {k : ℕ} {xs : List Waiting} {base n i : ℕ} (o : StraySoFar k xs base n i) where
-  module _ (h : i < n) where
-    stray-at :
-        either (strays k (getD xs (base + i) blankWaiting .entry)) (anyStrays k (drop (i + 1) (part base n xs)))
-        ≡ anyStrays k (part base n xs)
-    unfolding anyStrays
-    stray-at = rw (part-next base n i xs blankWaiting h (o .within)) at (o .rest)
-
-    pub stray-next : strays k (getD xs (base + i) blankWaiting .entry) ≡ false → StraySoFar k xs base n (i + 1)
-    unfolding either
-    stray-next e = record { within = o .within; rest = rw e at stray-at }
-
-    pub stray-here : strays k (getD xs (base + i) blankWaiting .entry) ≡ true
-        → true ≡ anyStrays k (part base n xs)
-    unfolding either
-    stray-here e = rw e at stray-at
-
-  pub stray-end : n ≤ i → false ≡ anyStrays k (part base n xs)
-  unfolding anyStrays
-  stray-end h = rw (part-end base n i xs h) at (o .rest)
-
--- the same of marks. How long their array is need not be known: what a list lacks counts as 0, a write's mark
-pub record ForeignSoFar (k : ℕ) (xs : List ℕ) (base n i : ℕ) : Type 0 where
-  pub rest : anyForeign k (drop i (part base n xs)) ≡ anyForeign k (part base n xs)
-
-pub foreign-start : (k : ℕ) (xs : List ℕ) (base n : ℕ) → ForeignSoFar k xs base n 0
-foreign-start k xs base n = record { rest = refl }
-
-foreign-drop : (k : ℕ) (ys : List ℕ) (i : ℕ)
-    → anyForeign k (drop i ys) ≡ either (ltb k (getD ys i 0)) (anyForeign k (drop (i + 1) ys))
-unfolding anyForeign either
-foreign-drop k [] zero = rw (le-ltb k 0 (omega arith))
-foreign-drop k [] (suc i) = rw (le-ltb k 0 (omega arith), add-one)
-foreign-drop k (y ∷ ys) zero = refl
-foreign-drop k (y ∷ ys) (suc i) = rw add-one (rw add-one at (foreign-drop k ys i))
-
--- a mark of a thread that there is; one that isn't; the queue ends
-module _ {k : ℕ} {xs : List ℕ} {base n i : ℕ} (o : ForeignSoFar k xs base n i) where
-  module _ (h : i < n) where
-    foreign-at : either (ltb k (getD xs (base + i) 0)) (anyForeign k (drop (i + 1) (part base n xs)))
-        ≡ anyForeign k (part base n xs)
-    foreign-at = rw (foreign-drop k (part base n xs) i, getD-part base n i xs 0 h) at (o .rest)
-
-    pub foreign-next : getD xs (base + i) 0 ≤ k → ForeignSoFar k xs base n (i + 1)
-    unfolding either
-    foreign-next e = record { rest = rw (le-ltb k (getD xs (base + i) 0) e) at foreign-at }
-
-    pub foreign-here : k < getD xs (base + i) 0 → true ≡ anyForeign k (part base n xs)
-    unfolding either
-    foreign-here e = rw (lt-ltb k (getD xs (base + i) 0) e) at foreign-at
-
-  pub foreign-end : n ≤ i → false ≡ anyForeign k (part base n xs)
-  unfolding anyForeign
-  foreign-end h = rw (part-end base n i xs h) at (o .rest)
 
 -- a loop has summed the first i of n, each at most m
 pub record SummedSoFar (f : ℕ → ℕ) (n m total i : ℕ) : Type 0 where
@@ -166,7 +97,7 @@ module _ (p : Program) (s : State) (t : ℕ) where
           )
 
       pub thread-rest : bufferLen s t + n ≤ mostInstructions → (r : Bool)
-          → r ≡ anyStrays (p .locations) (buffer s t)
+          → r ≡ anyOf (strayed (p .locations)) (buffer s t)
           → r ≡ threadMisfits p s t
       unfolding threadMisfits either
       thread-rest l r q =
@@ -192,7 +123,7 @@ module _ (p : Program) (s : State) (q queues : ℕ) (many : queues ≡ queuesOf 
         rw (← many, lacked-none queues q (queueLen s q) k f g, ← e, lt-ltb room (queueLen s q + n) h)
 
     pub queue-rest : queueLen s q + n ≤ room → (r : Bool)
-        → r ≡ anyForeign (p .threads) (marksIn (s .marks) (s .lengths) q)
+        → r ≡ anyOf (ltb (p .threads)) (marksIn (s .marks) (s .lengths) q)
         → r ≡ queueMisfits p s q
     unfolding queueMisfits either
     queue-rest h r w =

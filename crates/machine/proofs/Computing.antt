@@ -12,11 +12,10 @@ use Rattle.machine.specs.Rules.{loaded, exchanged, performed, issueOf, e
 use Rattle.machine.specs.Rules.{moveRule, moveOf, persistRule, persistFirst, persistOf, ruleIn, ruleOf}
 use Rattle.machine.specs.Rules.{nextOf, startOf}
 use Rattle.machine.specs.Fit.{sumTo, unissued}
-use Rattle.machine.specs.Work.{unissuedWeight, waitingWeight, weighCode, weighBuffer, unissuedCode}
-use Rattle.machine.specs.Work.{threadWork, work}
+use Rattle.machine.specs.Work.{unissuedWeight, waitingWeight, unissuedCode, threadWork, work, weigh}
 use Rattle.machine.specs.Model.{fullLength, allowed, legalSteps}
 use Rattle.machine.specs.Judge.{judged, judgeFrom, judgeRun, judgeBytes}
-use Rattle.machine.specs.Next.{issuesFrom, movesAt, movesFrom, persistsFrom, candidates}
+use Rattle.machine.specs.Next.{stepsFrom, movesFrom, candidates}
 
 -- ruleOf and nextOf
 unfoldable pub steps-compute : ℕ
@@ -29,13 +28,13 @@ steps-compute = 0
 
 -- work and fullLength
 unfoldable pub work-computes : ℕ
-unfolding part bufferIn sumTo unissued unissuedWeight waitingWeight weighCode weighBuffer unissuedCode
+unfolding part bufferIn sumTo unissued unissuedWeight waitingWeight weigh unissuedCode
     threadWork work startOf fullLength
 work-computes = 0
 
 -- legalSteps
 unfoldable pub next-computes : ℕ
-unfolding steps-compute queuesOf issuesFrom movesAt movesFrom persistsFrom candidates allowed legalSteps
+unfolding steps-compute queuesOf stepsFrom movesFrom candidates allowed legalSteps
 next-computes = 0
 
 -- judgeBytes

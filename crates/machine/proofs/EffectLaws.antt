@@ -46,7 +46,7 @@ module _ (p : Program) (s : State) (f : Fits p s) (t : ℕ) (low : t < p .thread
   next = instructionAt p t (issuedOf s t)
 
   in-range : t < mostThreads
-  in-range = let w = f .program .few-threads in omega arith
+  in-range = let w = f .program .sized .few-threads in omega arith
 
   pub issue-left : issuedOf s t < countAt p t
   unfolding ruleOf ruleIn pick
@@ -105,7 +105,7 @@ pass-is p b i Sfence h = absurd (omega arith)
 module _ (p : Program) (s : State) (f : Fits p s) (t i : ℕ) (low : t < p .threads)
     (legal : ruleOf p s (moveStep t i) ≡ 0) where
   in-threads : t < mostThreads
-  in-threads = let w = f .program .few-threads in omega arith
+  in-threads = let w = f .program .sized .few-threads in omega arith
 
   within : bufferLen s t ≤ mostInstructions
   within = buffer-within p s f t in-threads

@@ -2,34 +2,29 @@
 use Prim.Native.Nat.{ℕ, _+_, _≤_, _<_}
 use mathlib.Core.Path.{_≡_, refl}
 use mathlib.Core.Bool.{Bool, true, false}
-use mathlib.Core.List.{List, [], _∷_}
 use native.Mathlib.Omega.{arith}
 use lib.Dec.{leb, ltb}
 use borrow.Author.Tests.{leb-true, leb-false, lt-leb, le-leb, ltb-false, le-ltb}
 use Rattle.cases.specs.declared.case.Program.{Program}
 use Rattle.cases.specs.declared.case.Case.{Case}
-use Rattle.cases.specs.Choice.{both, either}
+use Rattle.cases.specs.Choice.{both}
 use Rattle.cases.specs.Sizes.{mostThreads, mostInstructions, mostLocations}
 use Rattle.cases.specs.Writing.{readsBack}
-use Rattle.cases.proofs.ChoiceLaws.{either-false}
+use Rattle.cases.proofs.ChoiceLaws.{either-false, either-none}
 use Rattle.cases.proofs.Promises.{readable-ranged}
 use Rattle.cases.specs.Checks.{countAt, queuesOf}
 use Rattle.machine.specs.declared.cells.State.{State}
-use Rattle.machine.specs.declared.cells.Waiting.{Waiting}
 use Rattle.machine.specs.declared.cells.Entry.{Entry}
 use Rattle.machine.specs.declared.cells.Entry.the-variants.{Store, Flush, FlushOpt, Sfence}
 use Rattle.machine.specs.Sizes.{room}
 use Rattle.machine.specs.View.{queueLen, marksIn, buffer, bufferLen, issuedOf}
 use Rattle.machine.specs.Rules.{startOf}
-use Rattle.machine.specs.Fit.{strays, anyStrays, anyForeign, unissued, due, threadMisfits, queueMisfits}
-use Rattle.machine.specs.Fit.{misfits, Sized, ProgramFits, Named, AllNamed, AllBorne, Fits}
+use Rattle.machine.specs.Fit.{strays, unissued, due, threadMisfits, queueMisfits, misfits, Sized, Named}
+use Rattle.machine.specs.Fit.{Fits, AllOf, Borne, NamedBy}
+use Rattle.cases.specs.Ranges.{ProgramFits}
 use Rattle.machine.proofs.AnyLaws.{any-none, none-any}
-use Rattle.machine.proofs.StartLaws.{ranged-fits, start-fits}
-
--- two tests of which neither is true
-either-none : (a b : Bool) → a ≡ false → b ≡ false → either a b ≡ false
-unfolding either
-either-none a b h k = rw (h, k)
+use Rattle.machine.proofs.StartLaws.{start-fits}
+use Rattle.machine.proofs.AllLaws.{all-none, none-all}
 
 -- nothing stands where the program has no such thread or queue
 none-is : (m i n : ℕ) → both (leb m i) (ltb 0 n) ≡ false → m ≤ i → n ≡ 0
@@ -43,7 +38,7 @@ is-none m i n h = go (leb m i) refl
     go true e = unfold both in le-ltb 0 n (let z = h (leb-true m i e) in omega arith)
     go false e = unfold both in refl
 
--- entries: none is stray, so each names a location that there is, and back
+-- an entry that is not stray names a location that there is, and back
 named-is : (n : ℕ) (e : Entry) → strays n e ≡ false → Named n e
 unfolding strays Named
 named-is n (Store w) h = leb-false _ _ h
@@ -58,42 +53,17 @@ is-named n (Flush l) h = lt-leb _ _ h
 is-named n (FlushOpt l) h = lt-leb _ _ h
 is-named n Sfence h = refl
 
-all-named-is : (n : ℕ) (b : List Waiting) → anyStrays n b ≡ false → AllNamed n b
-unfolding anyStrays AllNamed
-all-named-is n [] h = tt
-all-named-is n (w ∷ b) h =
-    let d = either-false _ _ h in
-    (named-is n (w .entry) (d .0), all-named-is n b (d .1))
-
-is-all-named : (n : ℕ) (b : List Waiting) → AllNamed n b → anyStrays n b ≡ false
-unfolding anyStrays AllNamed
-is-all-named n [] h = refl
-is-all-named n (w ∷ b) h = either-none _ _ (is-named n (w .entry) (h .0)) (is-all-named n b (h .1))
-
--- marks: none is foreign, so each bears a thread that there is, and back
-borne-is : (n : ℕ) (ms : List ℕ) → anyForeign n ms ≡ false → AllBorne n ms
-unfolding anyForeign AllBorne
-borne-is n [] h = tt
-borne-is n (m ∷ ms) h =
-    let d = either-false _ _ h in
-    (ltb-false _ _ (d .0), borne-is n ms (d .1))
-
-is-borne : (n : ℕ) (ms : List ℕ) → AllBorne n ms → anyForeign n ms ≡ false
-unfolding anyForeign AllBorne
-is-borne n [] h = refl
-is-borne n (m ∷ ms) h = either-none _ _ (le-ltb _ _ (h .0)) (is-borne n ms (h .1))
-
 -- a thread's part, and a queue's
 record ThreadFits (p : Program) (s : State) (t : ℕ) : Type 0 where
   few-issued : issuedOf s t ≤ countAt p t
   no-buffer : p .threads ≤ t → bufferLen s t ≡ 0
   few-waiting : bufferLen s t + unissued p s t ≤ mostInstructions
-  named : AllNamed (p .locations) (buffer s t)
+  named : AllOf (NamedBy (p .locations)) (buffer s t)
 
 record QueueFits (p : Program) (s : State) (q : ℕ) : Type 0 where
   no-queue : queuesOf p ≤ q → queueLen s q ≡ 0
   few-queued : queueLen s q + due p s ≤ room
-  borne : AllBorne (p .threads) (marksIn (s .marks) (s .lengths) q)
+  borne : AllOf (Borne (p .threads)) (marksIn (s .marks) (s .lengths) q)
 
 module _ (p : Program) (s : State) where
   thread-is : (t : ℕ) → threadMisfits p s t ≡ false → ThreadFits p s t
@@ -106,7 +76,7 @@ module _ (p : Program) (s : State) where
         few-issued = ltb-false _ _ (a .0);
         no-buffer = none-is _ _ _ (b .0);
         few-waiting = ltb-false _ _ (c .0);
-        named = all-named-is _ _ (c .1);
+        named = none-all (NamedBy (p .locations)) _ (λ w. named-is _ (w .entry)) _ (c .1);
       }
 
   is-thread : (t : ℕ) → ThreadFits p s t → threadMisfits p s t ≡ false
@@ -115,7 +85,7 @@ module _ (p : Program) (s : State) where
       either-none _ _ (le-ltb _ _ (f .few-issued))
       (either-none _ _ (is-none _ _ _ (f .no-buffer))
       (either-none _ _ (le-ltb _ _ (f .few-waiting))
-      (is-all-named _ _ (f .named))))
+      (all-none (NamedBy (p .locations)) _ (λ w. is-named _ (w .entry)) _ (f .named))))
 
   queue-is : (q : ℕ) → queueMisfits p s q ≡ false → QueueFits p s q
   unfolding queueMisfits
@@ -125,7 +95,7 @@ module _ (p : Program) (s : State) where
       record {
         no-queue = none-is _ _ _ (a .0);
         few-queued = ltb-false _ _ (b .0);
-        borne = borne-is _ _ (b .1);
+        borne = none-all (Borne (p .threads)) _ (λ m. ltb-false _ m) _ (b .1);
       }
 
   is-queue : (q : ℕ) → QueueFits p s q → queueMisfits p s q ≡ false
@@ -133,7 +103,7 @@ module _ (p : Program) (s : State) where
   is-queue q f =
       either-none _ _ (is-none _ _ _ (f .no-queue))
       (either-none _ _ (le-ltb _ _ (f .few-queued))
-      (is-borne _ _ (f .borne)))
+      (all-none (Borne (p .threads)) _ (λ m. le-ltb _ m) _ (f .borne)))
 
   -- the test is false: the facts hold
   pub fits-is : ProgramFits p → Sized s → misfits p s ≡ false → Fits p s
@@ -184,7 +154,7 @@ module _ (p : Program) (s : State) where
 -- the program of a case that passes 32 fits: with a state that passes 33, and where its runs start
 module _ (c : Case) (readable : readsBack c ≡ true) where
   pub readable-fits : (s : State) → Sized s → misfits (c .program) s ≡ false → Fits (c .program) s
-  readable-fits s z h = fits-is (c .program) s (ranged-fits c (readable-ranged c readable)) z h
+  readable-fits s z h = fits-is (c .program) s (readable-ranged c readable .program) z h
 
   pub readable-start : (s : State) → s ≡ startOf (c .program) → Fits (c .program) s
-  readable-start s e = rw e (start-fits (c .program) (ranged-fits c (readable-ranged c readable)))
+  readable-start s e = rw e (start-fits (c .program) (readable-ranged c readable .program))

@@ -52,7 +52,7 @@ module _ (p : Program) (s : State) (t : ℕ) (o : Spare p s t) (low : t < p .thr
       → work p (performed p s t (of op l r w)) + 1 ≡ work p s + unissuedWeight op
   unfolding performed pick entryOf loaded exchanged unissuedWeight waitingWeight
   performed-work =
-      let z = o .fit .program .few-threads in
+      let z = o .fit .program .sized .few-threads in
       let y = few-queues p (o .fit .program) in
       let at = to in
       let b = o .space in

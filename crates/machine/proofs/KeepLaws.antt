@@ -14,7 +14,7 @@ use Rattle.machine.specs.declared.cells.Waiting.{Waiting}
 use Rattle.machine.specs.Sizes.{room}
 use Rattle.machine.specs.View.{Slot, marksOf, marksIn, queue, queueLen, withQueue, buffer, bufferLen}
 use Rattle.machine.specs.View.{withBuffer, withWord, withRegister}
-use Rattle.machine.specs.Fit.{sumTo, unissued, due, Fits, AllNamed, AllBorne}
+use Rattle.machine.specs.Fit.{sumTo, unissued, due, Fits, AllOf, Borne, NamedBy}
 use Rattle.machine.proofs.SumLaws.{sum-change}
 use Rattle.machine.proofs.QueueOfLaws.{few-queues}
 use Rattle.machine.proofs.QueueLaws.{queue-length, queueLen-same, queueLen-other, marks-same}
@@ -38,7 +38,7 @@ module _ (p : Program) (s : State) (f : Fits p s) where
 
   -- a queue that keeps within the bounds, with markers of threads that there are
   module _ (q : ℕ) (low : q < queuesOf p) (r : List Slot) (few : length r + due p s ≤ room)
-      (borne : AllBorne (p .threads) (marksOf r)) where
+      (borne : AllOf (Borne (p .threads)) (marksOf r)) where
     in-range : q < mostLocations
     in-range = let w = few-queues p (f .program) in omega arith
 
@@ -76,7 +76,7 @@ module _ (p : Program) (s : State) (f : Fits p s) where
             queueLen-other s (f .sized) q in-range (queue-within q in-range) r short k e ∙ f .no-queue k h a
 
         bear : (k : ℕ) → k < mostLocations → Dec (k ≡ q)
-            → AllBorne (p .threads) (marksIn (withQueue s q r .marks) (withQueue s q r .lengths) k)
+            → AllOf (Borne (p .threads)) (marksIn (withQueue s q r .marks) (withQueue s q r .lengths) k)
         bear k h (yes e) = rw (e, marks-same s (f .sized) q in-range (queue-within q in-range) r short) borne
         bear k h (no e) =
             rw (marks-other s (f .sized) q in-range (queue-within q in-range) r short k e (queue-within k h))
@@ -86,7 +86,7 @@ module _ (p : Program) (s : State) (f : Fits p s) where
   module _ (t : ℕ) (low : t < p .threads) (b : List Waiting)
       (few : length b + unissued p s t ≤ mostInstructions) where
     in-threads : t < mostThreads
-    in-threads = let w = f .program .few-threads in omega arith
+    in-threads = let w = f .program .sized .few-threads in omega arith
 
     fewer : length b ≤ mostInstructions
     fewer = omega arith
@@ -103,7 +103,7 @@ module _ (p : Program) (s : State) (f : Fits p s) where
         omega arith
 
     pub fits-buffer : ((q : ℕ) → q < mostLocations → queueLen s q + due p (withBuffer s t b) ≤ room)
-        → AllNamed (p .locations) b
+        → AllOf (NamedBy (p .locations)) b
         → Fits p (withBuffer s t b)
     fits-buffer queues named =
         record {
@@ -134,7 +134,7 @@ module _ (p : Program) (s : State) (f : Fits p s) where
         none k h a (yes e) = absurd (omega arith)
         none k h a (no e) = bufferLen-other s (f .sized) t in-threads within b fewer k e ∙ f .no-buffer k h a
 
-        name : (k : ℕ) → k < mostThreads → Dec (k ≡ t) → AllNamed (p .locations) (buffer (withBuffer s t b) k)
+        name : (k : ℕ) → k < mostThreads → Dec (k ≡ t) → AllOf (NamedBy (p .locations)) (buffer (withBuffer s t b) k)
         name k h (yes e) = rw (e, buffer-same s (f .sized) t in-threads within b fewer) named
         name k h (no e) =
             rw (buffer-other s (f .sized) t in-threads within b fewer k e (buffer-within k h)) (f .named k h)

@@ -4,6 +4,7 @@
 pub mod Promises
 pub mod Effects
 pub mod AnyLaws
+pub mod AllLaws
 pub mod ListLaws
 pub mod OperationLaws
 pub mod Computing

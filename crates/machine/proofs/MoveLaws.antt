@@ -23,7 +23,8 @@ use Rattle.machine.specs.Parts.{Parts, lent}
 use Rattle.machine.specs.Look.{wordOr}
 use Rattle.machine.specs.Rules.{entryAt, effectRule, effectOf, passRule, moveRule, moveOf, persistFirst}
 use Rattle.machine.specs.Rules.{persistOf}
-use Rattle.machine.specs.Fit.{ProgramFits, Named, Roomy}
+use Rattle.cases.specs.Ranges.{ProgramFits}
+use Rattle.machine.specs.Fit.{Named, Roomy}
 use Rattle.machine.proofs.PartLaws.{getD-part}
 use Rattle.machine.proofs.QueueOfLaws.{queue-low, home-low}
 use Rattle.machine.proofs.PartsLaws.{effect-lent}

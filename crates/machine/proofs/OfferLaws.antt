@@ -18,14 +18,13 @@ use Rattle.machine.specs.Sizes.{mostCandidates}
 use Rattle.machine.specs.View.{bufferIn}
 use Rattle.machine.specs.Parts.{Parts, lent}
 use Rattle.machine.specs.Rules.{instructionAt, barrierRule, operationRule, issueRule, ruleIn, entryAt}
-use Rattle.machine.specs.Fit.{Named, ProgramFits}
-use Rattle.machine.specs.Next.{issueStep, moveStep, persistStep, issuesFrom, movesAt, movesFrom}
-use Rattle.machine.specs.Next.{persistsFrom}
+use Rattle.machine.specs.Fit.{Named}
+use Rattle.cases.specs.Ranges.{ProgramFits}
+use Rattle.machine.specs.Next.{issueStep, moveStep, stepsFrom, movesFrom}
 use Rattle.machine.specs.Offer.{offered, offeredAll, Movable}
-use Rattle.machine.proofs.OfferedLaws.{count-offered, count-offered-all, issues-next, issues-end}
-use Rattle.machine.proofs.OfferedLaws.{positions-next, positions-end, moves-next, moves-end}
-use Rattle.machine.proofs.OfferedLaws.{persists-next, persists-end}
-use Rattle.machine.proofs.NextLaws.{length-issues, length-positions, length-moves}
+use Rattle.machine.proofs.OfferedLaws.{count-offered, count-offered-all, steps-next, steps-end}
+use Rattle.machine.proofs.OfferedLaws.{positions-end, moves-next, moves-end}
+use Rattle.machine.proofs.NextLaws.{length-steps, length-moves}
 
 -- Of most turns, each with so many steps, i are done: the steps of those left, offered to the list so far, give
 -- what the steps of all give to the list at the start, and the list has room for them.
@@ -58,55 +57,34 @@ few-next : (broken : ℕ) (k : Step) (most i : ℕ) (n next : Next) → i < most
     → next .count + (most - (i + 1)) * 1 ≤ mostCandidates
 few-next broken k most i n next h e w = rw e (let a = count-offered broken k n in omega arith)
 
--- a turn goes on, the loop ends: issues by thread, moves by position, moves by thread, persists by queue
+-- a turn goes on, the loop ends: one step a turn (issues by thread, moves by position, persists by queue); a
+-- thread's moves a turn
 module _ {rule : Step → ℕ} {most i : ℕ} {n start : Next} where
-  pub issue-next : OfferedSoFar rule issuesFrom 1 most i n start → i < most
-      → (broken : ℕ) → broken ≡ rule (issueStep i) → (next : Next) → next ≡ offered broken (issueStep i) n
-      → OfferedSoFar rule issuesFrom 1 most (i + 1) next start
-  issue-next o h broken e next f =
+  pub offer-next : (step : ℕ → Step) → OfferedSoFar rule (stepsFrom step) 1 most i n start → i < most
+      → (broken : ℕ) → broken ≡ rule (step i) → (next : Next) → next ≡ offered broken (step i) n
+      → OfferedSoFar rule (stepsFrom step) 1 most (i + 1) next start
+  offer-next step o h broken e next f =
       record {
-        few = few-next broken (issueStep i) most i n next h f (o .few);
-        rest = rw (f, e) (issues-next rule i most n h ∙ o .rest);
+        few = few-next broken (step i) most i n next h f (o .few);
+        rest = rw (f, e) (steps-next rule i most n step h ∙ o .rest);
       }
 
-  pub issue-end : OfferedSoFar rule issuesFrom 1 most i n start → most ≤ i
-      → n ≡ offeredAll rule (issuesFrom 0 most) start
-  issue-end o h = sym (issues-end rule i most n h) ∙ o .rest
-
-  pub position-next : (t : ℕ) → OfferedSoFar rule (movesAt t) 1 most i n start → i < most
-      → (broken : ℕ) → broken ≡ rule (moveStep t i) → (next : Next) → next ≡ offered broken (moveStep t i) n
-      → OfferedSoFar rule (movesAt t) 1 most (i + 1) next start
-  position-next t o h broken e next f =
-      record {
-        few = few-next broken (moveStep t i) most i n next h f (o .few);
-        rest = rw (f, e) (positions-next rule i most n t h ∙ o .rest);
-      }
+  pub offer-end : (step : ℕ → Step) → OfferedSoFar rule (stepsFrom step) 1 most i n start → most ≤ i
+      → n ≡ offeredAll rule (stepsFrom step 0 most) start
+  offer-end step o h = sym (steps-end rule i most n step h) ∙ o .rest
 
   pub thread-next : OfferedSoFar rule movesFrom mostInstructions most i n start → i < most
-      → (next : Next) → next ≡ offeredAll rule (movesAt i 0 mostInstructions) n
+      → (next : Next) → next ≡ offeredAll rule (stepsFrom (moveStep i) 0 mostInstructions) n
       → OfferedSoFar rule movesFrom mostInstructions most (i + 1) next start
   thread-next o h next f =
-      let a = count-offered-all rule (movesAt i 0 mostInstructions) n in
-      let b = length-positions i 0 mostInstructions in
+      let a = count-offered-all rule (stepsFrom (moveStep i) 0 mostInstructions) n in
+      let b = length-steps (moveStep i) 0 mostInstructions in
       let w = o .few in
       record { few = rw f (omega arith); rest = rw f (moves-next rule i most n h ∙ o .rest) }
 
   pub thread-end : OfferedSoFar rule movesFrom mostInstructions most i n start → most ≤ i
       → n ≡ offeredAll rule (movesFrom 0 most) start
   thread-end o h = sym (moves-end rule i most n h) ∙ o .rest
-
-  pub persist-next : OfferedSoFar rule persistsFrom 1 most i n start → i < most
-      → (broken : ℕ) → broken ≡ rule (persistStep i) → (next : Next) → next ≡ offered broken (persistStep i) n
-      → OfferedSoFar rule persistsFrom 1 most (i + 1) next start
-  persist-next o h broken e next f =
-      record {
-        few = few-next broken (persistStep i) most i n next h f (o .few);
-        rest = rw (f, e) (persists-next rule i most n h ∙ o .rest);
-      }
-
-  pub persist-end : OfferedSoFar rule persistsFrom 1 most i n start → most ≤ i
-      → n ≡ offeredAll rule (persistsFrom 0 most) start
-  persist-end o h = sym (persists-end rule i most n h) ∙ o .rest
 
 -- the rule against a thread's issue: no instruction is left, or its operation decides
 module _ (p : Program) (x : Parts) (t : ℕ) where
@@ -124,16 +102,16 @@ module _ (p : Program) (x : Parts) (t : ℕ) where
 
 -- behind a buffer's entries there is nothing to move
 pub position-end : (p : Program) (x : Parts) (t : ℕ) {most i : ℕ} {n start : Next}
-    → OfferedSoFar (ruleIn p x) (movesAt t) 1 most i n start
+    → OfferedSoFar (ruleIn p x) (stepsFrom (moveStep t)) 1 most i n start
     → getD (x .waiting) t 0 ≤ i
-    → n ≡ offeredAll (ruleIn p x) (movesAt t 0 most) start
+    → n ≡ offeredAll (ruleIn p x) (stepsFrom (moveStep t) 0 most) start
 position-end p x t {most} {i} {n} o h = sym (positions-end p x t (most - i) i n h) ∙ o .rest
 
 -- all issues make the list longer by one a thread at most, all moves by a buffer's depth a thread
-issues-few : (rule : Step → ℕ) (most : ℕ) (n next : Next) → next ≡ offeredAll rule (issuesFrom 0 most) n
+issues-few : (rule : Step → ℕ) (most : ℕ) (n next : Next) → next ≡ offeredAll rule (stepsFrom issueStep 0 most) n
     → next .count ≤ n .count + most
 issues-few rule most n next e =
-    rw e (let a = count-offered-all rule (issuesFrom 0 most) n in let b = length-issues 0 most in omega arith)
+    rw e (let a = count-offered-all rule (stepsFrom issueStep 0 most) n in let b = length-steps issueStep 0 most in omega arith)
 
 moves-few : (rule : Step → ℕ) (most : ℕ) (n next : Next) → next ≡ offeredAll rule (movesFrom 0 most) n
     → next .count ≤ n .count + most * mostInstructions
@@ -149,9 +127,9 @@ movable-at buffers waiting m t h = m t h
 
 -- before each of the last two loops there is room for the steps that it offers
 module _ (p : Program) (g : ProgramFits p) (start issues : Next) (none : start .count ≡ 0)
-    (rule : Step → ℕ) (e : issues ≡ offeredAll rule (issuesFrom 0 (p .threads)) start) where
+    (rule : Step → ℕ) (e : issues ≡ offeredAll rule (stepsFrom issueStep 0 (p .threads)) start) where
   issues-counted : issues .count ≤ mostThreads
-  issues-counted = let a = issues-few _ _ _ _ e in let w = g .few-threads in omega arith
+  issues-counted = let a = issues-few _ _ _ _ e in let w = g .sized .few-threads in omega arith
 
   pub moves-room : issues .count + mostThreads * mostInstructions ≤ mostCandidates
   moves-room = let a = issues-counted in omega arith
@@ -162,5 +140,5 @@ module _ (p : Program) (g : ProgramFits p) (start issues : Next) (none : start .
   persists-room rule moves f =
       let a = issues-counted in
       let b = moves-few _ _ _ _ f in
-      let w = g .few-threads in
+      let w = g .sized .few-threads in
       omega arith

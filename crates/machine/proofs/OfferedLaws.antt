@@ -19,8 +19,7 @@ use Rattle.machine.specs.declared.next.Next.{Next}
 use Rattle.machine.specs.Sizes.{mostCandidates}
 use Rattle.machine.specs.Parts.{Parts}
 use Rattle.machine.specs.Rules.{moveRule, ruleIn}
-use Rattle.machine.specs.Next.{issueStep, moveStep, persistStep, issuesFrom, movesAt, movesFrom}
-use Rattle.machine.specs.Next.{persistsFrom, rankOf, listed}
+use Rattle.machine.specs.Next.{moveStep, stepsFrom, movesFrom, rankOf, listed}
 use Rattle.machine.specs.Model.{allowed}
 use Rattle.machine.specs.Offer.{nextWith, offered, offeredAll}
 
@@ -112,45 +111,29 @@ offered-some broken k count ranks r h e = rw e (sym (pick-true _ _ _ (eq-eqb _ _
 -- Loops. The steps still to be offered to the list so far give what all steps give to the list at the start: a
 -- turn goes on, the loop ends.
 module _ (rule : Step → ℕ) (i most : ℕ) (n : Next) where
-  pub issues-next : i < most
-      → offeredAll rule (issuesFrom (i + 1) (most - (i + 1))) (offered (rule (issueStep i)) (issueStep i) n)
-      ≡ offeredAll rule (issuesFrom i (most - i)) n
-  unfolding issuesFrom offeredAll
-  issues-next h = let e : most - i ≡ suc (most - (i + 1)) = omega arith in rw (e, add-one)
+  module _ (step : ℕ → Step) where
+    pub steps-next : i < most
+        → offeredAll rule (stepsFrom step (i + 1) (most - (i + 1))) (offered (rule (step i)) (step i) n)
+        ≡ offeredAll rule (stepsFrom step i (most - i)) n
+    unfolding stepsFrom offeredAll
+    steps-next h = let e : most - i ≡ suc (most - (i + 1)) = omega arith in rw (e, add-one)
 
-  pub issues-end : most ≤ i → offeredAll rule (issuesFrom i (most - i)) n ≡ n
-  unfolding issuesFrom offeredAll
-  issues-end h = let e : most - i ≡ 0 = omega arith in rw e
-
-  pub persists-next : i < most
-      → offeredAll rule (persistsFrom (i + 1) (most - (i + 1)))
-      (offered (rule (persistStep i)) (persistStep i) n)
-      ≡ offeredAll rule (persistsFrom i (most - i)) n
-  unfolding persistsFrom offeredAll
-  persists-next h = let e : most - i ≡ suc (most - (i + 1)) = omega arith in rw (e, add-one)
-
-  pub persists-end : most ≤ i → offeredAll rule (persistsFrom i (most - i)) n ≡ n
-  unfolding persistsFrom offeredAll
-  persists-end h = let e : most - i ≡ 0 = omega arith in rw e
+    pub steps-end : most ≤ i → offeredAll rule (stepsFrom step i (most - i)) n ≡ n
+    unfolding stepsFrom offeredAll
+    steps-end h = let e : most - i ≡ 0 = omega arith in rw e
 
   pub moves-next : i < most
-      → offeredAll rule (movesFrom (i + 1) (most - (i + 1))) (offeredAll rule (movesAt i 0 mostInstructions) n)
+      → offeredAll rule (movesFrom (i + 1) (most - (i + 1))) (offeredAll rule (stepsFrom (moveStep i) 0 mostInstructions) n)
       ≡ offeredAll rule (movesFrom i (most - i)) n
   unfolding movesFrom
   moves-next h =
       let e : most - i ≡ suc (most - (i + 1)) = omega arith in
       rw (e, add-one)
-      (sym (offered-append rule (movesAt i 0 mostInstructions) (movesFrom (suc i) (most - suc i)) n))
+      (sym (offered-append rule (stepsFrom (moveStep i) 0 mostInstructions) (movesFrom (suc i) (most - suc i)) n))
 
   pub moves-end : most ≤ i → offeredAll rule (movesFrom i (most - i)) n ≡ n
   unfolding movesFrom offeredAll
   moves-end h = let e : most - i ≡ 0 = omega arith in rw e
-
-  pub positions-next : (t : ℕ) → i < most
-      → offeredAll rule (movesAt t (i + 1) (most - (i + 1))) (offered (rule (moveStep t i)) (moveStep t i) n)
-      ≡ offeredAll rule (movesAt t i (most - i)) n
-  unfolding movesAt offeredAll
-  positions-next t h = let e : most - i ≡ suc (most - (i + 1)) = omega arith in rw (e, add-one)
 
 -- behind a buffer's entries there is nothing to move
 module _ (p : Program) (x : Parts) (t : ℕ) where
@@ -159,9 +142,9 @@ module _ (p : Program) (x : Parts) (t : ℕ) where
   no-entry i h = rw (le-leb _ _ h) (λ e. omega arith)
 
   pub positions-end : (m i : ℕ) (n : Next) → getD (x .waiting) t 0 ≤ i
-      → offeredAll (ruleIn p x) (movesAt t i m) n ≡ n
-  unfolding movesAt offeredAll
+      → offeredAll (ruleIn p x) (stepsFrom (moveStep t) i m) n ≡ n
+  unfolding stepsFrom offeredAll
   positions-end zero i n h = refl
   positions-end (suc m) i n h =
       let e = offered-none _ (moveStep t i) n (no-entry i h) in
-      ap (offeredAll (ruleIn p x) (movesAt t (suc i) m)) e ∙ positions-end m (suc i) n (omega arith)
+      ap (offeredAll (ruleIn p x) (stepsFrom (moveStep t) (suc i) m)) e ∙ positions-end m (suc i) n (omega arith)

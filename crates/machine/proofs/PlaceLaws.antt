@@ -50,7 +50,7 @@ run-low p s ks h = go (leads-or-stops (ptso p) s ks)
 -- a run that was read has no more
 run-short : (c : Case) → Ranged c → length (runOf c) ≤ mostSteps
 run-short c r =
-    let few = r .few-steps in
+    let few = r .run .few-steps in
     omega (arith, length-take (c .run .count) (c .run .steps))
 
 pub verdict-low : (s : List ℕ) → Low (judgeBytes s .verdict)

@@ -26,8 +26,9 @@ use Rattle.machine.specs.Parts.{Parts, partsOf}
 use Rattle.machine.specs.Look.{markerAmong, markerFrom, markerOf, marked}
 use Rattle.machine.specs.Rules.{barrierRule, operationRule, issueRule, effectRule, moveRule, persistRule}
 use Rattle.machine.specs.Rules.{ruleIn, ruleOf}
-use Rattle.machine.specs.Fit.{unissued, ProgramFits, Fits, Named}
-use Rattle.machine.specs.Work.{weighCode, weighBuffer, unissuedCode, threadWork, work, Unfinished}
+use Rattle.machine.specs.Fit.{unissued, Fits, Named}
+use Rattle.cases.specs.Ranges.{ProgramFits}
+use Rattle.machine.specs.Work.{unissuedCode, threadWork, work, Unfinished, weigh}
 use Rattle.machine.specs.Next.{issueStep, moveStep, persistStep}
 use Rattle.machine.specs.Offer.{Movable}
 use Rattle.machine.proofs.SumLaws.{sum-none, some-or-none}
@@ -76,7 +77,7 @@ work-none : (p : Program) (s : State) → ((q : ℕ) → q < mostLocations → q
     → ((t : ℕ) → t < mostThreads → bufferLen s t ≡ 0)
     → ((t : ℕ) → t < mostThreads → unissued p s t ≡ 0)
     → work p s ≡ 0
-unfolding work threadWork unissuedCode weighCode weighBuffer bufferIn part
+unfolding work threadWork unissuedCode weigh bufferIn part
 work-none p s queues buffers code =
     let a = sum-none mostThreads (threadWork p s) (λ t h. rw (buffers t h, code t h)) in
     let b = sum-none mostLocations (queueLen s) queues in
@@ -109,7 +110,7 @@ module _ (p : Program) (s : State) (f : Fits p s) where
         → (stepFault (limitsOf p) (moveStep t 0) ≡ 0) × (ruleOf p s (moveStep t 0) ≡ 0)
     unfolding ruleOf ruleIn pick moveRule refuse Movable
     move-legal t low h =
-        let few = f .program .few-threads in
+        let few = f .program .sized .few-threads in
         let n = buffer-long p s f t (omega arith) in
         let held : bufferLen s t ≢ 0 = λ e. h (length-none _ (n ∙ e)) in
         let some : 0 < bufferLen s t = omega arith in
@@ -122,7 +123,7 @@ module _ (p : Program) (s : State) (f : Fits p s) where
         → (stepFault (limitsOf p) (issueStep t) ≡ 0) × (ruleOf p s (issueStep t) ≡ 0)
     unfolding ruleOf ruleIn pick issueRule refuse
     issue-legal t low h left =
-        let few = f .program .few-threads in
+        let few = f .program .sized .few-threads in
         let n = sym (buffer-long p s f t (omega arith)) ∙ ap length h in (
           issue-fault p t low,
           rw (lt-leb _ _ left) (operation-none (partsOf s) (queues-none quiet) t _ n),

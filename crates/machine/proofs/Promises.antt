@@ -27,7 +27,8 @@ use Rattle.machine.specs.View.{queueOf, marksIn, queue, buffer, issuedOf
 use Rattle.machine.specs.Behind.{BlankBehind, SameEntries}
 use Rattle.machine.specs.Look.{markerOf, isAt, foundQueue, foundPosition}
 use Rattle.machine.specs.Rules.{ruleOf, nextOf, startOf}
-use Rattle.machine.specs.Fit.{sumTo, misfits, Sized, ProgramFits, Fits, Shallow}
+use Rattle.machine.specs.Fit.{sumTo, misfits, Sized, Fits, Shallow}
+use Rattle.cases.specs.Ranges.{ProgramFits}
 use Rattle.machine.specs.Work.{work, Unfinished, programWeight, cost}
 use Rattle.machine.specs.Model.{Model, Lawful, EachCostsOne, spent, fullLength, Leads, Faultless, StopsAt}
 use Rattle.machine.specs.Model.{legalSteps, Listed, Ascending}
@@ -58,7 +59,7 @@ use Rattle.machine.proofs.JudgeLaws.{says-leads, says-stops, state-is}
 
 -- the program of a case that is handed out with 0 is one that the machine can run
 pub read-fits : (s : List ℕ) → numberOf (readOf s .answer) ≡ 0 → ProgramFits (readOf s .case .program)
-read-fits s h = StartLaws.ranged-fits (readOf s .case) (read-ranged s h)
+read-fits s h = read-ranged s h .program
 
 -- Any machine
 module _ {S K : Type 0} (m : Model S K) where
@@ -161,7 +162,7 @@ full-length-weighs = StartLaws.full-weighs
 module _ (c : Case) (readable : readsBack c ≡ true) where
   -- its program is one that the machine can run
   pub program-fits : ProgramFits (c .program)
-  program-fits = StartLaws.ranged-fits c (readable-ranged c readable)
+  program-fits = readable-ranged c readable .program
 
   judge-is : judgeOf c ≡ judgeFrom (ptso (c .program)) 0 (startOf (c .program)) (runOf c)
   unfolding judgeOf judgeRun

@@ -3,7 +3,8 @@ use mathlib.Core.Path.{refl}
 use native.Mathlib.Omega.{arith}
 use Rattle.cases.specs.declared.case.Program.{Program}
 use Rattle.machine.specs.Model.{Lawful, EachCostsOne}
-use Rattle.machine.specs.Fit.{ProgramFits, Fits}
+use Rattle.cases.specs.Ranges.{ProgramFits}
+use Rattle.machine.specs.Fit.{Fits}
 use Rattle.machine.specs.Work.{cost}
 use Rattle.machine.specs.Next.{rankOf}
 use Rattle.machine.specs.Ptso.{ptso}

@@ -16,7 +16,7 @@ use Rattle.machine.specs.declared.cells.State.{State}
 use Rattle.machine.specs.Sizes.{mostCandidates, kindRanks}
 use Rattle.machine.specs.Parts.{partsOf}
 use Rattle.machine.specs.Rules.{ruleIn, ruleOf}
-use Rattle.machine.specs.Fit.{ProgramFits}
+use Rattle.cases.specs.Ranges.{ProgramFits}
 use Rattle.machine.specs.Next.{issueStep, moveStep, persistStep, candidates, rankOf, stepAt, listed}
 use Rattle.machine.specs.Next.{nextIn, nextSteps}
 use Rattle.machine.specs.Model.{allowed, legalSteps, Listed}
@@ -54,7 +54,7 @@ legal-back : (p : Program) (s : State) → ProgramFits p
     → (k : Step) → Listed k (legalSteps (ptso p) s) → stepAt (rankOf k) ≡ k
 unfolding legalSteps
 legal-back p s g k h =
-    let w = g .few-threads in
+    let w = g .sized .few-threads in
     candidates-all p (λ j. stepAt (rankOf j) ≡ j)
     (λ t a. issue-back t (omega arith))
     (λ t i a b. move-back t i (omega arith) b)

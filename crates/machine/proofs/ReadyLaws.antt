@@ -12,6 +12,7 @@ use Rattle.cases.specs.declared.case.Program.{Program}
 use Rattle.cases.specs.Checks.{limitsOf, stepFault, countAt}
 use Rattle.cases.specs.Sizes.{mostThreads, mostInstructions, mostLocations, mostRegisters}
 use Rattle.cases.proofs.ChoiceLaws.{pick-true, pick-false}
+use Rattle.cases.proofs.Promises.{thread-low}
 use Rattle.cases.specs.Operations.{issue, move}
 use Rattle.machine.specs.declared.cells.State.{State}
 use Rattle.machine.specs.declared.cells.Waiting.{Waiting}
@@ -21,7 +22,8 @@ use Rattle.machine.specs.Sizes.{room, allSlots}
 use Rattle.machine.specs.View.{queueOf, queueLen, buffer, bufferIn, bufferLen, issuedOf}
 use Rattle.machine.specs.Parts.{partsOf}
 use Rattle.machine.specs.Rules.{instructionAt, issueRule, moveRule, persistRule, ruleIn, ruleOf, entryAt}
-use Rattle.machine.specs.Fit.{ProgramFits, Fits, Named, AllNamed, Shallow, Roomy, unissued, due}
+use Rattle.cases.specs.Ranges.{ProgramFits}
+use Rattle.machine.specs.Fit.{Fits, Named, Shallow, Roomy, unissued, due, AllOf, NamedBy}
 use Rattle.machine.specs.Offer.{Movable}
 use Rattle.machine.proofs.SumLaws.{sum-part}
 use Rattle.machine.proofs.QueueOfLaws.{few-queues, queue-low}
@@ -39,18 +41,15 @@ named-low n (FlushOpt l) h a = omega arith
 named-low n Sfence h a = tt
 
 -- the first entry, or the blank where there is none
-first-entry : (n : ℕ) (b : List Waiting) → n ≤ mostLocations → AllNamed n b → Named mostLocations (entryAt b 0)
-unfolding AllNamed
+first-entry : (n : ℕ) (b : List Waiting) → n ≤ mostLocations → AllOf (NamedBy n) b → Named mostLocations (entryAt b 0)
+unfolding AllOf
 first-entry n [] h a = unfold Named in omega arith
 first-entry n (w ∷ b) h a = named-low n (w .entry) h (a .0)
 
 -- the rules by their codes, over the parts they look at
 module _ (p : Program) (g : ProgramFits p) (k : Step) (faultless : stepFault (limitsOf p) k ≡ 0) where
-  thread-low : k .code ≤ 1 → k .thread .0 < mostThreads
-  thread-low h =
-      let a = fault-none p k faultless .low-thread h in
-      let b = g .few-threads in
-      omega arith
+  taken-low : k .code ≤ 1 → k .thread .0 < mostThreads
+  taken-low h = thread-low g (fault-none p k faultless .low-thread h)
 
   pub persist-low : k .code ≢ 0 → k .code ≢ 1 → k .location .0 < mostLocations
   persist-low h n =
@@ -64,7 +63,7 @@ module _ (p : Program) (g : ProgramFits p) (k : Step) (faultless : stepFault (li
     pub issue-rule-ready : k .code ≡ issue
         → (k .thread .0 < mostThreads) × (countAt p (k .thread .0) ≤ mostInstructions) × Shallow lengths
         × (length marks ≡ allSlots)
-    issue-rule-ready h = (thread-low (omega arith), g .few-instructions (k .thread .0), deep, long)
+    issue-rule-ready h = (taken-low (omega arith), g .sized .few-instructions (k .thread .0), deep, long)
 
     pub move-rule-ready : (buffers : List Waiting) (waiting : List ℕ) → Movable buffers waiting → k .code ≡ move
         → ProgramFits p × (k .thread .0 < mostThreads) × (getD waiting (k .thread .0) 0 ≤ mostInstructions)
@@ -72,7 +71,7 @@ module _ (p : Program) (g : ProgramFits p) (k : Step) (faultless : stepFault (li
         × (length marks ≡ allSlots)
     unfolding Movable
     move-rule-ready buffers waiting m h =
-        let low = thread-low (omega arith) in
+        let low = taken-low (omega arith) in
         let at = m (k .thread .0) low in
         (g, low, at .0, at .1, deep, long)
 
@@ -82,7 +81,7 @@ module _ (p : Program) (s : State) (f : Fits p s) where
   shallow q h = queue-within p s f q h
 
   head-named : (t : ℕ) → t < mostThreads → Named mostLocations (entryAt (buffer s t) 0)
-  head-named t h = first-entry (p .locations) (buffer s t) (f .program .few-locations) (f .named t h)
+  head-named t h = first-entry (p .locations) (buffer s t) (f .program .sized .few-locations) (f .named t h)
 
   pub movable : Movable (s .buffers) (s .waiting)
   unfolding Movable
@@ -137,14 +136,14 @@ module _ (p : Program) (s : State) (f : Fits p s) where
           × (queueLen s (queueOf p (instructionAt p (k .thread .0) (issuedOf s (k .thread .0)) .location .0))
           < room)
       issue-ready h =
-          let low = thread-low p (f .program) k faultless (omega arith) in
+          let low = taken-low p (f .program) k faultless (omega arith) in
           let left : issuedOf s (k .thread .0) < countAt p (k .thread .0)
           = issue-left p s f (k .thread .0) (issue-legal h) in
-          let few = f .program .few-instructions (k .thread .0) in
+          let few = f .program .sized .few-instructions (k .thread .0) in
           let fits = f .program .instructions (k .thread .0) (issuedOf s (k .thread .0)) left .1 in
           let some : 0 < unissued p s (k .thread .0) = unfold unissued in omega arith in
           let wait = f .few-waiting (k .thread .0) low in
-          let most = f .program .few-locations in
+          let most = f .program .sized .few-locations in
           let named = fits .low-location in
           let reg = fits .low-register in
           let l : instructionAt p (k .thread .0) (issuedOf s (k .thread .0)) .location .0 < mostLocations
@@ -157,7 +156,7 @@ module _ (p : Program) (s : State) (f : Fits p s) where
           × (bufferLen s (k .thread .0) ≤ mostInstructions)
           × Named mostLocations (entryAt (buffer s (k .thread .0)) (k .position)) × Roomy s
       move-ready h =
-          let low = thread-low p (f .program) k faultless (omega arith) in
+          let low = taken-low p (f .program) k faultless (omega arith) in
           let range = fault-none p k faultless .low-thread (omega arith) in
           let there = move-there p s f (k .thread .0) (k .position) range (move-legal h) in
           let named = move-named p s f (k .thread .0) (k .position) range (move-legal h) in (
@@ -165,7 +164,7 @@ module _ (p : Program) (s : State) (f : Fits p s) where
             low,
             there,
             buffer-within p s f (k .thread .0) low,
-            named-low (p .locations) _ (f .program .few-locations) named,
+            named-low (p .locations) _ (f .program .sized .few-locations) named,
             roomy (due-waiting (k .thread .0) low (omega arith)),
           )
 

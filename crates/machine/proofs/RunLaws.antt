@@ -29,7 +29,7 @@ use Rattle.machine.specs.Model.{fullLength, Leads, Faultless}
 use Rattle.machine.specs.Judge.{judged, judgeFrom, runOf, judgeRun, judgeOf}
 use Rattle.machine.specs.Ptso.{ptso}
 use Rattle.machine.proofs.PartLaws.{take-next, take-end}
-use Rattle.machine.proofs.StartLaws.{ranged-fits, start-fits, full-most}
+use Rattle.machine.proofs.StartLaws.{start-fits, full-most}
 use Rattle.machine.proofs.RangeLaws.{fault-none}
 use Rattle.machine.proofs.StepLaws.{step-fits}
 use Rattle.machine.proofs.ModelLaws.{leads-work, spent-least}
@@ -51,10 +51,10 @@ pub judging-start : (c : Case) (s : State) → Ranged c → s ≡ startOf (c .pr
 judging-start c s r e =
     record {
       within = omega arith;
-      few = r .few-steps;
-      long = r .steps-long;
+      few = r .run .few-steps;
+      long = r .run .steps-long;
       faultless = r .steps;
-      fit = rw e (start-fits (c .program) (ranged-fits c r));
+      fit = rw e (start-fits (c .program) (r .program));
       started = e;
       rest = ap (λ x. judgeFrom (ptso (c .program)) 0 x (take (c .run .count) (c .run .steps))) e;
     }
@@ -122,8 +122,8 @@ front-faultless p (suc n) (k ∷ ks) h f =
 
 pub run-faultless : (c : Case) → Ranged c → Faultless (ptso (c .program)) (runOf c)
 run-faultless c r =
-    let few = r .few-steps in
-    let long = r .steps-long in
+    let few = r .run .few-steps in
+    let long = r .run .steps-long in
     front-faultless (c .program) (c .run .count) (c .run .steps) (omega arith) (r .steps)
 
 -- the run of a case with the steps ks is ks
@@ -139,7 +139,7 @@ module _ (c : Case) (readable : readsBack c ≡ true) (ks : List Step) (u : Stat
   pub rerun-reads : readsBack (withRun c (runWith ks)) ≡ true
   unfolding fullLength
   rerun-reads =
-      let fits = ranged-fits c (readable-ranged c readable) in
+      let fits = readable-ranged c readable .program in
       let most = full-most (c .program) fits in
       let laws = ptso-lawful (c .program) fits in
       let work = leads-work (ptso (c .program)) laws _ ks u (start-fits (c .program) fits) faultless legal in

@@ -1,13 +1,12 @@
 -- A fit with room for one entry more in thread t's buffer and in each queue. Taking an entry out of a buffer,
 -- or counting an instruction as issued, leaves it; putting one in uses it up. Assumes nothing.
-use Prim.Native.Nat.{ℕ, zero, suc, _+_, _≤_, _<_}
+use Prim.Native.Nat.{ℕ, suc, _+_, _≤_, _<_}
 use mathlib.Core.Path.{_≡_, refl, _∙_}
 use mathlib.Core.Logic.{_≢_}
 use mathlib.Core.List.{List, [], _∷_, _++_}
 use native.Mathlib.Omega.{arith}
-use native.Mathlib.Numerals.{add-one}
 use native.Mathlib.Decide.{ℕ-discrete}
-use lib.ListN.{length, getD, length-append}
+use lib.ListN.{length, length-append}
 use Rattle.cases.specs.declared.case.Program.{Program}
 use Rattle.cases.specs.Sizes.{mostThreads, mostInstructions, mostLocations}
 use Rattle.cases.specs.Checks.{countAt, queuesOf}
@@ -18,7 +17,7 @@ use Rattle.machine.specs.Sizes.{room}
 use Rattle.machine.specs.View.{Slot, marksOf, marksIn, queue, queueLen, without, buffer, bufferLen}
 use Rattle.machine.specs.View.{withBuffer, withRegister, issuedOf, withIssued}
 use Rattle.machine.specs.Rules.{enqueue, await}
-use Rattle.machine.specs.Fit.{sumTo, unissued, due, Fits, Named, AllNamed, AllBorne}
+use Rattle.machine.specs.Fit.{sumTo, unissued, due, Fits, Named, AllOf, Borne, NamedBy}
 use Rattle.machine.proofs.SumLaws.{sum-change}
 use Rattle.machine.proofs.PutLaws.{length-without}
 use Rattle.machine.proofs.SlotLaws.{marks-append}
@@ -27,31 +26,7 @@ use Rattle.machine.proofs.QueueOfLaws.{few-queues}
 use Rattle.machine.proofs.ViewLaws.{bufferLen-same, sized-issued, issued-same, issued-other}
 use Rattle.machine.proofs.KeepLaws.{queue-within, buffer-within, queue-long, buffer-long, fits-queue}
 use Rattle.machine.proofs.KeepLaws.{due-buffer, fits-buffer, fits-register}
-
--- a list's entries, one by one
-pub named-get : (n : ℕ) (b : List Waiting) (i : ℕ) (d : Waiting) → AllNamed n b → i < length b
-    → Named n (getD b i d .entry)
-unfolding AllNamed
-named-get n [] i d a h = absurd (omega arith)
-named-get n (w ∷ b) zero d a h = a .0
-named-get n (w ∷ b) (suc i) d a h = named-get n b i d (a .1) (omega arith)
-
-named-append : (n : ℕ) (b c : List Waiting) → AllNamed n b → AllNamed n c → AllNamed n (b ++ c)
-unfolding AllNamed
-named-append n [] c a e = e
-named-append n (w ∷ b) c a e = (a .0, named-append n b c (a .1) e)
-
-borne-append : (n : ℕ) (b c : List ℕ) → AllBorne n b → AllBorne n c → AllBorne n (b ++ c)
-unfolding AllBorne
-borne-append n [] c a e = e
-borne-append n (m ∷ b) c a e = (a .0, borne-append n b c (a .1) e)
-
-named-without : (n : ℕ) (b : List Waiting) (i : ℕ) → AllNamed n b → AllNamed n (without i b)
-unfolding AllNamed without
-named-without n [] zero a = tt
-named-without n [] (suc i) a = rw add-one tt
-named-without n (w ∷ b) zero a = a .1
-named-without n (w ∷ b) (suc i) a = rw add-one (a .0, rw add-one at (named-without n b i (a .1)))
+use Rattle.machine.proofs.AllLaws.{all-append, all-without}
 
 -- room for one more
 pub record Spare (p : Program) (s : State) (t : ℕ) : Type 0 where
@@ -72,7 +47,7 @@ marks-fit p s f q low =
 module _ (p : Program) (s : State) (f : Fits p s) (t i : ℕ) (low : t < p .threads)
     (there : i < bufferLen s t) where
   in-threads : t < mostThreads
-  in-threads = let w = f .program .few-threads in omega arith
+  in-threads = let w = f .program .sized .few-threads in omega arith
 
   shorter : suc (length (without i (buffer s t))) ≡ bufferLen s t
   shorter =
@@ -83,7 +58,7 @@ module _ (p : Program) (s : State) (f : Fits p s) (t i : ℕ) (low : t < p .thre
   taken-spare =
       record {
         fit = fits-buffer p s f t low b few (λ q h. let w = f .few-queued q h in let e = lower in omega arith)
-            (named-without (p .locations) (buffer s t) i (f .named t in-threads));
+            (all-without (NamedBy (p .locations)) (buffer s t) i (f .named t in-threads));
         space = room-left;
         queues = λ q h. unfold withBuffer in (let w = f .few-queued q h in let e = lower in omega arith);
       }
@@ -113,7 +88,7 @@ module _ (p : Program) (s : State) (f : Fits p s) (t : ℕ) (low : t < p .thread
   counted = withIssued s t (issuedOf s t + 1)
 
   in-range : t < mostThreads
-  in-range = let w = f .program .few-threads in omega arith
+  in-range = let w = f .program .sized .few-threads in omega arith
 
   pub unissued-same : suc (unissued p counted t) ≡ unissued p s t
   unfolding unissued
@@ -168,7 +143,7 @@ module _ (p : Program) (s : State) (t : ℕ) (o : Spare p s t) where
   pub await-fits : t < p .threads → (e : Entry) → Named (p .locations) e → Fits p (await s t e)
   unfolding await
   await-fits low e named =
-      let z = o .fit .program .few-threads in
+      let z = o .fit .program .sized .few-threads in
       let n = buffer-long p s (o .fit) t (omega arith) in
       let k : length (buffer s t ++ (record { entry = e } ∷ [])) ≡ suc (bufferLen s t)
       = simp (length-append, n) (omega arith) in
@@ -176,8 +151,8 @@ module _ (p : Program) (s : State) (t : ℕ) (o : Spare p s t) where
       let d = due-buffer p s (o .fit) t low (buffer s t ++ (record { entry = e } ∷ [])) (omega arith) in
       fits-buffer p s (o .fit) t low (buffer s t ++ (record { entry = e } ∷ [])) (omega arith)
       (λ q h. let w = o .queues q h in omega arith)
-      (named-append (p .locations) (buffer s t) _ (o .fit .named t (omega arith))
-      (unfold AllNamed in (named, tt)))
+      (all-append (NamedBy (p .locations)) (buffer s t) _ (o .fit .named t (omega arith))
+      (unfold AllOf in (named, tt)))
 
   pub enqueue-fits : (q : ℕ) → q < queuesOf p → (h : Slot) → h .mark ≤ p .threads → Fits p (enqueue s q h)
   unfolding enqueue
@@ -188,7 +163,7 @@ module _ (p : Program) (s : State) (t : ℕ) (o : Spare p s t) where
       let w = o .queues q (omega arith) in
       fits-queue p s (o .fit) q low (queue s q ++ (h ∷ [])) (omega arith)
       (rw (marks-append (queue s q) (h ∷ []), marks-fit p s (o .fit) q (omega arith))
-      (borne-append (p .threads) _ _ (o .fit .borne q (omega arith)) (unfold AllBorne marksOf in (few, tt))))
+      (all-append (Borne (p .threads)) _ _ (o .fit .borne q (omega arith)) (unfold AllOf marksOf in (few, tt))))
 
   pub register-spare : (r w : ℕ) → Spare p (withRegister s t r w) t
   register-spare r w =

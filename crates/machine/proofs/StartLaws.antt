@@ -8,9 +8,7 @@ use native.Mathlib.Nat.{add-zero}
 use lib.ListN.{length, getD, length-replicate}
 use Rattle.cases.specs.declared.case.Instruction.{Instruction}
 use Rattle.cases.specs.declared.case.Program.{Program}
-use Rattle.cases.specs.declared.case.Case.{Case}
 use Rattle.cases.specs.Sizes.{mostThreads, mostInstructions, mostLocations, allCode}
-use Rattle.cases.specs.Ranges.{Ranged}
 use Rattle.cases.proofs.ChoiceLaws.{pick-cases}
 use Rattle.cases.proofs.ArrayLaws.{getD-blank}
 use Rattle.cases.specs.Checks.{countAt}
@@ -18,25 +16,14 @@ use Rattle.machine.specs.Sizes.{room, allSlots, allRegisters, mostWork}
 use Rattle.machine.specs.View.{part, slots, marksIn, queue, queueIn, queueLen, buffer, bufferIn}
 use Rattle.machine.specs.View.{bufferLen, blankWaiting, issuedOf, wordOf}
 use Rattle.machine.specs.Rules.{startOf}
-use Rattle.machine.specs.Fit.{sumTo, unissued, due, Sized, ProgramFits, Fits, AllNamed, AllBorne}
-use Rattle.machine.specs.Work.{unissuedWeight, weighCode, weighBuffer, unissuedCode, threadWork, work}
-use Rattle.machine.specs.Work.{programWeight}
+use Rattle.machine.specs.Fit.{sumTo, unissued, due, Sized, Fits, AllOf}
+use Rattle.cases.specs.Ranges.{ProgramFits}
+use Rattle.machine.specs.Work.{unissuedWeight, unissuedCode, threadWork, work, programWeight, codeWeight}
+use Rattle.machine.specs.Work.{entryWeight, weigh}
 use Rattle.machine.specs.Model.{fullLength}
 use Rattle.machine.specs.Ptso.{ptso}
 use Rattle.machine.proofs.PartLaws.{length-part, part-none}
 use Rattle.machine.proofs.SumLaws.{sum-same, sum-none, sum-most}
-
-pub ranged-fits : (c : Case) → Ranged c → ProgramFits (c .program)
-ranged-fits c r =
-    record {
-      first-long = r .first-long;
-      counts-long = r .counts-long;
-      code-long = r .code-long;
-      few-threads = r .few-threads;
-      few-locations = r .few-locations;
-      few-instructions = r .few-instructions;
-      instructions = r .instructions;
-    }
 
 -- the start's parts: nothing queued, waiting or issued, the first contents
 module _ (p : Program) where
@@ -81,7 +68,7 @@ module _ (p : Program) (g : ProgramFits p) where
   unfolding startOf
   start-sized =
       record {
-        words-long = g .first-long;
+        words-long = g .sized .first-long;
         held-long = length-replicate {A = ℕ} allSlots 0;
         marks-long = length-replicate {A = ℕ} allSlots 0;
         lengths-long = length-replicate {A = ℕ} mostLocations 0;
@@ -96,7 +83,7 @@ module _ (p : Program) (g : ProgramFits p) where
   start-due =
       let a = sum-none mostThreads (bufferLen (startOf p)) (λ t h. no-buffer p t) in
       let b = sum-most mostThreads mostInstructions (unissued p (startOf p))
-      (λ t h. rw (unissued-all p t) (g .few-instructions t)) in
+      (λ t h. rw (unissued-all p t) (g .sized .few-instructions t)) in
       omega arith
 
   pub start-fits : Fits p (startOf p)
@@ -106,12 +93,12 @@ module _ (p : Program) (g : ProgramFits p) where
         sized = start-sized;
         few-issued = λ t h. rw (start-issued p t) (omega arith);
         few-waiting =
-            λ t h. rw (no-buffer p t, unissued-all p t) (let n = g .few-instructions t in omega arith);
+            λ t h. rw (no-buffer p t, unissued-all p t) (let n = g .sized .few-instructions t in omega arith);
         few-queued = λ q h. rw (no-queue p q) (let n = start-due in omega arith);
         no-buffer = λ t h a. no-buffer p t;
         no-queue = λ q h a. no-queue p q;
-        named = λ t h. rw (start-buffer p t) (unfold AllNamed in tt);
-        borne = λ q h. rw (no-marks p q) (unfold AllBorne in tt);
+        named = λ t h. rw (start-buffer p t) (unfold AllOf in tt);
+        borne = λ q h. rw (no-marks p q) (unfold AllOf in tt);
       }
 
 -- no instruction weighs more than 3
@@ -126,8 +113,8 @@ weight-most op =
     pick-cases (λ n. n ≤ 3) _ _ _ (λ h. omega arith) (λ h.
     pick-cases (λ n. n ≤ 3) _ _ _ (λ h. omega arith) (λ h. omega arith)))))))
 
-pub code-most : (xs : List Instruction) → weighCode xs ≤ 3 * length xs
-unfolding weighCode
+pub code-most : (xs : List Instruction) → weigh codeWeight xs ≤ 3 * length xs
+unfolding weigh
 code-most [] = omega arith
 code-most (x ∷ xs) = let a = weight-most (x .operation) in let b = code-most xs in omega arith
 
@@ -136,15 +123,15 @@ module _ (p : Program) (g : ProgramFits p) where
   start-thread : (t : ℕ) → t < mostThreads → threadWork p (startOf p) t ≤ 3 * mostInstructions
   unfolding threadWork unissuedCode
   start-thread t h =
-      let c = g .code-long in
-      let n = g .few-instructions t in
+      let c = g .sized .code-long in
+      let n = g .sized .few-instructions t in
       let e = start-issued p t in
       let u = unissued-all p t in
       let l = length-part (t * mostInstructions + issuedOf (startOf p) t) (unissued p (startOf p) t) (p .code)
       (omega arith) in
       let a = code-most
       (part (t * mostInstructions + issuedOf (startOf p) t) (unissued p (startOf p) t) (p .code)) in
-      let b : weighBuffer (buffer (startOf p) t) ≡ 0 = rw (start-buffer p t) (unfold weighBuffer in refl) in
+      let b : weigh entryWeight (buffer (startOf p) t) ≡ 0 = rw (start-buffer p t) (unfold weigh in refl) in
       omega arith
 
   pub full-most : fullLength (ptso p) ≤ mostWork
@@ -157,7 +144,7 @@ module _ (p : Program) (g : ProgramFits p) where
 -- the full length is what the program's instructions weigh, and nothing else
 module _ (p : Program) where
   start-weight : (t : ℕ) → threadWork p (startOf p) t ≡ programWeight p t
-  unfolding threadWork unissuedCode programWeight weighBuffer
+  unfolding threadWork unissuedCode programWeight weigh
   start-weight t = rw (start-issued p t, unissued-all p t, start-buffer p t, add-zero, add-zero)
 
   pub full-weighs : fullLength (ptso p) ≡ sumTo mostThreads (programWeight p)

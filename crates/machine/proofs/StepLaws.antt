@@ -24,14 +24,15 @@ use Rattle.machine.specs.Parts.{partsOf}
 use Rattle.machine.specs.Look.{wordOr}
 use Rattle.machine.specs.Rules.{enqueue, issueRule, issueOf, effectOf, entryAt, moveRule, moveOf}
 use Rattle.machine.specs.Rules.{persistRule, persistFirst, persistOf, ruleIn, ruleOf, nextOf}
-use Rattle.machine.specs.Fit.{Fits, Named, AllBorne, due, unissued}
+use Rattle.machine.specs.Fit.{Fits, Named, due, unissued, AllOf, Borne, NamedBy}
 use Rattle.machine.specs.Work.{waitingWeight, work, cost}
 use Rattle.machine.proofs.QueueOfLaws.{few-queues, queue-there}
 use Rattle.machine.proofs.KeepLaws.{queue-within, queue-long, buffer-long, fits-queue, fits-word}
-use Rattle.machine.proofs.SpareLaws.{Spare, named-get, marks-fit, taken-spare, enqueue-fits}
+use Rattle.machine.proofs.SpareLaws.{Spare, marks-fit, taken-spare, enqueue-fits}
 use Rattle.machine.proofs.WorkLaws.{work-queue, work-enqueue, work-without, work-word}
 use Rattle.machine.proofs.RangeLaws.{InRange}
 use Rattle.machine.proofs.IssueLaws.{issue-fits, issue-work}
+use Rattle.machine.proofs.AllLaws.{all-get}
 
 -- Move
 module _ (p : Program) (s : State) (t : ℕ) (o : Spare p s t) (low : t < p .threads) where
@@ -69,10 +70,10 @@ module _ (p : Program) (s : State) (f : Fits p s) (t i : ℕ) (low : t < p .thre
 
   pub move-named : Named (p .locations) (entryAt (buffer s t) i)
   move-named =
-      let z = f .program .few-threads in
+      let z = f .program .sized .few-threads in
       let n = buffer-long p s f t (omega arith) in
       let h = move-there in
-      named-get (p .locations) (buffer s t) i blankWaiting (f .named t (omega arith)) (omega arith)
+      all-get (NamedBy (p .locations)) (buffer s t) i blankWaiting (f .named t (omega arith)) (omega arith)
 
   pub move-fits : Fits p (moveOf p s t i)
   unfolding moveOf
@@ -81,13 +82,13 @@ module _ (p : Program) (s : State) (f : Fits p s) (t i : ℕ) (low : t < p .thre
   pub move-work : work p (moveOf p s t i) + 1 ≡ work p s
   unfolding moveOf
   move-work =
-      let z = f .program .few-threads in
+      let z = f .program .sized .few-threads in
       effect-work p _ t (taken-spare p s f t i low move-there) low _ move-named
       ∙ work-without p s f t i blankWaiting (omega arith) move-there
 
 -- Persist
-borne-rest : (n : ℕ) (h : Slot) (q : List Slot) → AllBorne n (marksOf (h ∷ q)) → AllBorne n (marksOf q)
-unfolding marksOf AllBorne
+borne-rest : (n : ℕ) (h : Slot) (q : List Slot) → AllOf (Borne n) (marksOf (h ∷ q)) → AllOf (Borne n) (marksOf q)
+unfolding marksOf AllOf
 borne-rest n h q b = b .1
 
 module _ (p : Program) (s : State) (f : Fits p s) (q : ℕ) (low : q < queuesOf p)
@@ -110,7 +111,7 @@ module _ (p : Program) (s : State) (f : Fits p s) (q : ℕ) (low : q < queuesOf 
       let x = wordOr h (wordOf s l) in
       let d : due p (withWord s l x) ≡ due p s = unfold withWord due unissued in refl in
       let w = f .few-queued q in-range in
-      let b : AllBorne (p .threads) (marksOf (h ∷ r))
+      let b : AllOf (Borne (p .threads)) (marksOf (h ∷ r))
       = rw (sym (marks-fit p s f q in-range) ∙ ap marksOf e) at (f .borne q in-range) in
       fits-queue p _ (fits-word p s f l x) q low r (omega arith) (borne-rest (p .threads) h r b)
 

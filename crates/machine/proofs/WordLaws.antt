@@ -66,7 +66,7 @@ start-words p l = ap writesOf (start-queue p (queueOf p l)) ∙ (unfold writesOf
 
 module _ (p : Program) (s : State) (f : Fits p s) where
   low : (l : ℕ) → l < p .locations → queueOf p l < mostLocations
-  low l there = let w = f .program .few-locations in queue-low p (f .program) l (omega arith)
+  low l there = let w = f .program .sized .few-locations in queue-low p (f .program) l (omega arith)
 
   -- more at the end of a location's queue
   on-way : (u : State) (l : ℕ) (r : List Slot) (ws : List ℕ)

@@ -20,8 +20,8 @@ use Rattle.machine.specs.View.{Slot, queue, queueLen, withQueue, without
 use Rattle.machine.specs.View.{withWord, withRegister, issuedOf, withIssued}
 use Rattle.machine.specs.Rules.{instructionAt, enqueue, await}
 use Rattle.machine.specs.Fit.{sumTo, unissued, Fits}
-use Rattle.machine.specs.Work.{unissuedWeight, waitingWeight, weighCode, weighBuffer, unissuedCode}
-use Rattle.machine.specs.Work.{threadWork, work}
+use Rattle.machine.specs.Work.{unissuedWeight, waitingWeight, unissuedCode, threadWork, work, codeWeight}
+use Rattle.machine.specs.Work.{entryWeight, weigh}
 use Rattle.machine.proofs.SumLaws.{sum-change}
 use Rattle.machine.proofs.PartLaws.{part-next, drop-part}
 use Rattle.machine.proofs.PutLaws.{length-without}
@@ -31,14 +31,14 @@ use Rattle.machine.proofs.KeepLaws.{queue-within, buffer-within, queue-
 use Rattle.machine.proofs.SpareLaws.{unissued-same, unissued-other}
 
 -- a buffer's weight: one more at its end; one taken out
-weigh-append : (b c : List Waiting) → weighBuffer (b ++ c) ≡ weighBuffer b + weighBuffer c
-unfolding weighBuffer
+weigh-append : (b c : List Waiting) → weigh entryWeight (b ++ c) ≡ weigh entryWeight b + weigh entryWeight c
+unfolding weigh
 weigh-append [] c = omega arith
 weigh-append (w ∷ b) c = rw (weigh-append b c) (omega arith)
 
 weigh-without : (b : List Waiting) (i : ℕ) (d : Waiting) → i < length b
-    → waitingWeight (getD b i d .entry) + weighBuffer (without i b) ≡ weighBuffer b
-unfolding weighBuffer without
+    → waitingWeight (getD b i d .entry) + weigh entryWeight (without i b) ≡ weigh entryWeight b
+unfolding weigh without
 weigh-without [] i d h = absurd (omega arith)
 weigh-without (w ∷ b) zero d h = refl
 weigh-without (w ∷ b) (suc i) d h =
@@ -46,8 +46,8 @@ weigh-without (w ∷ b) (suc i) d h =
     (let r = rw add-one at (weigh-without b i d (omega arith)) in omega arith)
 
 weigh-cons : (x : Instruction) (xs : List Instruction)
-    → weighCode (x ∷ xs) ≡ unissuedWeight (x .operation) + weighCode xs
-unfolding weighCode
+    → weigh codeWeight (x ∷ xs) ≡ unissuedWeight (x .operation) + weigh codeWeight xs
+unfolding weigh
 weigh-cons x xs = refl
 
 module _ (p : Program) (s : State) (f : Fits p s) where
@@ -76,12 +76,12 @@ module _ (p : Program) (s : State) (f : Fits p s) where
 
   -- a buffer put
   module _ (t : ℕ) (low : t < mostThreads) (b : List Waiting) (m : length b ≤ mostInstructions) where
-    pub work-buffer : work p (withBuffer s t b) + weighBuffer (buffer s t) ≡ work p s + weighBuffer b
+    pub work-buffer : work p (withBuffer s t b) + weigh entryWeight (buffer s t) ≡ work p s + weigh entryWeight b
     unfolding work
     work-buffer =
         let n = buffer-within p s f t low in
         let c = sum-change mostThreads t (threadWork p (withBuffer s t b)) (threadWork p s) low other in
-        let e : threadWork p (withBuffer s t b) t + weighBuffer (buffer s t) ≡ threadWork p s t + weighBuffer b
+        let e : threadWork p (withBuffer s t b) t + weigh entryWeight (buffer s t) ≡ threadWork p s t + weigh entryWeight b
         = here in
         let q : sumTo mostLocations (queueLen (withBuffer s t b)) ≡ sumTo mostLocations (queueLen s)
         = unfold withBuffer in refl in
@@ -98,7 +98,7 @@ module _ (p : Program) (s : State) (f : Fits p s) where
                   (buffer-within p s f k a),
             )
 
-        here : threadWork p (withBuffer s t b) t + weighBuffer (buffer s t) ≡ threadWork p s t + weighBuffer b
+        here : threadWork p (withBuffer s t b) t + weigh entryWeight (buffer s t) ≡ threadWork p s t + weigh entryWeight b
         here = unfold threadWork in
             rw (code t, buffer-same s (f .sized) t low (buffer-within p s f t low) b m) (omega arith)
 
@@ -112,7 +112,7 @@ module _ (p : Program) (s : State) (f : Fits p s) where
       = simp (length-append, n) (omega arith) in
       let w = work-buffer t low (buffer s t ++ (record { entry = e } ∷ [])) (omega arith) in
       let a = weigh-append (buffer s t) (record { entry = e } ∷ []) in
-      let z : weighBuffer (record { entry = e } ∷ []) ≡ waitingWeight e = unfold weighBuffer in add-zero _ in
+      let z : weigh entryWeight (record { entry = e } ∷ []) ≡ waitingWeight e = unfold weigh in add-zero _ in
       omega arith
 
   pub work-without : (t i : ℕ) (d : Waiting) → t < mostThreads → i < bufferLen s t
@@ -129,14 +129,14 @@ module _ (p : Program) (s : State) (f : Fits p s) where
   -- an instruction counted as issued
   module _ (t : ℕ) (low : t < p .threads) (left : issuedOf s t < countAt p t) where
     in-range : t < mostThreads
-    in-range = let w = f .program .few-threads in omega arith
+    in-range = let w = f .program .sized .few-threads in omega arith
 
     code-next : unissuedCode p s t
         ≡ instructionAt p t (issuedOf s t) ∷ unissuedCode p (withIssued s t (issuedOf s t + 1)) t
     unfolding unissuedCode
     code-next =
-        let c = f .program .code-long in
-        let m = f .program .few-instructions t in
+        let c = f .program .sized .code-long in
+        let m = f .program .sized .few-instructions t in
         let u : unissued p s t ≡ countAt p t - issuedOf s t = unfold unissued in refl in
         let v = unissued-same p s f t low left in
         let e = issued-same s (f .sized) t (issuedOf s t + 1) in-range in
@@ -164,11 +164,11 @@ module _ (p : Program) (s : State) (f : Fits p s) where
         + unissuedWeight (instructionAt p t (issuedOf s t) .operation) ≡ threadWork p s t
     unfolding threadWork
     here-work =
-        let w : weighCode (unissuedCode p s t)
+        let w : weigh codeWeight (unissuedCode p s t)
         ≡ unissuedWeight (instructionAt p t (issuedOf s t) .operation)
-        + weighCode (unissuedCode p (withIssued s t (issuedOf s t + 1)) t)
-        = ap weighCode code-next ∙ weigh-cons _ _ in
-        let b : weighBuffer (buffer (withIssued s t (issuedOf s t + 1)) t) ≡ weighBuffer (buffer s t)
+        + weigh codeWeight (unissuedCode p (withIssued s t (issuedOf s t + 1)) t)
+        = ap (weigh codeWeight) code-next ∙ weigh-cons _ _ in
+        let b : weigh entryWeight (buffer (withIssued s t (issuedOf s t + 1)) t) ≡ weigh entryWeight (buffer s t)
         = unfold withIssued in refl in
         omega arith
 

@@ -2,11 +2,12 @@
 -- the record of facts is what proofs use of it (`fits-exactly` in proofs/Promises.antt ties the two).
 --   sumTo n f        the sum of f below n
 --   anyFrom i n f    f is true of one of the n numbers from i on
---   strays, anyStrays   an entry, or one of a buffer's, names a location that the program lacks
---   anyForeign       one of a queue's markers names a thread that it lacks
+--   anyOf f xs       f is true of one on the list xs
+--   AllOf P xs       P holds of each on it
+--   strays, strayed  an entry names a location that the program lacks; one that waits does
 --   misfits p s      the test: 33 where it is true
 --   Fits p s         the facts: the program's numbers are in range, and the state fits it
---   Named, AllNamed, AllBorne   entries name locations, and markers bear threads, that the program has
+--   Named, NamedBy, Borne   an entry, or one that waits, names a location, a mark bears a thread, that it has
 -- Assumes nothing.
 use Prim.Native.Nat.{ℕ, zero, suc, _+_, _-_, _<_, _≤_}
 use mathlib.Core.Path.{_≡_}
@@ -17,7 +18,7 @@ use lib.Dec.{leb, ltb}
 use Rattle.cases.specs.declared.case.Program.{Program}
 use Rattle.cases.specs.Choice.{both, either}
 use Rattle.cases.specs.Sizes.{mostThreads, mostInstructions, mostLocations, allCode}
-use Rattle.cases.specs.Ranges.{InstructionFits}
+use Rattle.cases.specs.Ranges.{ProgramFits}
 use Rattle.cases.specs.Checks.{countAt, queuesOf}
 use Rattle.machine.specs.declared.cells.State.{State}
 use Rattle.machine.specs.declared.cells.Waiting.{Waiting}
@@ -25,7 +26,6 @@ use Rattle.machine.specs.declared.cells.Entry.{Entry}
 use Rattle.machine.specs.declared.cells.Entry.the-variants.{Store, Flush, FlushOpt, Sfence}
 use Rattle.machine.specs.Sizes.{room, allSlots, allRegisters}
 use Rattle.machine.specs.View.{queueLen, marksIn, buffer, bufferLen, issuedOf}
-use Rattle.machine.specs.Rules.{instructionAt}
 
 unfoldable pub sumTo : ℕ → (ℕ → ℕ) → ℕ
 sumTo zero f = 0
@@ -35,6 +35,14 @@ unfoldable pub anyFrom : ℕ → ℕ → (ℕ → Bool) → Bool
 anyFrom i zero f = false
 anyFrom i (suc n) f = either (f i) (anyFrom (suc i) n f)
 
+unfoldable pub anyOf : {A : Type 0} → (A → Bool) → List A → Bool
+anyOf f [] = false
+anyOf f (x ∷ xs) = either (f x) (anyOf f xs)
+
+unfoldable pub AllOf : {A : Type 0} → (A → Type 0) → List A → Type 0
+AllOf P [] = Unit {0}
+AllOf P (x ∷ xs) = P x × AllOf P xs
+
 -- an entry "names .. a location the program lacks"; sfence names none
 unfoldable pub strays : ℕ → Entry → Bool
 strays locations (Store w) = leb locations (w .location .0)
@@ -42,14 +50,8 @@ strays locations (Flush l) = leb locations (l .0)
 strays locations (FlushOpt l) = leb locations (l .0)
 strays locations Sfence = false
 
-unfoldable pub anyStrays : ℕ → List Waiting → Bool
-anyStrays locations [] = false
-anyStrays locations (w ∷ b) = either (strays locations (w .entry)) (anyStrays locations b)
-
--- a marker names "a thread .. the program lacks": mark t + 1 names thread t
-unfoldable pub anyForeign : ℕ → List ℕ → Bool
-anyForeign threads [] = false
-anyForeign threads (m ∷ ms) = either (ltb threads m) (anyForeign threads ms)
+abbrev pub strayed : ℕ → Waiting → Bool
+strayed locations w = strays locations (w .entry)
 
 -- a thread's instructions that are not issued yet
 unfoldable pub unissued : Program → State → ℕ → ℕ
@@ -66,15 +68,16 @@ threadMisfits p s t =
     either (ltb (countAt p t) (issuedOf s t))
     (either (both (leb (p .threads) t) (ltb 0 (bufferLen s t)))
     (either (ltb mostInstructions (bufferLen s t + unissued p s t))
-    (anyStrays (p .locations) (buffer s t))))
+    (anyOf (strayed (p .locations)) (buffer s t))))
 
 -- an entry "that stands in the .. queue of .. a .. location the program lacks": in a queue that it lacks; "a
--- queue's entries plus all entries in store buffers plus all unissued instructions above 32"
+-- queue's entries plus all entries in store buffers plus all unissued instructions above 32"; a marker names "a
+-- thread .. the program lacks": mark t + 1 names thread t
 unfoldable pub queueMisfits : Program → State → ℕ → Bool
 queueMisfits p s q =
     either (both (leb (queuesOf p) q) (ltb 0 (queueLen s q)))
     (either (ltb room (queueLen s q + due p s))
-    (anyForeign (p .threads) (marksIn (s .marks) (s .lengths) q)))
+    (anyOf (ltb (p .threads)) (marksIn (s .marks) (s .lengths) q)))
 
 unfoldable pub misfits : Program → State → Bool
 misfits p s =
@@ -92,29 +95,17 @@ pub record Sized (s : State) : Type 0 where
   pub registers-long : length (s .registers) ≡ allRegisters
   pub issued-long : length (s .issued) ≡ mostThreads
 
--- what the machine takes for granted of a program; every case that can be read has such a one
-pub record ProgramFits (p : Program) : Type 0 where
-  pub first-long : length (p .first) ≡ mostLocations
-  pub counts-long : length (p .counts) ≡ mostThreads
-  pub code-long : length (p .code) ≡ allCode
-  pub few-threads : p .threads ≤ mostThreads
-  pub few-locations : p .locations ≤ mostLocations
-  pub few-instructions : (t : ℕ) → countAt p t ≤ mostInstructions
-  pub instructions : (t i : ℕ) → i < countAt p t → (t < p .threads) × InstructionFits p (instructionAt p t i)
-
 unfoldable pub Named : ℕ → Entry → Type 0
 Named locations (Store w) = w .location .0 < locations
 Named locations (Flush l) = l .0 < locations
 Named locations (FlushOpt l) = l .0 < locations
 Named locations Sfence = Unit {0}
 
-unfoldable pub AllNamed : ℕ → List Waiting → Type 0
-AllNamed locations [] = Unit {0}
-AllNamed locations (w ∷ b) = Named locations (w .entry) × AllNamed locations b
+abbrev pub NamedBy : ℕ → Waiting → Type 0
+NamedBy locations w = Named locations (w .entry)
 
-unfoldable pub AllBorne : ℕ → List ℕ → Type 0
-AllBorne threads [] = Unit {0}
-AllBorne threads (m ∷ ms) = (m ≤ threads) × AllBorne threads ms
+abbrev pub Borne : ℕ → ℕ → Type 0
+Borne threads m = m ≤ threads
 
 pub record Fits (p : Program) (s : State) : Type 0 where
   pub program : ProgramFits p
@@ -124,8 +115,8 @@ pub record Fits (p : Program) (s : State) : Type 0 where
   pub few-queued : (q : ℕ) → q < mostLocations → queueLen s q + due p s ≤ room
   pub no-buffer : (t : ℕ) → t < mostThreads → p .threads ≤ t → bufferLen s t ≡ 0
   pub no-queue : (q : ℕ) → q < mostLocations → queuesOf p ≤ q → queueLen s q ≡ 0
-  pub named : (t : ℕ) → t < mostThreads → AllNamed (p .locations) (buffer s t)
-  pub borne : (q : ℕ) → q < mostLocations → AllBorne (p .threads) (marksIn (s .marks) (s .lengths) q)
+  pub named : (t : ℕ) → t < mostThreads → AllOf (NamedBy (p .locations)) (buffer s t)
+  pub borne : (q : ℕ) → q < mostLocations → AllOf (Borne (p .threads)) (marksIn (s .marks) (s .lengths) q)
 
 -- What the machine's parts ask for where the whole state is not at hand.
 -- no queue is longer than its room

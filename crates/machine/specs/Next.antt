@@ -1,10 +1,8 @@
 -- Document 01, "Work left and the walk": "next steps in the order issue by thread, move by thread then
 -- position, persist by location".
 --   issueStep t, moveStep t i, persistStep q   a step of each code
---   issuesFrom t n   the issues of n threads from t on
---   movesAt t i n    the moves of thread t at n positions from i on
---   movesFrom t n    those of n threads from t on, at every position
---   persistsFrom q n the persists of n queues from q on
+--   stepsFrom step i n   the steps that `step` says of the n numbers from i on
+--   movesFrom t n    the moves of n threads from t on, at every position
 --   candidates p     every step that such a program can have, in that order
 --   rankOf, stepAt   a step's rank in that order, and the step of a rank
 --   listed ks        the steps ks, as an array of their ranks with its count
@@ -36,24 +34,17 @@ moveStep t i = record { thread = record { 0 = t }; code = move; position = i; lo
 abbrev pub persistStep : ℕ → Step
 persistStep q = record { thread = record { 0 = 0 }; code = persist; position = 0; location = record { 0 = q } }
 
-unfoldable pub issuesFrom : ℕ → ℕ → List Step
-issuesFrom t zero = []
-issuesFrom t (suc n) = issueStep t ∷ issuesFrom (suc t) n
-
-unfoldable pub movesAt : ℕ → ℕ → ℕ → List Step
-movesAt t i zero = []
-movesAt t i (suc n) = moveStep t i ∷ movesAt t (suc i) n
+unfoldable pub stepsFrom : (ℕ → Step) → ℕ → ℕ → List Step
+stepsFrom step i zero = []
+stepsFrom step i (suc n) = step i ∷ stepsFrom step (suc i) n
 
 unfoldable pub movesFrom : ℕ → ℕ → List Step
 movesFrom t zero = []
-movesFrom t (suc n) = movesAt t 0 mostInstructions ++ movesFrom (suc t) n
-
-unfoldable pub persistsFrom : ℕ → ℕ → List Step
-persistsFrom q zero = []
-persistsFrom q (suc n) = persistStep q ∷ persistsFrom (suc q) n
+movesFrom t (suc n) = stepsFrom (moveStep t) 0 mostInstructions ++ movesFrom (suc t) n
 
 unfoldable pub candidates : Program → List Step
-candidates p = issuesFrom 0 (p .threads) ++ movesFrom 0 (p .threads) ++ persistsFrom 0 (queuesOf p)
+candidates p =
+    stepsFrom issueStep 0 (p .threads) ++ movesFrom 0 (p .threads) ++ stepsFrom persistStep 0 (queuesOf p)
 
 -- a step's rank in that order; the step of a rank
 unfoldable pub rankOf : Step → ℕ

@@ -1,5 +1,6 @@
 -- Document 01, "Work left and the walk".
---   weighCode, weighBuffer   what instructions weigh, and entries of a buffer
+--   weigh f xs          what f says of each on the list xs, summed
+--   codeWeight, entryWeight   what an instruction weighs that is not issued, and an entry that waits
 --   threadWork p s t    the work left in thread t
 --   work p s            the work left
 --   Unfinished p s      there is something to do: an instruction is unissued or an entry waits
@@ -43,20 +44,22 @@ waitingWeight (Flush l) = 1
 waitingWeight (FlushOpt l) = 2
 waitingWeight Sfence = 1
 
-unfoldable pub weighCode : List Instruction → ℕ
-weighCode [] = 0
-weighCode (x ∷ xs) = unissuedWeight (x .operation) + weighCode xs
+abbrev pub codeWeight : Instruction → ℕ
+codeWeight x = unissuedWeight (x .operation)
 
-unfoldable pub weighBuffer : List Waiting → ℕ
-weighBuffer [] = 0
-weighBuffer (w ∷ b) = waitingWeight (w .entry) + weighBuffer b
+abbrev pub entryWeight : Waiting → ℕ
+entryWeight w = waitingWeight (w .entry)
+
+unfoldable pub weigh : {A : Type 0} → (A → ℕ) → List A → ℕ
+weigh f [] = 0
+weigh f (x ∷ xs) = f x + weigh f xs
 
 -- the instructions of thread t that are not issued yet, in their order
 unfoldable pub unissuedCode : Program → State → ℕ → List Instruction
 unissuedCode p s t = part (t * mostInstructions + issuedOf s t) (unissued p s t) (p .code)
 
 unfoldable pub threadWork : Program → State → ℕ → ℕ
-threadWork p s t = weighCode (unissuedCode p s t) + weighBuffer (buffer s t)
+threadWork p s t = weigh codeWeight (unissuedCode p s t) + weigh entryWeight (buffer s t)
 
 -- "Each queue entry 1."
 unfoldable pub work : Program → State → ℕ
@@ -71,7 +74,7 @@ Unfinished p s =
 
 -- what thread t's instructions weigh, all of them
 unfoldable pub programWeight : Program → ℕ → ℕ
-programWeight p t = weighCode (part (t * mostInstructions) (countAt p t) (p .code))
+programWeight p t = weigh codeWeight (part (t * mostInstructions) (countAt p t) (p .code))
 
 -- the same for every legal step today
 unfoldable pub cost : Program → State → Step → ℕ

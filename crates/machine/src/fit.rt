@@ -14,11 +14,12 @@ use cases::sizes::LOCATIONS;
 use cases::sizes::THREADS;
 ghost use mathlib.Core.Path.{_≡_};
 ghost use Prim.Native.Nat.{_+_, _<_, _≤_};
-ghost use lib.ListN.{getD};
+ghost use lib.ListN.{length, getD};
+ghost use lib.Dec.{ltb};
 ghost use Rattle.cases.specs.Sizes.{mostThreads, mostInstructions, mostLocations};
-ghost use Rattle.machine.specs.Sizes.{room};
+ghost use Rattle.machine.specs.Sizes.{room, allSlots};
 ghost use Rattle.machine.specs.View.{marksIn, bufferIn, bufferLen};
-ghost use Rattle.machine.specs.Fit.{sumTo, anyFrom, strays, anyStrays, anyForeign, unissued, due};
+ghost use Rattle.machine.specs.Fit.{sumTo, anyFrom, anyOf, strays, strayed, unissued, due};
 ghost use Rattle.machine.specs.Fit.{threadMisfits, queueMisfits, misfits};
 
 // Does an entry name a location that the program lacks?
@@ -42,7 +43,7 @@ fn has_stray<'a>(
     locations: u8,
 ) -> bool
     requires { ⌜ (t .0 < mostThreads) × (getD (now waiting) (t .0) 0 ≤ mostInstructions) ⌝ }
-    ensures { λ r. ⌜ r ≡ anyStrays locations (bufferIn buffers (now (waiting .entry)) (t .0)) ⌝ }
+    ensures { λ r. ⌜ r ≡ anyOf (strayed locations) (bufferIn buffers (now (waiting .entry)) (t .0)) ⌝ }
 {
     let b = buffers;
     let base = (t.0 as usize) * INSTRUCTIONS;
@@ -65,8 +66,9 @@ fn has_foreign<'a>(
     q: Queue,
     threads: u8,
 ) -> bool
-    requires { ⌜ (q .0 < mostLocations) × (getD (now lengths) (q .0) 0 ≤ room) ⌝ }
-    ensures { λ r. ⌜ r ≡ anyForeign threads (marksIn (now (marks .entry)) (now (lengths .entry)) (q .0)) ⌝ }
+    requires { ⌜ (q .0 < mostLocations) × (getD (now lengths) (q .0) 0 ≤ room)
+        × (length (now marks) ≡ allSlots) ⌝ }
+    ensures { λ r. ⌜ r ≡ anyOf (ltb threads) (marksIn (now (marks .entry)) (now (lengths .entry)) (q .0)) ⌝ }
 {
     let base = (q.0 as usize) * ROOM;
     let n = lengths[q.0 as usize] as usize;

@@ -23,7 +23,8 @@ ghost use Rattle.machine.specs.View.{queueLen, bufferIn, buffer, bufferL
 ghost use Rattle.machine.specs.Parts.{lent};
 ghost use Rattle.machine.specs.Rules.{effectRule, effectOf, passRule, entryAt, moveRule, moveOf};
 ghost use Rattle.machine.specs.Rules.{persistRule, persistOf};
-ghost use Rattle.machine.specs.Fit.{ProgramFits, Named, Shallow, Roomy};
+ghost use Rattle.cases.specs.Ranges.{ProgramFits};
+ghost use Rattle.machine.specs.Fit.{Named, Shallow, Roomy};
 
 // The rule that an entry's effect breaks; 0 where it is legal.
 fn effect_rule<'a>(

@@ -29,8 +29,9 @@ ghost use Rattle.cases.specs.Checks.{queuesOf};
 ghost use Rattle.machine.specs.Sizes.{allSlots, mostCandidates};
 ghost use Rattle.machine.specs.Parts.{lent};
 ghost use Rattle.machine.specs.Rules.{ruleIn};
-ghost use Rattle.machine.specs.Fit.{ProgramFits, Shallow};
-ghost use Rattle.machine.specs.Next.{issuesFrom, movesAt, movesFrom, persistsFrom};
+ghost use Rattle.cases.specs.Ranges.{ProgramFits};
+ghost use Rattle.machine.specs.Fit.{Shallow};
+ghost use Rattle.machine.specs.Next.{issueStep, moveStep, persistStep, stepsFrom, movesFrom};
 ghost use Rattle.machine.specs.Next.{rankOf, stepAt, nextIn};
 ghost use Rattle.machine.specs.Offer.{nextWith, offered, offeredAll, Movable};
 
@@ -102,7 +103,7 @@ fn offer_issues<'a>(
         × (count + mostThreads ≤ mostCandidates) ⌝ }
     ensures { λ r. ⌜ nextWith r (now (ranks .exit)) ≡ offeredAll (ruleIn p (lent [] (now (issued .entry))
         (now (waiting .entry)) (now (marks .entry)) (now (lengths .entry))))
-        (issuesFrom 0 (p .threads)) (nextWith count (now (ranks .entry))) ⌝ }
+        (stepsFrom issueStep 0 (p .threads)) (nextWith count (now (ranks .entry))) ⌝ }
 {
     // once for all threads: what is handed on by value is copied each time
     let q = p;
@@ -147,7 +148,7 @@ fn offer_moves_of<'a>(
         × (length (now marks) ≡ allSlots) × (count + mostInstructions ≤ mostCandidates) ⌝ }
     ensures { λ r. ⌜ nextWith r (now (ranks .exit)) ≡ offeredAll
         (ruleIn p (lent buffers [] (now (waiting .entry)) (now (marks .entry)) (now (lengths .entry))))
-        (movesAt (t .0) 0 mostInstructions) (nextWith count (now (ranks .entry))) ⌝ }
+        (stepsFrom (moveStep (t .0)) 0 mostInstructions) (nextWith count (now (ranks .entry))) ⌝ }
 {
     let many = waiting[t.0 as usize];
     let mut n = count;
@@ -203,7 +204,7 @@ fn offer_persists<'a>(
     requires { ⌜ ProgramFits p × (count + mostLocations ≤ mostCandidates) ⌝ }
     ensures { λ r. ⌜ nextWith r (now (ranks .exit)) ≡ offeredAll
         (ruleIn p (lent [] [] [] [] (now (lengths .entry))))
-        (persistsFrom 0 (queuesOf p)) (nextWith count (now (ranks .entry))) ⌝ }
+        (stepsFrom persistStep 0 (queuesOf p)) (nextWith count (now (ranks .entry))) ⌝ }
 {
     let queues = checks::queues_of(p);
     let mut n = count;

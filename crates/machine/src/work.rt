@@ -25,7 +25,7 @@ ghost use Rattle.cases.specs.Sizes.{mostThreads, mostInstructions, mostLocation
 ghost use Rattle.cases.specs.Checks.{countAt};
 ghost use Rattle.machine.specs.View.{bufferIn, queueLen, issuedOf};
 ghost use Rattle.machine.specs.Fit.{sumTo, Fits};
-ghost use Rattle.machine.specs.Work.{unissuedWeight, waitingWeight, weighCode, weighBuffer, unissuedCode};
+ghost use Rattle.machine.specs.Work.{unissuedWeight, waitingWeight, codeWeight, entryWeight, weigh, unissuedCode};
 ghost use Rattle.machine.specs.Work.{threadWork, work};
 ghost use Rattle.machine.specs.Judge.{weighedNo, weighedWork, workOf, fullOf};
 
@@ -99,16 +99,18 @@ fn waiting_weight(w: Waiting) -> usize
 fn weigh_code(p: Program, s: State, t: Thread) -> usize
     requires { ⌜ (t .0 < mostThreads) × (issuedOf s (t .0) ≤ countAt p (t .0))
         × (countAt p (t .0) ≤ mostInstructions) ⌝ }
-    ensures { λ r. ⌜ (r ≡ weighCode (unissuedCode p s (t .0))) × (r ≤ 3 * mostInstructions) ⌝ }
+    ensures { λ r. ⌜ (r ≡ weigh codeWeight (unissuedCode p s (t .0))) × (r ≤ 3 * mostInstructions) ⌝ }
 {
     let q = p;
     let u = s;
     let at = t.0 as usize;
-    let end = q.counts[at] as usize;
+    let done = u.issued[at];
+    let base = at * INSTRUCTIONS + (done as usize);
+    let n = (q.counts[at] - done) as usize;
     let mut weight: usize = 0;
-    let mut i = u.issued[at] as usize;
-    while i < end {
-        let x = q.code[at * INSTRUCTIONS + i];
+    let mut i = 0;
+    while i < n {
+        let x = q.code[base + i];
         weight += unissued_weight(x.operation);
         i += 1;
     }
@@ -117,16 +119,16 @@ fn weigh_code(p: Program, s: State, t: Thread) -> usize
 
 fn weigh_buffer<'a>(buffers: [Waiting; CODE], waiting: &'a [u8; THREADS], t: Thread) -> usize
     requires { ⌜ (t .0 < mostThreads) × (getD (now waiting) (t .0) 0 ≤ mostInstructions) ⌝ }
-    ensures { λ r. ⌜ (r ≡ weighBuffer (bufferIn buffers (now (waiting .entry)) (t .0)))
+    ensures { λ r. ⌜ (r ≡ weigh entryWeight (bufferIn buffers (now (waiting .entry)) (t .0)))
         × (r ≤ 2 * mostInstructions) ⌝ }
 {
     let b = buffers;
-    let at = t.0 as usize;
-    let n = waiting[at] as usize;
+    let base = (t.0 as usize) * INSTRUCTIONS;
+    let n = waiting[t.0 as usize] as usize;
     let mut weight: usize = 0;
     let mut i = 0;
     while i < n {
-        let w = b[at * INSTRUCTIONS + i];
+        let w = b[base + i];
         weight += waiting_weight(w);
         i += 1;
     }

@@ -5,6 +5,7 @@ use mathlib.Core.Path.{_≡_, refl}
 use mathlib.Core.Logic.{inl, inr}
 use mathlib.Core.List.{List, [], _∷_, _++_, map}
 use lib.ListN.{length, drop}
+use Rattle.cases.specs.Record.{bytesOf}
 use Rattle.cases.specs.Seats.{stepsBytes}
 use Rattle.cases.proofs.Computing.{reading-computes, bytes-compute}
 use Rattle.machine.specs.Model.{Listed}
@@ -12,14 +13,14 @@ use Rattle.machine.proofs.Computing.{work-computes, judging-computes}
 use Rattle.search.specs.declared.ask.Outcome.the-variants.{Reached, Undecided}
 use Rattle.search.specs.Question.{toldOf, questionOf, shownBy, shownOf}
 use Rattle.search.proofs.Computing.{asking-computes}
-use Rattle.rows.specs.Words.{y, issue, move, persist, bytesOf}
+use Rattle.rows.specs.Words.{y, issue, move, persist}
 use Rattle.rows.specs.Row.{Row, said, due, Fact}
 use Rattle.rows.specs.Table.{outage, outageBytes, table}
 use Rattle.rows.proofs.FactLaws.{listed-same, said-fact}
 
 -- what the layers' definitions say of the rows is what the rows say, by computation
 pub claim : map said table ≡ map due table
-unfolding reading-computes bytes-compute work-computes judging-computes asking-computes bytesOf table said due
+unfolding reading-computes bytes-compute work-computes judging-computes asking-computes table said due
 claim = refl
 
 -- so each row's fact holds
@@ -28,7 +29,7 @@ row-fact r h = said-fact r (listed-same said due r table claim h)
 
 -- "The second row's case, whole (50 bytes)"
 pub outage-bytes : bytesOf outage ≡ outageBytes
-unfolding bytes-compute bytesOf
+unfolding bytes-compute
 outage-bytes = refl
 
 -- its fact as a caller meets it: with room for 6 steps, "budget 8 reached, 7 undecided", and the run that 01

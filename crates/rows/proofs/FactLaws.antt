@@ -7,6 +7,7 @@ use mathlib.Core.List.{List, [], _∷_, map}
 use native.Mathlib.Omega.{arith}
 use lib.ListN.{length}
 use Rattle.cases.specs.declared.case.Step.{Step}
+use Rattle.cases.specs.Record.{bytesOf}
 use Rattle.cases.specs.Reading.{numberOf, readOf}
 use Rattle.cases.specs.Sizes.{stepSize}
 use Rattle.machine.specs.Model.{fullLength, Listed}
@@ -16,7 +17,6 @@ use Rattle.search.specs.Question.{reaches, Decided, reached, unreachable, undec
 use Rattle.search.specs.Question.{questionOf, shownBy, shownOf}
 use Rattle.search.proofs.Promises.{question-reached, question-unreachable, question-undecided, shown-run}
 use Rattle.search.proofs.Promises.{only-reached-stores}
-use Rattle.rows.specs.Words.{bytesOf}
 use Rattle.rows.specs.Row.{Row, asked, ruled, opened, rowNumber, rowProgram, rowAsk, said, due, Fact}
 
 -- two definitions that say the same of a whole list say the same of each that is on it

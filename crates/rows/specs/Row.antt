@@ -16,6 +16,7 @@ use Rattle.cases.specs.declared.case.Step.{Step}
 use Rattle.cases.specs.declared.case.Program.{Program}
 use Rattle.cases.specs.declared.case.Ask.{Ask}
 use Rattle.cases.specs.declared.record.Record.{Record}
+use Rattle.cases.specs.Record.{bytesOf}
 use Rattle.cases.specs.Reading.{numberOf, offsetOf, readOf}
 use Rattle.cases.specs.Sizes.{stepSize}
 use Rattle.machine.specs.declared.runs.Verdict.{Verdict}
@@ -23,7 +24,6 @@ use Rattle.machine.specs.Model.{fullLength}
 use Rattle.machine.specs.Ptso.{ptso}
 use Rattle.machine.specs.Judge.{judgeBytes}
 use Rattle.search.specs.Question.{reaches, Decided, askOf, toldOf, questionOf, shownBy, shownOf}
-use Rattle.rows.specs.Words.{bytesOf}
 
 -- a question, a run judged, or bytes read
 pub data Row : Type 0 where

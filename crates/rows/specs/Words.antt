@@ -8,15 +8,13 @@
 --   passed t n        kind 5
 --   taking ks         kind 6, for each of the steps ks
 --   issue, move, persist   steps
---   bytesOf rs        the bytes of the records rs, one behind the other
 -- Assumes nothing.
 use Prim.Native.Nat.{ℕ}
-use mathlib.Core.List.{List, [], _∷_, _++_, map}
+use mathlib.Core.List.{List, map}
 use Rattle.cases.specs.declared.case.Step.{Step}
 use Rattle.cases.specs.declared.record.Record.{Record}
 use Rattle.cases.specs.declared.record.Record.the-variants.{Declare, First, Instruct, Want, Passed, Take}
 use Rattle.cases.specs.Operations as operation
-use Rattle.cases.specs.Record.{recordBytes}
 use Rattle.machine.specs.Next.{issueStep, moveStep, persistStep}
 
 abbrev pub x : ℕ
@@ -81,7 +79,3 @@ move t i = moveStep t i
 
 abbrev pub persist : ℕ → Step
 persist l = persistStep l
-
-unfoldable pub bytesOf : List Record → List ℕ
-bytesOf [] = []
-bytesOf (r ∷ rs) = recordBytes r ++ bytesOf rs

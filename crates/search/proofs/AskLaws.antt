@@ -20,7 +20,8 @@ use Rattle.cases.proofs.ArrayLaws.{sets-front}
 use Rattle.cases.proofs.Promises.{steps-bytes-length}
 use Rattle.machine.specs.declared.cells.State.{State}
 use Rattle.machine.specs.Rules.{startOf}
-use Rattle.machine.specs.Fit.{ProgramFits, Fits}
+use Rattle.cases.specs.Ranges.{ProgramFits}
+use Rattle.machine.specs.Fit.{Fits}
 use Rattle.machine.specs.Work.{work}
 use Rattle.machine.specs.Model.{Model, Lawful, fullLength, Listed}
 use Rattle.machine.specs.Ptso.{ptso}

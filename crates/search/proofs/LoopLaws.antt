@@ -14,6 +14,7 @@ use lib.ListN.{drop, getD}
 use native.Mathlib.Omega.{arith}
 use Rattle.cases.specs.declared.case.Step.{Step}
 use Rattle.cases.specs.Seats.{stepsBytes}
+use Rattle.cases.specs.Record.{bytesOf}
 use Rattle.machine.specs.declared.next.Next.{Next}
 use Rattle.machine.specs.Next.{stepAt}
 use Rattle.machine.specs.Sizes.{mostCandidates}
@@ -57,7 +58,7 @@ module _ {S : Type 0} (test : S → Bool) (b depth : ℕ) (out : List ℕ) where
         left-as (walk m (suc n) s) usedUp (ap (λ c. seek test c (walk m (suc n) s)) e) Stopped out refl refl
 
     pub left-here : b ≢ 0 → test s ≡ true → Left test (walk m (suc n) s) b depth out (Found depth) out
-    unfolding walk seek walkedOf storedOf stepsBytes
+    unfolding walk seek walkedOf storedOf stepsBytes bytesOf
     left-here some t =
         left-as (walk m (suc n) s) (hit []) (go b some) (Found depth) out (ap Found (omega arith)) refl
       where

@@ -10,7 +10,7 @@ use Rattle.cases.specs.declared.case.Step.{Step}
 use Rattle.cases.specs.declared.record.Record.the-variants.{Take}
 use Rattle.cases.specs.Bytes.{halfBytes}
 use Rattle.cases.specs.Choice.{pick}
-use Rattle.cases.specs.Record.{payloadOf, payloadBytes, recordBytes}
+use Rattle.cases.specs.Record.{payloadOf, payloadBytes, recordBytes, bytesOf}
 use Rattle.cases.specs.Seats.{stepsBytes}
 use Rattle.cases.proofs.ArrayLaws.{sets-append}
 use Rattle.cases.specs.Sizes.{stepSize}
@@ -60,7 +60,7 @@ put-record d at k = put-eight d at 4 0 6 0 (k .thread .0) (k .code) (k .position
 pub step-before : (d : List ℕ) (depth : ℕ) (k : Step) (ks : List Step)
     → sets (sets d (stepSize * (depth + 1)) (stepsBytes ks)) (stepSize * depth) (recordBytes (Take k))
     ≡ sets d (stepSize * depth) (stepsBytes (k ∷ ks))
-unfolding stepsBytes
+unfolding stepsBytes bytesOf
 step-before d depth k ks =
     let e = record-length k in
     let behind : stepSize * (depth + 1) ≡ stepSize * depth + length (recordBytes (Take k)) = omega arith in

@@ -9,7 +9,7 @@ use machine::steps;
 use machine::work;
 ghost use mathlib.Core.Path.{_≡_};
 ghost use lib.ListN.{length};
-ghost use Rattle.machine.specs.Fit.{ProgramFits};
+ghost use Rattle.cases.specs.Ranges.{ProgramFits};
 ghost use Rattle.machine.specs.Ptso.{ptso};
 ghost use Rattle.search.specs.Question.{reaches, outcomeNo, outcomePlace, answerFor, shownFor};
 ghost use Rattle.search.specs.Question.{questionOf, shownOf};

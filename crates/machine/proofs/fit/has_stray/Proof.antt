@@ -5,16 +5,17 @@ use native.Mathlib.Omega.{arith}
 use lib.ListN.{length}
 use Rattle.cases.specs.Sizes.{allCode}
 use Rattle.cases.proofs.ChoiceLaws.{told}
-use Rattle.machine.specs.View.{bufferIn}
+use Rattle.machine.specs.View.{bufferIn, blankWaiting}
+use Rattle.machine.specs.Fit.{strayed}
 use Rattle.cases.proofs.ArrayLaws.{unmapped}
-use Rattle.machine.proofs.CheckLaws.{StraySoFar, stray-start, stray-next, stray-here, stray-end}
+use Rattle.machine.proofs.AnyLaws.{AnySoFar, any-of-start, any-of-next, any-of-here, any-of-end}
 use borrow.Author.Needs.{needs}
 use Rattle.machine.proofs.fit.has_stray.Statement.{statement}
 use Rattle.machine.proofs.fit.has_stray.Tie as tie
 
 -- the entries still to look at say what all that wait say
 abbrev Inv-loop : tie.InvT-loop
-Inv-loop waiting locations b base n i₀ i = StraySoFar locations b base n i
+Inv-loop waiting locations b base n i₀ i = AnySoFar (strayed locations) b base n i
 
 abbrev μ-loop : tie.MeasureT-loop
 μ-loop waiting locations b base n i₀ i = n - i
@@ -37,7 +38,7 @@ cast-n-2 c = search needs
 loop-holds : tie.Need-loop-holds Inv-loop μ-loop
 loop-holds c =
     let k : length (c .before .before .before .args .buffers) ≡ allCode = search unmapped in
-    stray-start _ _ _ _ (omega arith)
+    any-of-start _ _ _ _ (omega arith)
 
 add-w : tie.Need-add-w Inv-loop μ-loop
 add-w c = search needs
@@ -55,7 +56,7 @@ returns : tie.Need-returns Inv-loop μ-loop
 unfolding bufferIn
 returns c =
     let l = c .before .before .before .before .loop in
-    stray-here (l .inv) (omega arith) (told _ _ _ (c .before .is-stray .ensures) (c .if1 .taken))
+    any-of-here (l .inv) blankWaiting (omega arith) (told _ _ _ (c .before .is-stray .ensures) (c .if1 .taken))
 
 add-i : tie.Need-add-i Inv-loop μ-loop
 add-i c = search needs
@@ -66,11 +67,11 @@ loop-less c = search needs
 loop-again : tie.Need-loop-again Inv-loop μ-loop
 loop-again c =
     let l = c .before .before .before .before .loop in
-    stray-next (l .inv) (omega arith) (told _ _ _ (c .before .is-stray .ensures) (c .if1 .left))
+    any-of-next (l .inv) blankWaiting (omega arith) (told _ _ _ (c .before .is-stray .ensures) (c .if1 .left))
 
 returns-2 : tie.Need-returns-2 Inv-loop μ-loop
 unfolding bufferIn
-returns-2 c = stray-end (c .before .loop .inv) (omega arith)
+returns-2 c = any-of-end (c .before .loop .inv) (omega arith)
 
 pub has-stray-spec : {M : Type 1} → statement M
 has-stray-spec =

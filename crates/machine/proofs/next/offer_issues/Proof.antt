@@ -8,10 +8,10 @@ use Rattle.cases.specs.Choice.{pick}
 use Rattle.cases.specs.Sizes.{mostThreads}
 use Rattle.machine.specs.Parts.{lent}
 use Rattle.machine.specs.Rules.{ruleIn}
-use Rattle.machine.specs.Next.{issuesFrom, rankOf}
+use Rattle.machine.specs.Next.{issueStep, stepsFrom, rankOf}
 use Rattle.machine.specs.Offer.{nextWith}
-use Rattle.machine.proofs.OfferLaws.{OfferedSoFar, offers-start, offers-low, issue-next}
-use Rattle.machine.proofs.OfferLaws.{issue-end, issue-none, issue-some}
+use Rattle.machine.proofs.OfferLaws.{OfferedSoFar, offers-start, offers-low, offer-next}
+use Rattle.machine.proofs.OfferLaws.{offer-end, issue-none, issue-some}
 use borrow.Author.Needs.{needs}
 use Rattle.machine.proofs.next.offer_issues.Statement.{statement}
 use Rattle.machine.proofs.next.offer_issues.Tie as tie
@@ -20,7 +20,7 @@ use Rattle.machine.proofs.next.offer_issues.Tie as tie
 abbrev Inv-loop : tie.InvT-loop
 Inv-loop issued waiting marks lengths ranks₀ count q n₀ t₀ ranks n t =
     (q .threads ≤ mostThreads)
-    × OfferedSoFar (ruleIn q (lent [] issued waiting marks lengths)) issuesFrom 1 (q .threads) t
+    × OfferedSoFar (ruleIn q (lent [] issued waiting marks lengths)) (stepsFrom issueStep) 1 (q .threads) t
     (nextWith n ranks) (nextWith n₀ ranks₀)
 
 abbrev μ-loop : tie.MeasureT-loop
@@ -28,7 +28,7 @@ abbrev μ-loop : tie.MeasureT-loop
 
 loop-holds : tie.Need-loop-holds Inv-loop μ-loop
 loop-holds c =
-    let w = c .pre .0 .few-threads in
+    let w = c .pre .0 .sized .few-threads in
     (w, offers-start _ _ _ _ _ (omega arith))
 
 cast-at : tie.Need-cast-at Inv-loop μ-loop
@@ -46,25 +46,25 @@ mul-x c = search needs
 cast-x : tie.Need-cast-x Inv-loop μ-loop
 cast-x c =
     let l = c .before .before .before .before in
-    let w = l .before .pre .0 .few-instructions (l .loop .t) in
+    let w = l .before .pre .0 .sized .few-instructions (l .loop .t) in
     search needs
 
 add-x : tie.Need-add-x Inv-loop μ-loop
 add-x c =
     let l = c .before .before .before .before in
-    let w = l .before .pre .0 .few-instructions (l .loop .t) in
+    let w = l .before .pre .0 .sized .few-instructions (l .loop .t) in
     search needs
 
 mul-x-2 : tie.Need-mul-x-2 Inv-loop μ-loop
 mul-x-2 c =
     let l = c .before .before .before .before in
-    let w = l .before .pre .0 .few-instructions (l .loop .t) in
+    let w = l .before .pre .0 .sized .few-instructions (l .loop .t) in
     search needs
 
 element-copy-out-x : tie.Need-element-copy-out-x Inv-loop μ-loop
 element-copy-out-x c =
     let l = c .before .before .before .before in
-    let w = l .before .pre .0 .few-instructions (l .loop .t) in
+    let w = l .before .pre .0 .sized .few-instructions (l .loop .t) in
     search needs
 
 operation-rule-requires : tie.Need-operation-rule-requires Inv-loop μ-loop
@@ -93,10 +93,10 @@ loop-again c =
     (λ w. w .3 ∙ issue-some _ _ _ _ (w .0 .taken) (w .2 .ensures))
     (λ w. w .1 ∙ issue-none _ _ _ (w .0 .left))
     (c .before .before .if1 .came) in
-    (l .inv .0, issue-next (l .inv .1) (omega arith) _ e _ (c .offer .ensures))
+    (l .inv .0, offer-next issueStep (l .inv .1) (omega arith) _ e _ (c .offer .ensures))
 
 returns : tie.Need-returns Inv-loop μ-loop
-returns c = issue-end (c .before .loop .inv .1) (omega arith)
+returns c = offer-end issueStep (c .before .loop .inv .1) (omega arith)
 
 pub offer-issues-spec : {M : Type 1} → statement M
 offer-issues-spec =

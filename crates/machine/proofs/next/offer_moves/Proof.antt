@@ -23,13 +23,13 @@ abbrev μ-loop : tie.MeasureT-loop
 
 loop-holds : tie.Need-loop-holds Inv-loop μ-loop
 loop-holds c =
-    let w = c .pre .0 .few-threads in
+    let w = c .pre .0 .sized .few-threads in
     offers-start _ _ _ _ _ (omega arith)
 
 offer-moves-of-requires : tie.Need-offer-moves-of-requires Inv-loop μ-loop
 offer-moves-of-requires c κs =
     let g = c .before .before .before .before .pre in
-    let w = g .0 .few-threads in
+    let w = g .0 .sized .few-threads in
     (g .0, omega arith, g .1, g .2, g .3, offers-room (c .before .before .before .loop .inv) (omega arith))
 
 add-t : tie.Need-add-t Inv-loop μ-loop

@@ -6,10 +6,10 @@ use Rattle.cases.specs.Choice.{pick}
 use Rattle.cases.specs.Sizes.{mostInstructions}
 use Rattle.machine.specs.Parts.{lent}
 use Rattle.machine.specs.Rules.{ruleIn}
-use Rattle.machine.specs.Next.{movesAt, rankOf}
+use Rattle.machine.specs.Next.{moveStep, stepsFrom, rankOf}
 use Rattle.machine.specs.Offer.{nextWith}
 use Rattle.machine.proofs.OfferLaws.{OfferedSoFar, offers-start, offers-low, movable-at}
-use Rattle.machine.proofs.OfferLaws.{position-next, position-end}
+use Rattle.machine.proofs.OfferLaws.{offer-next, position-end}
 use borrow.Author.Needs.{needs}
 use Rattle.machine.proofs.next.offer_moves_of.Statement.{statement}
 use Rattle.machine.proofs.next.offer_moves_of.Tie as tie
@@ -19,7 +19,7 @@ use Rattle.machine.proofs.next.offer_moves_of.Tie as tie
 abbrev Inv-loop : tie.InvT-loop
 Inv-loop p t buffers waiting marks lengths ranks₀ count many n₀ i₀ ranks n i =
     (many ≤ mostInstructions)
-    × OfferedSoFar (ruleIn p (lent buffers [] waiting marks lengths)) (movesAt (t .0)) 1
+    × OfferedSoFar (ruleIn p (lent buffers [] waiting marks lengths)) (stepsFrom (moveStep (t .0))) 1
     mostInstructions i (nextWith n ranks) (nextWith n₀ ranks₀)
 
 abbrev μ-loop : tie.MeasureT-loop
@@ -57,7 +57,7 @@ unfolding ruleIn pick
 loop-again c =
     let l = c .before .before .before .before .loop in
     let e = c .before .before .move-rule .ensures in
-    (l .inv .0, position-next _ (l .inv .1) (omega arith) _ e _ (c .offer .ensures))
+    (l .inv .0, offer-next (moveStep _) (l .inv .1) (omega arith) _ e _ (c .offer .ensures))
 
 returns : tie.Need-returns Inv-loop μ-loop
 returns c = position-end _ _ _ (c .before .loop .inv .1) (omega arith)

@@ -7,10 +7,10 @@ use Rattle.cases.specs.Choice.{pick}
 use Rattle.cases.specs.Sizes.{mostLocations}
 use Rattle.machine.specs.Parts.{lent}
 use Rattle.machine.specs.Rules.{ruleIn}
-use Rattle.machine.specs.Next.{persistsFrom, rankOf}
+use Rattle.machine.specs.Next.{persistStep, stepsFrom, rankOf}
 use Rattle.machine.specs.Offer.{nextWith}
 use Rattle.machine.proofs.QueueOfLaws.{few-queues}
-use Rattle.machine.proofs.OfferLaws.{OfferedSoFar, offers-start, offers-low, persist-next, persist-end}
+use Rattle.machine.proofs.OfferLaws.{OfferedSoFar, offers-start, offers-low, offer-next, offer-end}
 use borrow.Author.Needs.{needs}
 use Rattle.machine.proofs.next.offer_persists.Statement.{statement}
 use Rattle.machine.proofs.next.offer_persists.Tie as tie
@@ -20,7 +20,7 @@ use Rattle.machine.proofs.next.offer_persists.Tie as tie
 abbrev Inv-loop : tie.InvT-loop
 Inv-loop lengths ranks₀ count queues n₀ q₀ ranks n q =
     (queues ≤ mostLocations)
-    × ((p : Program) → OfferedSoFar (ruleIn p (lent [] [] [] [] lengths)) persistsFrom 1 queues q
+    × ((p : Program) → OfferedSoFar (ruleIn p (lent [] [] [] [] lengths)) (stepsFrom persistStep) 1 queues q
     (nextWith n ranks) (nextWith n₀ ranks₀))
 
 abbrev μ-loop : tie.MeasureT-loop
@@ -55,12 +55,12 @@ unfolding ruleIn pick
 loop-again c =
     let l = c .before .before .before .before .loop in
     let e = c .before .before .persist-rule .ensures in
-    (l .inv .0, λ p. persist-next (l .inv .1 p) (omega arith) _ e _ (c .offer .ensures))
+    (l .inv .0, λ p. offer-next persistStep (l .inv .1 p) (omega arith) _ e _ (c .offer .ensures))
 
 returns : tie.Need-returns Inv-loop μ-loop
 returns c =
     let l = c .before in
-    rw (← l .before .queues-of .ensures) (persist-end (l .loop .inv .1 _) (omega arith))
+    rw (← l .before .queues-of .ensures) (offer-end persistStep (l .loop .inv .1 _) (omega arith))
 
 pub offer-persists-spec : {M : Type 1} → statement M
 offer-persists-spec =

@@ -26,7 +26,7 @@ weigh-code-requires : tie.Need-weigh-code-requires Inv-loop μ-loop
 weigh-code-requires c κs =
     let f = c .before .before .before .pre in
     let t = c .before .before .loop .t in
-    (omega arith, f .few-issued t (omega arith), f .program .few-instructions t)
+    (omega arith, f .few-issued t (omega arith), f .program .sized .few-instructions t)
 
 weigh-buffer-requires : tie.Need-weigh-buffer-requires Inv-loop μ-loop
 weigh-buffer-requires c κs =

@@ -1,46 +1,51 @@
 -- `weigh_buffer` meets its contract. Assumes nothing.
-use Prim.Native.Nat.{_-_}
+use Prim.Native.Nat.{_≤_, _-_}
 use mathlib.Core.Path.{_≡_}
 use native.Mathlib.Omega.{arith}
 use lib.ListN.{length}
-use Rattle.cases.specs.Sizes.{allCode}
-use Rattle.machine.specs.View.{bufferIn}
+use Rattle.cases.specs.Sizes.{mostInstructions, allCode}
+use Rattle.machine.specs.View.{bufferIn, blankWaiting}
+use Rattle.machine.specs.Work.{entryWeight}
 use Rattle.cases.proofs.ArrayLaws.{unmapped}
-use Rattle.machine.proofs.WeighLaws.{BufferSoFar, weigh-start, weigh-next, weigh-end}
+use Rattle.machine.proofs.WeighLaws.{WeighedSoFar, weigh-start, weigh-next, weigh-end}
 use borrow.Author.Needs.{needs}
 use Rattle.machine.proofs.work.weigh_buffer.Statement.{statement}
 use Rattle.machine.proofs.work.weigh_buffer.Tie as tie
 
 -- the weight so far and that of the entries still to weigh are the buffer's
 abbrev Inv-loop : tie.InvT-loop
-Inv-loop waiting b at n weight₀ i₀ weight i = BufferSoFar b at n weight i
+Inv-loop waiting b base n weight₀ i₀ weight i =
+    (n ≤ mostInstructions) × WeighedSoFar entryWeight b base n 2 weight i
 
 abbrev μ-loop : tie.MeasureT-loop
-μ-loop waiting b at n weight₀ i₀ weight i = n - i
+μ-loop waiting b base n weight₀ i₀ weight i = n - i
 
-cast-at : tie.Need-cast-at Inv-loop μ-loop
-cast-at c = search needs
+cast-base : tie.Need-cast-base Inv-loop μ-loop
+cast-base c = search needs
 
-element-copy-out-n : tie.Need-element-copy-out-n Inv-loop μ-loop
-element-copy-out-n c = search needs
+mul-base : tie.Need-mul-base Inv-loop μ-loop
+mul-base c = search needs
 
 cast-n : tie.Need-cast-n Inv-loop μ-loop
 cast-n c = search needs
 
+element-copy-out-n : tie.Need-element-copy-out-n Inv-loop μ-loop
+element-copy-out-n c = search needs
+
+cast-n-2 : tie.Need-cast-n-2 Inv-loop μ-loop
+cast-n-2 c = search needs
+
 loop-holds : tie.Need-loop-holds Inv-loop μ-loop
 loop-holds c =
-    let o = c .before .before in
+    let o = c .before .before .before in
     let k : length (o .args .buffers) ≡ allCode = search unmapped in
-    weigh-start _ _ _ k (o .pre .0) (o .pre .1)
-
-mul-w : tie.Need-mul-w Inv-loop μ-loop
-mul-w c = search needs
+    (o .pre .1, weigh-start _ _ _ _ _ (omega arith))
 
 add-w : tie.Need-add-w Inv-loop μ-loop
 add-w c = search needs
 
-mul-w-2 : tie.Need-mul-w-2 Inv-loop μ-loop
-mul-w-2 c = search needs
+mul-w : tie.Need-mul-w Inv-loop μ-loop
+mul-w c = search needs
 
 array-copy-out-w : tie.Need-array-copy-out-w Inv-loop μ-loop
 array-copy-out-w c = search needs
@@ -50,8 +55,7 @@ waiting-weight-requires c κs = search needs
 
 add-weight : tie.Need-add-weight Inv-loop μ-loop
 add-weight c =
-    let l = c .before .before .before .loop in
-    let w = l .inv .light in
+    let w = c .before .before .before .loop .inv .1 .light in
     let r = c .waiting-weight .ensures .1 in
     omega arith
 
@@ -62,11 +66,13 @@ loop-less : tie.Need-loop-less Inv-loop μ-loop
 loop-less c = search needs
 
 loop-again : tie.Need-loop-again Inv-loop μ-loop
-loop-again c = weigh-next (c .before .before .before .loop .inv) _ (omega arith) (c .waiting-weight .ensures)
+loop-again c =
+    let l = c .before .before .before .loop .inv in
+    (l .0, weigh-next (l .1) blankWaiting _ (omega arith) (c .waiting-weight .ensures))
 
 returns : tie.Need-returns Inv-loop μ-loop
 unfolding bufferIn
-returns c = weigh-end (c .before .loop .inv) (omega arith)
+returns c = let l = c .before .loop .inv in weigh-end (l .1) (omega arith) mostInstructions (l .0)
 
 pub weigh-buffer-spec : {M : Type 1} → statement M
 weigh-buffer-spec =
@@ -74,13 +80,14 @@ weigh-buffer-spec =
     (tie.spec
     Inv-loop
     μ-loop
-    cast-at
-    element-copy-out-n
+    cast-base
+    mul-base
     cast-n
+    element-copy-out-n
+    cast-n-2
     loop-holds
-    mul-w
     add-w
-    mul-w-2
+    mul-w
     array-copy-out-w
     waiting-weight-requires
     add-weight
