@@ -21,6 +21,7 @@ use Rattle.machine.proofs.Effects.{issue-issued, issue-issued-other, issue-buff
 use Rattle.machine.proofs.Effects.{issue-queue}
 use Rattle.demands.specs.Carried.{carried, carriedFrom, carriedAll}
 use Rattle.demands.proofs.ThroughLaws.{Quiet, Through, behind}
+use Rattle.cases.proofs.Promises.{thread-low}
 
 -- The steps ks lead from s to where nothing waits; thread t has then issued n instructions, the others no more
 pub record Carries (p : Program) (s : State) (ks : List Step) (t n : ℕ) : Type 0 where
@@ -45,8 +46,7 @@ module _ (p : Program) (s : State) (o : Quiet p s) (t : ℕ) (low : t < p .threa
 
   issued-others : (k : ℕ) → k < p .threads → k ≢ t → buffer issued k ≡ []
   issued-others k h e =
-      let w = o .fit .program .sized .few-threads in
-      issue-buffer-other p s (o .fit) t low (may-issue .1) k (omega arith) e ∙ o .buffers k h
+      issue-buffer-other p s (o .fit) t low (may-issue .1) k (thread-low (o .fit .program) h) e ∙ o .buffers k h
 
   issued-buffer : buffer issued t ≡ joins (s .registers) t next
   issued-buffer = rw (issue-buffer p s (o .fit) t low (may-issue .1), o .buffers t low) refl

@@ -6,11 +6,9 @@ use mathlib.Core.Path.{_≡_, refl, sym, ap, _∙_}
 use mathlib.Core.Logic.{_⊎_, inl, inr, _≢_}
 use mathlib.Core.Bool.{false}
 use mathlib.Core.List.{List, [], _∷_, _++_, append-nil, append-assoc}
-use native.Mathlib.Omega.{arith}
 use Rattle.cases.specs.declared.case.Location.{Location}
 use Rattle.cases.specs.declared.case.Step.{Step}
 use Rattle.cases.specs.declared.case.Program.{Program}
-use Rattle.cases.specs.Sizes.{mostThreads}
 use Rattle.cases.specs.Checks.{countAt, queuesOf}
 use Rattle.machine.specs.declared.cells.State.{State}
 use Rattle.machine.specs.declared.cells.Entry.the-variants.{FlushOpt}
@@ -24,6 +22,7 @@ use Rattle.machine.proofs.Effects.{move-words, move-word, persist-issued, persi
 use Rattle.demands.specs.Writes.{issuesAt, fixedFrom}
 use Rattle.demands.proofs.WriteLaws.{storesOf, fixesFrom, stores-without, fixes-same}
 use Rattle.demands.proofs.IssuesLaws.{fixed-next, move-issues, persist-issues}
+use Rattle.cases.proofs.Promises.{thread-low}
 
 -- what thread t has to come to location l in the run ks from s: what waits in its buffer, then what it fixes
 unfoldable pub coming : Program → State → List Step → ℕ → ℕ → List ℕ
@@ -57,11 +56,6 @@ coming-taken p s k ks l t new h e b =
           (countAt p t - issuedOf s t) (λ j m. fixed-next p s k ks t j (h j)),
     )
     (append-assoc new (storesOf l (buffer (nextOf p s k) t)) _)
-
--- a thread of the program is below the most that a program may have
-module _ (p : Program) (s : State) (f : Fits p s) where
-  pub in-range : (t : ℕ) → t < p .threads → t < mostThreads
-  in-range t h = let w = f .program .sized .few-threads in omega arith
 
 module _ (p : Program) (s : State) (f : Fits p s) (ks : List Step) (l : ℕ) (there : l < p .locations) where
   -- Persist
@@ -115,5 +109,5 @@ module _ (p : Program) (s : State) (f : Fits p s) (ks : List Step) (l : ℕ) (th
           other = λ k h n.
               coming-taken p s (moveStep t i) ks l k [] (move-issues s t i k)
               (move-issued p s f t i low legal k)
-              (ap (storesOf l) (sym (move-buffer-other p s f t i low legal k (in-range p s f k h) n)));
+              (ap (storesOf l) (sym (move-buffer-other p s f t i low legal k (thread-low (f .program) h) n)));
         }

@@ -22,8 +22,9 @@ use Rattle.machine.proofs.Effects.{issue-buffer-other, issue-words, issue-word,
 use Rattle.demands.specs.Writes.{fixedFrom}
 use Rattle.demands.proofs.WriteLaws.{storesOf, fixesFrom, stores-append, fixes-same, splits, apart}
 use Rattle.demands.proofs.IssuesLaws.{fixed-here, fixed-next, issues-here, issues-later, issues-other}
-use Rattle.demands.proofs.ComingLaws.{coming, Passing, coming-taken, in-range, persist-passing}
+use Rattle.demands.proofs.ComingLaws.{coming, Passing, coming-taken, persist-passing}
 use Rattle.demands.proofs.ComingLaws.{move-passing}
+use Rattle.cases.proofs.Promises.{thread-low}
 
 module _ (p : Program) (s : State) (f : Fits p s) (ks : List Step) (l : ℕ) (there : l < p .locations) where
   -- Issue
@@ -92,7 +93,7 @@ module _ (p : Program) (s : State) (f : Fits p s) (ks : List Step) (l : ℕ) (th
           other = λ k h n.
               coming-taken p s (issueStep t) ks l k [] (λ i. issues-other s t k i (λ e. n (sym e)))
               (issue-issued-other p s f t low legal k n)
-              (ap (storesOf l) (sym (issue-buffer-other p s f t low legal k (in-range p s f k h) n)));
+              (ap (storesOf l) (sym (issue-buffer-other p s f t low legal k (thread-low (f .program) h) n)));
         }
 
   -- every legal step

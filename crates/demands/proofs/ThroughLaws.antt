@@ -16,6 +16,7 @@ use Rattle.cases.specs.declared.case.Program.{Program}
 use Rattle.cases.specs.Choice.{pick, both, either}
 use Rattle.cases.specs.Checks.{limitsOf, queuesOf, stepFault}
 use Rattle.cases.proofs.ChoiceLaws.{pick-true, pick-false}
+use Rattle.cases.proofs.Promises.{thread-low}
 use Rattle.cases.specs.Operations.{lastOperation, firstOperation}
 use Rattle.machine.specs.declared.cells.State.{State}
 use Rattle.machine.specs.declared.cells.Entry.{Entry}
@@ -114,8 +115,7 @@ module _ (p : Program) (s : State) (t : ℕ) (low : t < p .threads) (e : Entry) 
       go (yes d) =
           rw (d, move-buffer p s (o .fit) t 0 low (may-move .1), o .here) (unfold without in refl)
       go (no d) =
-          let w = o .fit .program .sized .few-threads in
-          move-buffer-other p s (o .fit) t 0 low (may-move .1) k (omega arith) d ∙ o .others k h d
+          move-buffer-other p s (o .fit) t 0 low (may-move .1) k (thread-low (o .fit .program) h) d ∙ o .others k h d
 
   moved-queue : (q : ℕ) → q < queuesOf p → queue moved q ≡ enters p t q e
   moved-queue q h =

@@ -33,6 +33,7 @@ use Rattle.machine.proofs.QueueOfLaws.{few-queues, queue-there}
 use Rattle.machine.proofs.ViewLaws.{buffer-same, buffer-other}
 use Rattle.machine.proofs.KeepLaws.{queue-within, buffer-within, queue-long, buffer-long}
 use Rattle.machine.proofs.SpareLaws.{Spare, register-spare}
+use Rattle.cases.proofs.Promises.{thread-low}
 
 -- u is s with b at the end of thread t's buffer and r q at the end of each queue q; registers aside
 pub record Adds (s u : State) (t : ℕ) (b : List Waiting) (r : ℕ → List Slot) : Type 0 where
@@ -65,8 +66,7 @@ module _ (p : Program) (s : State) (t : ℕ) (o : Spare p s t) where
   adds-await : t < p .threads → (e : Entry) → Adds s (await s t e) t (record { entry = e } ∷ []) (λ q. [])
   unfolding await
   adds-await low e =
-      let z = o .fit .program .sized .few-threads in
-      let m : t < mostThreads = omega arith in
+      let m = thread-low (o .fit .program) low in
       let n = buffer-within p s (o .fit) t m in
       let h = buffer-long p s (o .fit) t m in
       let w = o .space in

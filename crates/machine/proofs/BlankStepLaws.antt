@@ -14,6 +14,7 @@ use Rattle.cases.specs.Choice.{pick}
 use Rattle.cases.specs.Sizes.{mostInstructions, allCode}
 use Rattle.cases.specs.Checks.{queuesOf}
 use Rattle.cases.proofs.ArrayLaws.{getD-blank}
+use Rattle.cases.proofs.Promises.{thread-low}
 use Rattle.cases.specs.Operations.{firstOperation, lastOperation}
 use Rattle.machine.specs.declared.cells.State.{State}
 use Rattle.machine.specs.declared.cells.Entry.{Entry}
@@ -69,7 +70,7 @@ module _ (p : Program) (s : State) (t : ℕ) (o : Spare p s t) (blank : BlankBeh
   await-blank : t < p .threads → (e : Entry) → BlankBehind (await s t e)
   unfolding await
   await-blank low e =
-      let z = o .fit .program .sized .few-threads in
+      let z = thread-low (o .fit .program) low in
       let n = buffer-long p s (o .fit) t (omega arith) in
       let w = o .space in
       let k : length (buffer s t ++ (record { entry = e } ∷ [])) ≤ mostInstructions
@@ -120,7 +121,7 @@ module _ (p : Program) (s : State) (f : Fits p s) (blank : BlankBehind s) where
   move-blank : (t i : ℕ) → t < p .threads → moveRule p (partsOf s) t i ≡ 0 → BlankBehind (moveOf p s t i)
   unfolding moveOf
   move-blank t i low legal =
-      let z = f .program .sized .few-threads in
+      let z = thread-low (f .program) low in
       let there = move-there p s f t i low legal in
       let n = buffer-long p s f t (omega arith) in
       let m = buffer-within p s f t (omega arith) in

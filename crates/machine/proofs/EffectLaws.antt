@@ -16,6 +16,7 @@ use Rattle.cases.specs.declared.case.Program.{Program}
 use Rattle.cases.specs.Choice.{pick, either}
 use Rattle.cases.specs.Sizes.{mostThreads, mostInstructions, mostLocations}
 use Rattle.cases.proofs.ChoiceLaws.{refuse-none}
+use Rattle.cases.proofs.Promises.{thread-low}
 use Rattle.cases.specs.Checks.{countAt}
 use Rattle.cases.specs.Operations.{exchange}
 use Rattle.machine.specs.declared.cells.State.{State}
@@ -46,7 +47,7 @@ module _ (p : Program) (s : State) (f : Fits p s) (t : ℕ) (low : t < p .thread
   next = instructionAt p t (issuedOf s t)
 
   in-range : t < mostThreads
-  in-range = let w = f .program .sized .few-threads in omega arith
+  in-range = thread-low (f .program) low
 
   pub issue-left : issuedOf s t < countAt p t
   unfolding ruleOf ruleIn pick
@@ -105,7 +106,7 @@ pass-is p b i Sfence h = absurd (omega arith)
 module _ (p : Program) (s : State) (f : Fits p s) (t i : ℕ) (low : t < p .threads)
     (legal : ruleOf p s (moveStep t i) ≡ 0) where
   in-threads : t < mostThreads
-  in-threads = let w = f .program .sized .few-threads in omega arith
+  in-threads = thread-low (f .program) low
 
   within : bufferLen s t ≤ mostInstructions
   within = buffer-within p s f t in-threads

@@ -10,6 +10,7 @@ use Rattle.cases.specs.declared.case.Program.{Program}
 use Rattle.cases.specs.Choice.{pick}
 use Rattle.cases.specs.Ranges.{InstructionFits}
 use Rattle.cases.proofs.ChoiceLaws.{refuse-none}
+use Rattle.cases.proofs.Promises.{thread-low}
 use Rattle.cases.specs.Checks.{countAt, queuesOf}
 use Rattle.cases.specs.Operations.{lastOperation, firstOperation}
 use Rattle.machine.specs.declared.cells.State.{State}
@@ -52,7 +53,7 @@ module _ (p : Program) (s : State) (t : ℕ) (o : Spare p s t) (low : t < p .thr
       → work p (performed p s t (of op l r w)) + 1 ≡ work p s + unissuedWeight op
   unfolding performed pick entryOf loaded exchanged unissuedWeight waitingWeight
   performed-work =
-      let z = o .fit .program .sized .few-threads in
+      let z = thread-low (o .fit .program) low in
       let y = few-queues p (o .fit .program) in
       let at = to in
       let b = o .space in

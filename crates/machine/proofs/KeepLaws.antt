@@ -21,6 +21,7 @@ use Rattle.machine.proofs.QueueLaws.{queue-length, queueLen-same, queue
 use Rattle.machine.proofs.QueueLaws.{marks-other, sized-queue}
 use Rattle.machine.proofs.ViewLaws.{buffer-length, bufferLen-same, bufferLen-other, buffer-same}
 use Rattle.machine.proofs.ViewLaws.{buffer-other, sized-buffer, sized-word, sized-register}
+use Rattle.cases.proofs.Promises.{thread-low}
 
 module _ (p : Program) (s : State) (f : Fits p s) where
   -- a queue and a buffer are within their room, and as long as their lengths say
@@ -86,7 +87,7 @@ module _ (p : Program) (s : State) (f : Fits p s) where
   module _ (t : ℕ) (low : t < p .threads) (b : List Waiting)
       (few : length b + unissued p s t ≤ mostInstructions) where
     in-threads : t < mostThreads
-    in-threads = let w = f .program .sized .few-threads in omega arith
+    in-threads = thread-low (f .program) low
 
     fewer : length b ≤ mostInstructions
     fewer = omega arith

@@ -16,6 +16,7 @@ use Rattle.cases.specs.Checks.{limitsOf, queuesOf, stepFault, countAt}
 use Rattle.cases.specs.Sizes.{mostThreads, mostLocations}
 use Rattle.cases.proofs.ChoiceLaws.{pick-cases}
 use Rattle.cases.proofs.ArrayLaws.{length-none}
+use Rattle.cases.proofs.Promises.{thread-low}
 use Rattle.machine.specs.declared.cells.State.{State}
 use Rattle.machine.specs.declared.cells.Entry.{Entry}
 use Rattle.machine.specs.declared.cells.Entry.the-variants.{Store, Flush, FlushOpt, Sfence}
@@ -110,7 +111,7 @@ module _ (p : Program) (s : State) (f : Fits p s) where
         → (stepFault (limitsOf p) (moveStep t 0) ≡ 0) × (ruleOf p s (moveStep t 0) ≡ 0)
     unfolding ruleOf ruleIn pick moveRule refuse Movable
     move-legal t low h =
-        let few = f .program .sized .few-threads in
+        let few = thread-low (f .program) low in
         let n = buffer-long p s f t (omega arith) in
         let held : bufferLen s t ≢ 0 = λ e. h (length-none _ (n ∙ e)) in
         let some : 0 < bufferLen s t = omega arith in
@@ -123,7 +124,7 @@ module _ (p : Program) (s : State) (f : Fits p s) where
         → (stepFault (limitsOf p) (issueStep t) ≡ 0) × (ruleOf p s (issueStep t) ≡ 0)
     unfolding ruleOf ruleIn pick issueRule refuse
     issue-legal t low h left =
-        let few = f .program .sized .few-threads in
+        let few = thread-low (f .program) low in
         let n = sym (buffer-long p s f t (omega arith)) ∙ ap length h in (
           issue-fault p t low,
           rw (lt-leb _ _ left) (operation-none (partsOf s) (queues-none quiet) t _ n),

@@ -11,6 +11,7 @@ use lib.Seq.{take-at, drop-length}
 use Rattle.cases.specs.declared.case.Step.{Step}
 use Rattle.cases.specs.declared.case.Program.{Program}
 use Rattle.cases.proofs.ChoiceLaws.{pick-true, pick-false, pick-cases}
+use Rattle.cases.proofs.Promises.{thread-low}
 use Rattle.cases.specs.Sizes.{mostThreads, mostInstructions}
 use Rattle.machine.specs.declared.cells.State.{State}
 use Rattle.machine.specs.Sizes.{mostCandidates, kindRanks}
@@ -54,10 +55,9 @@ legal-back : (p : Program) (s : State) → ProgramFits p
     → (k : Step) → Listed k (legalSteps (ptso p) s) → stepAt (rankOf k) ≡ k
 unfolding legalSteps
 legal-back p s g k h =
-    let w = g .sized .few-threads in
     candidates-all p (λ j. stepAt (rankOf j) ≡ j)
-    (λ t a. issue-back t (omega arith))
-    (λ t i a b. move-back t i (omega arith) b)
+    (λ t a. issue-back t (thread-low g a))
+    (λ t i a b. move-back t i (thread-low g a) b)
     (λ q a. persist-back q) k (listed-allowed (ruleOf p s) k (candidates p) h .0)
 
 -- a list whose every step comes back: whole, and from a position on

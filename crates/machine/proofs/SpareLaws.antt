@@ -27,6 +27,7 @@ use Rattle.machine.proofs.ViewLaws.{bufferLen-same, sized-issued, issue
 use Rattle.machine.proofs.KeepLaws.{queue-within, buffer-within, queue-long, buffer-long, fits-queue}
 use Rattle.machine.proofs.KeepLaws.{due-buffer, fits-buffer, fits-register}
 use Rattle.machine.proofs.AllLaws.{all-append, all-without}
+use Rattle.cases.proofs.Promises.{thread-low}
 
 -- room for one more
 pub record Spare (p : Program) (s : State) (t : ℕ) : Type 0 where
@@ -47,7 +48,7 @@ marks-fit p s f q low =
 module _ (p : Program) (s : State) (f : Fits p s) (t i : ℕ) (low : t < p .threads)
     (there : i < bufferLen s t) where
   in-threads : t < mostThreads
-  in-threads = let w = f .program .sized .few-threads in omega arith
+  in-threads = thread-low (f .program) low
 
   shorter : suc (length (without i (buffer s t))) ≡ bufferLen s t
   shorter =
@@ -88,7 +89,7 @@ module _ (p : Program) (s : State) (f : Fits p s) (t : ℕ) (low : t < p .thread
   counted = withIssued s t (issuedOf s t + 1)
 
   in-range : t < mostThreads
-  in-range = let w = f .program .sized .few-threads in omega arith
+  in-range = thread-low (f .program) low
 
   pub unissued-same : suc (unissued p counted t) ≡ unissued p s t
   unfolding unissued
@@ -143,7 +144,7 @@ module _ (p : Program) (s : State) (t : ℕ) (o : Spare p s t) where
   pub await-fits : t < p .threads → (e : Entry) → Named (p .locations) e → Fits p (await s t e)
   unfolding await
   await-fits low e named =
-      let z = o .fit .program .sized .few-threads in
+      let z = thread-low (o .fit .program) low in
       let n = buffer-long p s (o .fit) t (omega arith) in
       let k : length (buffer s t ++ (record { entry = e } ∷ [])) ≡ suc (bufferLen s t)
       = simp (length-append, n) (omega arith) in

@@ -15,6 +15,7 @@ use Rattle.cases.specs.Operations.{issue, move, persist}
 use Rattle.cases.specs.Sizes.{mostLocations}
 use Rattle.cases.specs.Checks.{queuesOf}
 use Rattle.cases.proofs.ChoiceLaws.{refuse-none}
+use Rattle.cases.proofs.Promises.{thread-low}
 use Rattle.machine.specs.declared.cells.State.{State}
 use Rattle.machine.specs.declared.cells.Entry.{Entry}
 use Rattle.machine.specs.declared.cells.Entry.the-variants.{Store, Flush, FlushOpt, Sfence}
@@ -70,7 +71,7 @@ module _ (p : Program) (s : State) (f : Fits p s) (t i : ℕ) (low : t < p .thre
 
   pub move-named : Named (p .locations) (entryAt (buffer s t) i)
   move-named =
-      let z = f .program .sized .few-threads in
+      let z = thread-low (f .program) low in
       let n = buffer-long p s f t (omega arith) in
       let h = move-there in
       all-get (NamedBy (p .locations)) (buffer s t) i blankWaiting (f .named t (omega arith)) (omega arith)
@@ -82,7 +83,7 @@ module _ (p : Program) (s : State) (f : Fits p s) (t i : ℕ) (low : t < p .thre
   pub move-work : work p (moveOf p s t i) + 1 ≡ work p s
   unfolding moveOf
   move-work =
-      let z = f .program .sized .few-threads in
+      let z = thread-low (f .program) low in
       effect-work p _ t (taken-spare p s f t i low move-there) low _ move-named
       ∙ work-without p s f t i blankWaiting (omega arith) move-there
 

@@ -29,6 +29,7 @@ use Rattle.machine.proofs.QueueLaws.{queueLen-same, queueLen-other}
 use Rattle.machine.proofs.ViewLaws.{buffer-same, buffer-other, issued-same, issued-other}
 use Rattle.machine.proofs.KeepLaws.{queue-within, buffer-within, queue-long, buffer-long}
 use Rattle.machine.proofs.SpareLaws.{unissued-same, unissued-other}
+use Rattle.cases.proofs.Promises.{thread-low}
 
 -- a buffer's weight: one more at its end; one taken out
 weigh-append : (b c : List Waiting) → weigh entryWeight (b ++ c) ≡ weigh entryWeight b + weigh entryWeight c
@@ -129,7 +130,7 @@ module _ (p : Program) (s : State) (f : Fits p s) where
   -- an instruction counted as issued
   module _ (t : ℕ) (low : t < p .threads) (left : issuedOf s t < countAt p t) where
     in-range : t < mostThreads
-    in-range = let w = f .program .sized .few-threads in omega arith
+    in-range = thread-low (f .program) low
 
     code-next : unissuedCode p s t
         ≡ instructionAt p t (issuedOf s t) ∷ unissuedCode p (withIssued s t (issuedOf s t + 1)) t

@@ -10,6 +10,7 @@ use Rattle.machine.specs.Offer.{nextWith}
 use Rattle.machine.proofs.OfferLaws.{OfferedSoFar, offers-start, offers-room, thread-next, thread-end}
 use borrow.Author.Needs.{needs}
 use Rattle.machine.proofs.next.offer_moves.Statement.{statement}
+use Rattle.cases.proofs.Promises.{thread-low}
 use Rattle.machine.proofs.next.offer_moves.Tie as tie
 
 -- the moves from thread t on, offered to the list so far, give what all of them give to the list at the start
@@ -29,8 +30,7 @@ loop-holds c =
 offer-moves-of-requires : tie.Need-offer-moves-of-requires Inv-loop μ-loop
 offer-moves-of-requires c κs =
     let g = c .before .before .before .before .pre in
-    let w = g .0 .sized .few-threads in
-    (g .0, omega arith, g .1, g .2, g .3, offers-room (c .before .before .before .loop .inv) (omega arith))
+    (g .0, thread-low (g .0) (omega arith), g .1, g .2, g .3, offers-room (c .before .before .before .loop .inv) (omega arith))
 
 add-t : tie.Need-add-t Inv-loop μ-loop
 add-t c = search needs
