@@ -1,22 +1,22 @@
 //! The commands for one case, and those that only turn one form into another.
 
-use crate::case::Step;
+use crate::answers::{all_answers, budget_of, say_refused, say_unfit, story};
 use crate::desk::{self, Given, Outcome, Unfit};
 use crate::draw;
+use crate::files::{self, File};
 use crate::frames;
 use crate::layout;
 use crate::messages::Trouble;
 use crate::objects;
-use crate::options::{self, Command, File, Form, Options};
+use crate::options::{self, Command, Form, Options};
 use crate::output;
 use crate::page;
 use crate::programs::Programs;
 use crate::report;
 use crate::several;
+use crate::statuses::{graver, raw_status, status, NO_ANSWER};
 use crate::story::{Answer, Story};
 use crate::tell;
-
-pub const NO_ANSWER: u8 = 3;
 
 pub fn run(options: &Options) -> Result<u8, Trouble> {
     if options.command == Command::Help {
@@ -34,74 +34,6 @@ pub fn run(options: &Options) -> Result<u8, Trouble> {
         _ if read.len() > 1 => several::tell(&programs, options, &read),
         _ => tell_one(&programs, options, &read[0]),
     }
-}
-
-/// The exit status for an answer.
-pub fn status(outcome: &Outcome) -> u8 {
-    match outcome {
-        Outcome::Answer(Answer::Unreachable | Answer::Legal, _) => 0,
-        Outcome::Answer(Answer::Reached | Answer::Illegal { .. }, _) => 1,
-        Outcome::Answer(Answer::Undecided, _) => 2,
-        Outcome::Refused { .. } => NO_ANSWER,
-    }
-}
-
-/// The graver of two: no answer, then reached or illegal, then undecided.
-pub fn graver(one: u8, other: u8) -> u8 {
-    let rank = |status: u8| [0, 2, 1, 3][status as usize];
-    if rank(one) < rank(other) {
-        other
-    } else {
-        one
-    }
-}
-
-/// Says on standard error why a file is no case.
-pub fn say_unfit(file: &File, unfit: &Unfit) {
-    match unfit {
-        Unfit::Mistakes(mistakes) => output::say(&report::mistakes(&file.shown(), mistakes)),
-        Unfit::Unread(trouble) => output::say(&format!("garluveni: {trouble}\n")),
-    }
-}
-
-/// The answers of all files that are cases, by their index; each is handed on as it comes. With a budget the question is asked,
-/// else the run is judged.
-pub fn answers(
-    programs: &Programs,
-    budget: Option<u32>,
-    read: &[Result<Given, Unfit>],
-    each: &mut dyn FnMut(usize, Outcome) -> Result<(), Trouble>,
-) -> Result<(), Trouble> {
-    let fit = read.iter().enumerate();
-    let fit = fit.filter_map(|(i, one)| Some((i, one.as_ref().ok()?)));
-    let (places, given): (Vec<usize>, Vec<&Given>) = fit.unzip();
-    if given.is_empty() {
-        return Ok(());
-    }
-    let mut placed = |i: usize, outcome| each(places[i], outcome);
-    match budget {
-        Some(budget) => desk::ask(programs, &given, budget, &mut placed),
-        None => desk::judge(programs, &given, &mut placed),
-    }
-}
-
-/// The answers all together.
-fn all_answers(
-    programs: &Programs,
-    budget: Option<u32>,
-    read: &[Result<Given, Unfit>],
-) -> Result<Vec<Option<Outcome>>, Trouble> {
-    let mut outcomes = vec![None; read.len()];
-    answers(programs, budget, read, &mut |i, outcome| {
-        outcomes[i] = Some(outcome);
-        Ok(())
-    })?;
-    Ok(outcomes)
-}
-
-/// The budget of the question, where one is asked.
-pub fn budget_of(options: &Options) -> Option<u32> {
-    (options.command == Command::Ask).then_some(options.budget_or_default())
 }
 
 fn tell_one(
@@ -131,16 +63,6 @@ fn tell_one(
         // a stream that ended early was told as trouble already
         (Ok(_), None) => Ok(NO_ANSWER),
     }
-}
-
-fn story(
-    programs: &Programs,
-    given: &Given,
-    answer: (Answer, Vec<Step>),
-    budget: Option<u32>,
-) -> Result<Story, Trouble> {
-    let mut stories = desk::stories(programs, vec![(given, answer.0, answer.1)], budget)?;
-    Ok(stories.remove(0))
 }
 
 fn json_lines(
@@ -248,15 +170,6 @@ fn raw_one(programs: &Programs, options: &Options, given: &Given) -> Result<u8, 
     }
 }
 
-fn raw_status(line: &str) -> u8 {
-    match line.split(' ').next() {
-        Some("UNREACHABLE" | "LEGAL" | "101") => 0,
-        Some("REACHED" | "ILLEGAL" | "100") => 1,
-        Some("UNDECIDED" | "102") => 2,
-        _ => NO_ANSWER,
-    }
-}
-
 /// Text to records, or either to text: all the files or none.
 fn turn(
     programs: &Programs,
@@ -281,12 +194,6 @@ fn turn(
         output::print(&out)?;
     }
     Ok(status)
-}
-
-fn say_refused(given: &Given, outcome: Option<&Outcome>) {
-    if let Some(Outcome::Refused { number, offset }) = outcome {
-        output::say(&report::refused(&given.file, *number, *offset));
-    }
 }
 
 /// The case as text, with its file's name where there are several; or its records.
@@ -343,7 +250,7 @@ fn write_drawing(options: &Options, story: &Story) -> Result<u8, Trouble> {
         Some(file) => {
             output::save(file, drawing.as_bytes())?;
             // not an answer, so not for standard output
-            let (case, file) = (&story.file, options::shown(file));
+            let (case, file) = (&story.file, files::shown(file));
             output::say(&format!("{case}: the run is drawn to {file}\n"));
         }
     }

@@ -1,10 +1,10 @@
 //! From files to answers: reads texts and records, has the proved programs judge and answer them, and gathers what there is to tell.
 
 use crate::case::{Case, Step};
+use crate::files::File;
 use crate::frames::{self, Asked, Judged, Verdict};
 use crate::lives;
 use crate::messages::{Mistake, Trouble};
-use crate::options::File;
 use crate::output;
 use crate::parse;
 use crate::programs::Programs;

@@ -1,10 +1,12 @@
 //! The front door: readable cases in, the proved programs' answers out, in words and pictures. It decides nothing itself.
 
+mod answers;
 mod case;
 mod commands;
 mod cut;
 mod desk;
 mod draw;
+mod files;
 mod frames;
 mod hints;
 mod json;
@@ -25,6 +27,7 @@ mod several;
 mod sizes;
 mod state;
 mod statements;
+mod statuses;
 mod story;
 mod tell;
 mod words;
@@ -38,7 +41,7 @@ fn main() -> ExitCode {
         Ok(status) => ExitCode::from(status),
         Err(trouble) => {
             output::say(&format!("garluveni: {trouble}\n"));
-            ExitCode::from(commands::NO_ANSWER)
+            ExitCode::from(statuses::NO_ANSWER)
         }
     }
 }

@@ -1,8 +1,9 @@
 //! The command line.
 
+use crate::files::{shown, File};
 use crate::messages::Trouble;
 use crate::sizes;
-use std::ffi::{OsStr, OsString};
+use std::ffi::OsString;
 
 #[derive(Clone, Copy, Debug, PartialEq, Eq)]
 pub enum Command {
@@ -30,29 +31,6 @@ pub struct Options {
     /// None: standard output.
     pub out: Option<OsString>,
     pub files: Vec<File>,
-}
-
-/// Where a case is read from.
-#[derive(Clone, Debug, PartialEq, Eq)]
-pub enum File {
-    Input,
-    Named(OsString),
-}
-
-impl File {
-    /// As messages show it.
-    pub fn shown(&self) -> String {
-        match self {
-            File::Input => "standard input".to_string(),
-            File::Named(name) => shown(name),
-        }
-    }
-}
-
-/// A name as messages show it.
-pub fn shown(name: &OsStr) -> String {
-    let plain = |c: char| if c.is_control() { '?' } else { c };
-    name.to_string_lossy().chars().map(plain).collect()
 }
 
 pub fn name(command: Command) -> &'static str {

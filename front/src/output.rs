@@ -1,7 +1,7 @@
 //! Writing: to standard output, or to a file that is there whole or not at all.
 
+use crate::files;
 use crate::messages::Trouble;
-use crate::options;
 use std::ffi::OsStr;
 use std::fs;
 use std::io::{ErrorKind, Write};
@@ -23,7 +23,7 @@ pub fn say(words: &str) {
 
 /// Writes beside the file first, so that a full disk leaves what was there before. What is no plain file is written as it is.
 pub fn save(file: &OsStr, bytes: &[u8]) -> Result<(), Trouble> {
-    let trouble = |error: std::io::Error| Trouble::CannotWrite(options::shown(file), plain(&error));
+    let trouble = |error: std::io::Error| Trouble::CannotWrite(files::shown(file), plain(&error));
     let path = place_of(Path::new(file));
     let before = fs::metadata(&path).ok();
     if before.as_ref().is_some_and(|about| !about.is_file()) {

@@ -1,12 +1,13 @@
 //! Several files at once: a line each, as the answers come, and a summary.
 
-use crate::commands::{self, graver, status};
+use crate::answers::{answers, budget_of, say_unfit};
 use crate::desk::{Given, Outcome, Unfit};
 use crate::messages::Trouble;
 use crate::options::Options;
 use crate::output;
 use crate::programs::Programs;
 use crate::report;
+use crate::statuses::{graver, status, NO_ANSWER};
 use crate::story::Answer;
 
 struct Table<'a> {
@@ -34,15 +35,10 @@ pub fn tell(
         counts: Vec::new(),
     };
     table.advance()?;
-    commands::answers(
-        programs,
-        commands::budget_of(options),
-        read,
-        &mut |i, outcome| {
-            table.outcomes[i] = Some(outcome);
-            table.advance()
-        },
-    )?;
+    answers(programs, budget_of(options), read, &mut |i, outcome| {
+        table.outcomes[i] = Some(outcome);
+        table.advance()
+    })?;
     let counts = table
         .counts
         .iter()
@@ -63,9 +59,9 @@ impl Table<'_> {
             }
             let file = &self.options.files[self.told];
             if let Err(unfit) = read {
-                commands::say_unfit(file, unfit);
+                say_unfit(file, unfit);
             }
-            self.gravest = graver(self.gravest, outcome.map_or(commands::NO_ANSWER, status));
+            self.gravest = graver(self.gravest, outcome.map_or(NO_ANSWER, status));
             let (word, rest) = line(read, outcome);
             output::print(format!("{}: {word}{rest}\n", file.shown()).as_bytes())?;
             match self.counts.iter_mut().find(|(other, _)| *other == word) {
