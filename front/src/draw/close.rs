@@ -5,10 +5,9 @@ use super::lines::look;
 use super::plan::{Plan, MARGIN};
 use super::words;
 use crate::case::Step;
-use crate::layout;
-use crate::lives;
-use crate::rules;
-use crate::story::Answer;
+use crate::story::{lives, Answer};
+use crate::tell::rules;
+use crate::text::layout;
 
 const STRIP: i32 = 34;
 const LOST_ROW: i32 = 24;

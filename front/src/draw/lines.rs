@@ -3,7 +3,7 @@
 use super::ink::{chip_width, Ink, CHIP_OVER};
 use super::plan::{Column, Plan, ROW};
 use super::words;
-use crate::lives::{self, Kind, Life};
+use crate::story::lives::{self, Kind, Life};
 
 /// The classes that give an entry one look on its whole way: its location's colour, and every second write a double line.
 pub fn look(lives: &[Life], one: usize) -> String {

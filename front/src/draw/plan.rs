@@ -3,7 +3,7 @@
 use super::ink::{chip_width, columns, small_width, wrap, CHIP_OVER};
 use super::words;
 use crate::case::{Instruction, Step};
-use crate::lives::{self, Life};
+use crate::story::lives::{self, Life};
 use crate::story::Story;
 
 pub const MARGIN: i32 = 6;

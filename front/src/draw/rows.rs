@@ -5,8 +5,8 @@ use super::lines::look;
 use super::plan::{Plan, AGAIN, HEADS, MARGIN, ROW, START};
 use super::words;
 use crate::case::Step;
-use crate::layout;
-use crate::lives::Kind;
+use crate::story::lives::Kind;
+use crate::text::layout;
 
 /// The columns' ground, from the heads down to the closing part.
 pub fn ground(ink: &mut Ink, plan: &Plan) {

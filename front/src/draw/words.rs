@@ -2,10 +2,10 @@
 
 use super::ink::shorten;
 use crate::case::{Case, Step};
-use crate::layout;
-use crate::lives::{Kind, Life};
-use crate::report;
+use crate::story::lives::{Kind, Life};
 use crate::story::{Answer, Story};
+use crate::tell::report;
+use crate::text::layout;
 
 /// The columns of a name inside a chip or a step's words; `FULL` cuts nothing.
 pub const SHORT: i32 = 10;

@@ -2,12 +2,11 @@
 
 use crate::case::Instruction;
 use crate::draw::{self, ink::escape, words};
-use crate::json::{list, map, text};
-use crate::layout;
-use crate::lives::{self, Life};
-use crate::rules;
-use crate::state::State;
-use crate::story::{Answer, Story};
+use crate::story::lives::{self, Life};
+use crate::story::{state::State, Answer, Story};
+use crate::tell::json::{list, map, text};
+use crate::tell::rules;
+use crate::text::layout;
 
 /// `told` has a sentence for each legal step.
 pub fn html(story: &Story, told: &[String]) -> String {
@@ -191,7 +190,7 @@ fn end(story: &Story, lives: &[Life]) -> String {
 #[cfg(test)]
 mod tests {
     use super::*;
-    use crate::lives::tests::outage;
+    use crate::story::lives::tests::outage;
 
     fn page(story: &Story) -> String {
         let told: Vec<String> = (1..=5).map(|step| format!("Sentence {step}")).collect();

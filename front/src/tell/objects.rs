@@ -1,14 +1,14 @@
 //! One JSON object for a case, on one line; docs/FRONT.md has the fields.
 
+use super::cut;
+use super::json::{list, map, text};
+use super::report;
+use super::rules;
+use super::run;
 use crate::case::Case;
-use crate::cut;
-use crate::json::{list, map, text};
-use crate::layout;
 use crate::messages::Mistake;
-use crate::report;
-use crate::rules;
 use crate::story::{Answer, Story};
-use crate::tell;
+use crate::text::layout;
 
 struct Object(Vec<(&'static str, String)>);
 
@@ -68,7 +68,7 @@ fn put_run(object: &mut Object, story: &Story) {
     object.put("steps", list(steps));
     object.put(
         "told",
-        list(tell::sentences(story).iter().map(|one| text(one))),
+        list(run::sentences(story).iter().map(|one| text(one))),
     );
     let Some(end) = story.states.last() else {
         return;
@@ -76,7 +76,7 @@ fn put_run(object: &mut Object, story: &Story) {
     let words = case.names.iter().zip(&end.words);
     let words = words.map(|(name, word)| (name, word.to_string()));
     object.put("memory", map(&words.collect::<Vec<_>>()));
-    object.put("waiting", text(&tell::waiting(case, end)));
+    object.put("waiting", text(&run::waiting(case, end)));
     if story.answer != Answer::Reached {
         return;
     }

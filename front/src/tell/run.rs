@@ -1,10 +1,10 @@
-//! A story in words: what each step does, what waits where, what a power cut leaves. It looks at the states that the proved judge
-//! handed out and works out none.
+//! A run in words: what each step does, what waits where, what memory holds. It looks at the states that the proved judge handed out
+//! and works out none.
 
 use crate::case::{Case, Instruction, Step};
-use crate::layout;
-use crate::state::{Entry, Held, State};
+use crate::story::state::{Entry, Held, State};
 use crate::story::Story;
+use crate::text::layout;
 
 /// One sentence for each legal step of the run.
 pub fn sentences(story: &Story) -> Vec<String> {

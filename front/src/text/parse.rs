@@ -1,12 +1,12 @@
 //! A text read as a case, or all its mistakes. docs/TEXT.md has the grammar.
 
+use super::hints;
+use super::operands::{digits, low, number, register, short_step, shown};
+use super::statements::{instruction_of, known_words, step_of, Operand, INSTRUCTIONS, STEPS};
+use super::words::{self, Line, Word};
 use crate::case::{Case, Instruction, Step};
-use crate::hints;
 use crate::messages::{Expected, Mistake, What};
-use crate::operands::{digits, low, number, register, short_step, shown};
 use crate::sizes;
-use crate::statements::{instruction_of, known_words, step_of, Operand, INSTRUCTIONS, STEPS};
-use crate::words::{self, Line, Word};
 use std::collections::{BTreeMap, HashMap};
 
 /// So many names are kept of a text.

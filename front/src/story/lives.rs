@@ -1,8 +1,8 @@
 //! The life of each entry of a run: the steps that issued it, moved it and let it persist. It follows the run and decides nothing.
 
+use super::state::{Entry, Held};
+use super::Story;
 use crate::case::{Instruction, Step};
-use crate::state::{Entry, Held};
-use crate::story::Story;
 
 /// Steps are told by their index in the run, from 0.
 #[derive(Clone, Debug, PartialEq, Eq)]
@@ -251,8 +251,7 @@ impl Ledger {
 pub mod tests {
     use super::*;
     use crate::case::Case;
-    use crate::state::{Held, State};
-    use crate::story::Answer;
+    use crate::story::{state::State, Answer};
 
     /// The outage, written by hand: the row of docs/MACHINE.md, "A run, step by step".
     pub fn outage() -> Story {

@@ -1,9 +1,9 @@
 //! What a power cut leaves, word by word: which write each location has, which ones are lost, and which wanted words make a torn row.
 
 use crate::case::Instruction;
-use crate::layout;
-use crate::lives::{self, Life};
+use crate::story::lives::{self, Life};
 use crate::story::Story;
+use crate::text::layout;
 
 /// A location at the cut.
 pub struct Place {

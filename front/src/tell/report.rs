@@ -1,12 +1,12 @@
 //! The answer to one case in words.
 
+use super::cut::{self, Place};
+use super::rules;
+use super::run;
 use crate::case::Case;
-use crate::cut::{self, Place};
-use crate::layout;
 use crate::messages::Mistake;
-use crate::rules;
 use crate::story::{Answer, Story};
-use crate::tell;
+use crate::text::layout;
 
 /// What a newcomer must know to follow a run.
 const LEGEND: &str =
@@ -149,12 +149,9 @@ fn told(story: &Story) -> Vec<String> {
     let case = &story.case;
     let mut lines = Vec::new();
     if let Some(start) = story.states.first() {
-        lines.push(format!(
-            "  at first   memory: {}",
-            tell::memory(case, start)
-        ));
+        lines.push(format!("  at first   memory: {}", run::memory(case, start)));
     }
-    let told = tell::sentences(story);
+    let told = run::sentences(story);
     for (i, sentence) in told.iter().enumerate() {
         let (before, after) = (&story.states[i], &story.states[i + 1]);
         lines.push(format!(
@@ -164,18 +161,15 @@ fn told(story: &Story) -> Vec<String> {
         ));
         lines.push(format!(
             "             waiting: {}",
-            tell::waiting(case, after)
+            run::waiting(case, after)
         ));
         if before.words != after.words {
-            lines.push(format!(
-                "             memory: {}",
-                tell::memory(case, after)
-            ));
+            lines.push(format!("             memory: {}", run::memory(case, after)));
         }
     }
     if let Answer::Illegal { index, .. } = story.answer {
         let step = layout::short_step(&story.run[index]);
-        let attempt = tell::attempt(story, index);
+        let attempt = run::attempt(story, index);
         lines.push(format!("  {:>2}  {step:<6} {attempt}.", index + 1));
     }
     lines
@@ -185,7 +179,7 @@ fn ending(story: &Story) -> Vec<String> {
     let end = story
         .states
         .last()
-        .map_or(String::new(), |state| tell::memory(&story.case, state));
+        .map_or(String::new(), |state| run::memory(&story.case, state));
     match story.answer {
         Answer::Illegal { .. } => vec![format!("Memory before that step: {end}.")],
         Answer::Legal => vec![format!("A power cut behind the last step leaves: {end}.")],
@@ -225,7 +219,7 @@ fn passed(story: &Story) -> Vec<String> {
             let (issued, all) = (end.issued[thread], story.case.threads[thread].len());
             let still: Vec<String> = end.buffers[thread]
                 .iter()
-                .map(|entry| tell::shown(&story.case, entry))
+                .map(|entry| run::shown(&story.case, entry))
                 .collect();
             let still = match still.is_empty() {
                 true => "nothing waits in its buffer".to_string(),

@@ -1,14 +1,13 @@
 //! What every command needs: the answers of its files, the story of one, and what is said of a file that has no answer.
 
+use super::options::{Command, Options};
 use crate::case::Step;
-use crate::desk::{self, Given, Outcome, Unfit};
+use crate::desk::{self, programs::Programs, Given, Outcome, Unfit};
 use crate::files::File;
 use crate::messages::Trouble;
-use crate::options::{Command, Options};
 use crate::output;
-use crate::programs::Programs;
-use crate::report;
 use crate::story::{Answer, Story};
+use crate::tell::report;
 
 /// The answers of all files that are cases, by their index; each is handed on as it comes. With a budget the question is asked,
 /// else the run is judged.

@@ -1,22 +1,22 @@
 //! The commands for one case, and those that only turn one form into another.
 
-use crate::answers::{all_answers, budget_of, say_refused, say_unfit, story};
-use crate::desk::{self, Given, Outcome, Unfit};
+mod answers;
+pub mod options;
+mod several;
+pub mod statuses;
+
+use crate::desk::{self, frames, programs::Programs, Given, Outcome, Unfit};
 use crate::draw;
 use crate::files::{self, File};
-use crate::frames;
-use crate::layout;
 use crate::messages::Trouble;
-use crate::objects;
-use crate::options::{self, Command, Form, Options};
 use crate::output;
 use crate::page;
-use crate::programs::Programs;
-use crate::report;
-use crate::several;
-use crate::statuses::{graver, raw_status, status, NO_ANSWER};
 use crate::story::{Answer, Story};
-use crate::tell;
+use crate::tell::{objects, report, run};
+use crate::text::layout;
+use answers::{all_answers, budget_of, say_refused, say_unfit, story};
+use options::{Command, Form, Options};
+use statuses::{graver, raw_status, status, NO_ANSWER};
 
 pub fn run(options: &Options) -> Result<u8, Trouble> {
     if options.command == Command::Help {
@@ -242,7 +242,7 @@ fn draw_one(
 
 fn write_drawing(options: &Options, story: &Story) -> Result<u8, Trouble> {
     let drawing = match options.html {
-        true => page::html(story, &tell::sentences(story)),
+        true => page::html(story, &run::sentences(story)),
         false => draw::svg(story),
     };
     match &options.out {

@@ -1,7 +1,10 @@
 //! What there is to tell of a case: the answer of the proved programs, the run, and the state behind each of its legal steps.
 
+pub mod lives;
+pub mod state;
+
 use crate::case::{Case, Step};
-use crate::state::State;
+use state::State;
 
 #[derive(Clone, Copy, Debug, PartialEq, Eq)]
 pub enum Answer {

@@ -1,10 +1,10 @@
 //! Frames for the program `batch` and what its lines say. second/README.md has both.
 
+use super::records;
 use crate::case::{Case, Step};
 use crate::messages::Trouble;
-use crate::records;
 use crate::sizes;
-use crate::state::State;
+use crate::story::state::State;
 
 /// Reading looks at no byte behind 1,340, so that a longer file is answered by so many.
 const MOST_INPUT: usize = 2048;

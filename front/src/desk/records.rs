@@ -1,7 +1,7 @@
 //! A case as records, and records that the proved reader has taken as a case. docs/FORMAT.md has the records.
 
 use crate::case::{Case, Instruction, Step};
-use crate::layout::NAMES;
+use crate::text::layout::NAMES;
 
 /// Whether a file is records: its first record's kind is that of a program. No text has a zero byte.
 pub fn is_records(bytes: &[u8]) -> bool {

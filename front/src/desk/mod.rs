@@ -1,15 +1,17 @@
 //! From files to answers: reads texts and records, has the proved programs judge and answer them, and gathers what there is to tell.
 
+pub mod frames;
+pub mod programs;
+mod records;
+
 use crate::case::{Case, Step};
 use crate::files::File;
-use crate::frames::{self, Asked, Judged, Verdict};
-use crate::lives;
 use crate::messages::{Mistake, Trouble};
 use crate::output;
-use crate::parse;
-use crate::programs::Programs;
-use crate::records;
-use crate::story::{Answer, Story};
+use crate::story::{lives, Answer, Story};
+use crate::text::parse;
+use frames::{Asked, Judged, Verdict};
+use programs::Programs;
 use std::io::Read;
 
 /// A text of more bytes is not looked at; records are decided by their first 1,340.

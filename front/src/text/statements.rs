@@ -1,8 +1,8 @@
 //! The statements of a text: their first words, what follows each, and the instructions and steps that they say.
 
+use super::operands::low;
 use crate::case::{Instruction, Step};
 use crate::messages::Expected;
-use crate::operands::low;
 
 /// Each instruction's first word and what follows it.
 pub const INSTRUCTIONS: [(&str, &[Expected]); 7] = [

@@ -9,9 +9,8 @@ mod plan;
 mod rows;
 pub mod words;
 
-use crate::layout;
-use crate::lives::Life;
-use crate::story::{Answer, Story};
+use crate::story::{lives::Life, Answer, Story};
+use crate::text::layout;
 use ink::{escape, Ink};
 pub use lines::look;
 pub use look::variables;
@@ -137,7 +136,7 @@ pub fn lost(story: &Story, lives: &[Life]) -> String {
 #[cfg(test)]
 mod tests {
     use super::*;
-    use crate::lives::tests::outage;
+    use crate::story::lives::tests::outage;
 
     #[test]
     fn the_outage_fits_a_phone_and_says_what_is_left_and_lost() {

@@ -1,14 +1,13 @@
 //! Several files at once: a line each, as the answers come, and a summary.
 
-use crate::answers::{answers, budget_of, say_unfit};
-use crate::desk::{Given, Outcome, Unfit};
+use super::answers::{answers, budget_of, say_unfit};
+use super::options::Options;
+use super::statuses::{graver, status, NO_ANSWER};
+use crate::desk::{programs::Programs, Given, Outcome, Unfit};
 use crate::messages::Trouble;
-use crate::options::Options;
 use crate::output;
-use crate::programs::Programs;
-use crate::report;
-use crate::statuses::{graver, status, NO_ANSWER};
 use crate::story::Answer;
+use crate::tell::report;
 
 struct Table<'a> {
     options: &'a Options,

@@ -1,0 +1,8 @@
+//! An answer in words and as JSON: what a run does, what a power cut leaves, what a rule or a refusal says.
+
+mod cut;
+pub mod json;
+pub mod objects;
+pub mod report;
+pub mod rules;
+pub mod run;
