@@ -30,11 +30,5 @@ use std::process::ExitCode;
 
 fn main() -> ExitCode {
     let words: Vec<OsString> = std::env::args_os().skip(1).collect();
-    match commands::options::options(&words).and_then(|options| commands::run(&options)) {
-        Ok(status) => ExitCode::from(status),
-        Err(trouble) => {
-            output::say(&format!("garluveni: {trouble}\n"));
-            ExitCode::from(commands::statuses::NO_ANSWER)
-        }
-    }
+    ExitCode::from(commands::run(&words))
 }

@@ -1,24 +1,30 @@
-//! The commands for one case, and those that only turn one form into another.
+//! The command line, what each command does with the files that it names, and the exit statuses.
 
 mod answers;
-pub mod options;
+mod forms;
+mod one;
+mod options;
 mod several;
-pub mod statuses;
+mod statuses;
 
-use crate::desk::{self, frames, programs::Programs, Given, Outcome, Unfit};
-use crate::draw;
-use crate::files::{self, File};
+use crate::desk::{programs::Programs, Given, Unfit};
 use crate::messages::Trouble;
 use crate::output;
-use crate::page;
-use crate::story::{Answer, Story};
-use crate::tell::{objects, report, run};
-use crate::text::layout;
-use answers::{all_answers, budget_of, say_refused, say_unfit, story};
 use options::{Command, Form, Options};
-use statuses::{graver, raw_status, status, NO_ANSWER};
+use std::ffi::OsString;
 
-pub fn run(options: &Options) -> Result<u8, Trouble> {
+/// Does what the words of a command line say, and says what stopped it; the exit status.
+pub fn run(words: &[OsString]) -> u8 {
+    match options::options(words).and_then(|options| obey(&options)) {
+        Ok(status) => status,
+        Err(trouble) => {
+            output::say(&format!("garluveni: {trouble}\n"));
+            statuses::NO_ANSWER
+        }
+    }
+}
+
+fn obey(options: &Options) -> Result<u8, Trouble> {
     if options.command == Command::Help {
         output::print(include_str!("help.txt").as_bytes())?;
         return Ok(0);
@@ -27,232 +33,11 @@ pub fn run(options: &Options) -> Result<u8, Trouble> {
     let read: Vec<Result<Given, Unfit>> =
         options.files.iter().map(|file| Given::read(file)).collect();
     match (options.command, options.form) {
-        (Command::Draw, _) => draw_one(&programs, options, &read[0]),
-        (Command::Text, _) | (_, Form::Bytes) => turn(&programs, options, &read),
-        (_, Form::Raw) => raw(&programs, options, &read),
-        (_, Form::Json) => json_lines(&programs, options, &read),
+        (Command::Draw, _) => one::draw(&programs, options, &read[0]),
+        (Command::Text, _) | (_, Form::Bytes) => forms::turn(&programs, options, &read),
+        (_, Form::Raw) => forms::raw(&programs, options, &read),
+        (_, Form::Json) => forms::json(&programs, options, &read),
         _ if read.len() > 1 => several::tell(&programs, options, &read),
-        _ => tell_one(&programs, options, &read[0]),
+        _ => one::tell(&programs, options, &read[0]),
     }
-}
-
-fn tell_one(
-    programs: &Programs,
-    options: &Options,
-    read: &Result<Given, Unfit>,
-) -> Result<u8, Trouble> {
-    let budget = budget_of(options);
-    let found = all_answers(programs, budget, std::slice::from_ref(read))?;
-    match (read, &found[0]) {
-        (Ok(given), Some(outcome)) => {
-            let words = match outcome {
-                Outcome::Answer(answer, run) => {
-                    report::words(&story(programs, given, (*answer, run.clone()), budget)?)
-                }
-                Outcome::Refused { number, offset } => {
-                    report::refused(&given.file, *number, *offset)
-                }
-            };
-            output::print(words.as_bytes())?;
-            Ok(status(outcome))
-        }
-        (Err(unfit), _) => {
-            say_unfit(&options.files[0], unfit);
-            Ok(NO_ANSWER)
-        }
-        // a stream that ended early was told as trouble already
-        (Ok(_), None) => Ok(NO_ANSWER),
-    }
-}
-
-fn json_lines(
-    programs: &Programs,
-    options: &Options,
-    read: &[Result<Given, Unfit>],
-) -> Result<u8, Trouble> {
-    let budget = budget_of(options);
-    let outcomes = all_answers(programs, budget, read)?;
-    let answered = read.iter().zip(&outcomes).filter_map(|pair| match pair {
-        (Ok(given), Some(Outcome::Answer(answer, run))) => Some((given, *answer, run.clone())),
-        _ => None,
-    });
-    let answered: Vec<_> = answered.collect();
-    let stories = match answered.is_empty() {
-        true => Vec::new(),
-        false => desk::stories(programs, answered, budget)?,
-    };
-    let mut stories = stories.iter();
-    let mut gravest = 0;
-    let mut lines = String::new();
-    for ((file, one), outcome) in options.files.iter().zip(read).zip(&outcomes) {
-        gravest = graver(gravest, outcome.as_ref().map_or(NO_ANSWER, status));
-        lines += &json_line(options, file, one, outcome.as_ref(), &mut stories);
-    }
-    output::print(lines.as_bytes())?;
-    Ok(gravest)
-}
-
-/// The object of one file; the stories are those of the answered ones, in order.
-fn json_line<'a>(
-    options: &Options,
-    file: &File,
-    read: &Result<Given, Unfit>,
-    outcome: Option<&Outcome>,
-    stories: &mut impl Iterator<Item = &'a Story>,
-) -> String {
-    let (file, command) = (file.shown(), options::name(options.command));
-    match (read, outcome) {
-        (Err(Unfit::Mistakes(mistakes)), _) => objects::bad_text(&file, command, mistakes),
-        (Err(Unfit::Unread(trouble)), _) => objects::unread(&file, command, &trouble.to_string()),
-        (_, Some(Outcome::Refused { number, offset })) => {
-            objects::refused(&file, command, *number, *offset)
-        }
-        (_, Some(outcome)) => {
-            let status = status(outcome);
-            stories
-                .next()
-                .map_or(String::new(), |story| objects::told(story, command, status))
-        }
-        (_, None) => String::new(),
-    }
-}
-
-/// What the programs print themselves.
-fn raw(
-    programs: &Programs,
-    options: &Options,
-    read: &[Result<Given, Unfit>],
-) -> Result<u8, Trouble> {
-    let mut gravest = 0;
-    for (file, one) in options.files.iter().zip(read) {
-        if read.len() > 1 {
-            output::print(format!("== {}\n", file.shown()).as_bytes())?;
-        }
-        let status = match one {
-            Ok(given) => raw_one(programs, options, given)?,
-            Err(unfit) => {
-                say_unfit(file, unfit);
-                NO_ANSWER
-            }
-        };
-        gravest = graver(gravest, status);
-    }
-    Ok(gravest)
-}
-
-fn raw_one(programs: &Programs, options: &Options, given: &Given) -> Result<u8, Trouble> {
-    let (program, input) = match (options.command, options.budget) {
-        (Command::Judge, _) => ("judge", given.bytes.clone()),
-        (_, None) => ("question", given.bytes.clone()),
-        // the program `question` has one budget; `batch` takes any, and answers with the number and the lent buffer
-        (_, Some(budget)) => ("batch", frames::question(&given.bytes, budget)),
-    };
-    let mut status = NO_ANSWER;
-    let mut is_first = true;
-    programs.lines(
-        program,
-        input,
-        &[format!("asking {}", given.file)],
-        &mut |line| {
-            if is_first {
-                status = raw_status(line);
-                is_first = false;
-            }
-            output::print(format!("{line}\n").as_bytes())
-        },
-    )?;
-    match is_first {
-        true => Err(Trouble::ProgramEnded(
-            program.to_string(),
-            "it printed nothing".to_string(),
-        )),
-        false => Ok(status),
-    }
-}
-
-/// Text to records, or either to text: all the files or none.
-fn turn(
-    programs: &Programs,
-    options: &Options,
-    read: &[Result<Given, Unfit>],
-) -> Result<u8, Trouble> {
-    let outcomes = all_answers(programs, None, read)?;
-    let mut out = Vec::new();
-    let mut status = 0;
-    for ((file, one), outcome) in options.files.iter().zip(read).zip(&outcomes) {
-        match (one, outcome) {
-            (Ok(given), Some(Outcome::Answer(..))) => {
-                out.extend(turned(options.command, given, read.len() > 1));
-                continue;
-            }
-            (Ok(given), _) => say_refused(given, outcome.as_ref()),
-            (Err(unfit), _) => say_unfit(file, unfit),
-        }
-        status = NO_ANSWER;
-    }
-    if status == 0 {
-        output::print(&out)?;
-    }
-    Ok(status)
-}
-
-/// The case as text, with its file's name where there are several; or its records.
-fn turned(command: Command, given: &Given, is_one_of_several: bool) -> Vec<u8> {
-    match command {
-        Command::Text if is_one_of_several => {
-            format!("# {}\n{}", given.file, layout::text(&given.case())).into_bytes()
-        }
-        Command::Text => layout::text(&given.case()).into_bytes(),
-        _ => given.bytes.clone(),
-    }
-}
-
-/// The run in the file, else the run that answers its question.
-fn draw_one(
-    programs: &Programs,
-    options: &Options,
-    read: &Result<Given, Unfit>,
-) -> Result<u8, Trouble> {
-    let given = match read {
-        Ok(given) => given,
-        Err(unfit) => {
-            say_unfit(&options.files[0], unfit);
-            return Ok(NO_ANSWER);
-        }
-    };
-    let has_run = !given.case().run.is_empty();
-    let budget = (!has_run).then_some(options.budget_or_default());
-    let found = all_answers(programs, budget, std::slice::from_ref(read))?;
-    match &found[0] {
-        Some(Outcome::Answer(answer @ (Answer::Unreachable | Answer::Undecided), _)) => {
-            let (file, word) = (&given.file, answer.word());
-            output::say(&format!("{file}: {word}, so there is no run to draw\n"));
-            Ok(NO_ANSWER)
-        }
-        Some(Outcome::Answer(answer, run)) => {
-            let story = story(programs, given, (*answer, run.clone()), budget)?;
-            write_drawing(options, &story)
-        }
-        refused => {
-            say_refused(given, refused.as_ref());
-            Ok(NO_ANSWER)
-        }
-    }
-}
-
-fn write_drawing(options: &Options, story: &Story) -> Result<u8, Trouble> {
-    let drawing = match options.html {
-        true => page::html(story, &run::sentences(story)),
-        false => draw::svg(story),
-    };
-    match &options.out {
-        None => output::print(drawing.as_bytes())?,
-        Some(file) => {
-            output::save(file, drawing.as_bytes())?;
-            // not an answer, so not for standard output
-            let (case, file) = (&story.file, files::shown(file));
-            output::say(&format!("{case}: the run is drawn to {file}\n"));
-        }
-    }
-    Ok(0)
 }
