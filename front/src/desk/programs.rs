@@ -59,7 +59,7 @@ impl Programs {
     }
 
     fn start(&self, program: &str) -> Result<Child, Trouble> {
-        let mut command = Command::new(self.root.join("tests/run"));
+        let mut command = Command::new(self.root.join("tools/run"));
         command
             .arg(program)
             .stdin(Stdio::piped())
