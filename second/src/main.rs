@@ -1,40 +1,25 @@
 //! The independent second judge: cases, the machine and the question in plain Rust, answers by frames.
+//!
+//! `judge` uses nothing of `streams`. Among the streams, which all use what stands beside them in
+//! `streams`: `cases` uses no other, `machine` uses `cases`, `question` uses `machine` and `cases`,
+//! `whole` uses `machine`, and `text` uses `question`, `machine` and `cases`.
 
-mod answer;
-mod case;
-mod counts;
-mod fields;
-mod form;
-mod frame;
-mod generate;
-mod machine;
-mod marks;
-mod question;
-mod reading;
-mod refusal;
-mod tally;
-mod text;
-mod trial;
-mod whole;
-mod writing;
+mod judge;
+mod streams;
 
 #[cfg(test)]
 mod tests;
 
-use counts::FrameCounts;
-use frame::Frame;
-use generate::Take;
-use question::counts::QueryCounts;
-use question::frame::Query;
 use std::io::{self, BufReader, BufWriter, StdinLock, StdoutLock, Write};
 use std::path::Path;
 use std::process::ExitCode;
-use tally::Counts;
-use text::counts::TextCounts;
-use text::files;
-use trial::counts::TrialCounts;
-use trial::frame::Trial;
-use whole::counts::WholeCounts;
+use streams::cases::{self, counts::FrameCounts, frame::Frame};
+use streams::machine::{self, counts::TrialCounts, frame::Trial};
+use streams::parts::Take;
+use streams::question::{self, counts::QueryCounts, frame::Query};
+use streams::tally::Counts;
+use streams::text::{counts::TextCounts, files};
+use streams::whole::{self, counts::WholeCounts};
 
 const USAGE: &str = "usage: second answer | second generate SEED COUNT | second counts, \
                      or machine-, question- or whole- in front of the mode, or second question-runs, \
@@ -60,16 +45,20 @@ fn main() -> ExitCode {
 /// The modes that read or write a stream of frames; the others have a folder.
 fn of_streams(words: &[&str]) -> io::Result<()> {
     match words[..] {
-        ["answer"] => answer_all(Frame::read_from, |frame| answer::answer(frame).line()),
+        ["answer"] => answer_all(Frame::read_from, |frame| {
+            cases::answer::answer(frame).line()
+        }),
         ["counts"] => count(Frame::read_from, FrameCounts::new()),
-        ["generate", seed, count] => generate(generate::frames, Frame::write_to, seed, count),
-        ["machine-answer"] | ["whole-answer"] => {
-            answer_all(Trial::read_from, |one| trial::answer::answer(one).line())
+        ["generate", seed, count] => {
+            generate(cases::generate::frames, Frame::write_to, seed, count)
         }
-        ["machine-judged"] => answer_all(Trial::read_from, trial::answer::judged_line),
+        ["machine-answer"] | ["whole-answer"] => {
+            answer_all(Trial::read_from, |one| machine::answer::answer(one).line())
+        }
+        ["machine-judged"] => answer_all(Trial::read_from, machine::answer::judged_line),
         ["machine-counts"] => count(Trial::read_from, TrialCounts::new()),
         ["machine-generate", seed, count] => {
-            generate(trial::generate::frames, Trial::write_to, seed, count)
+            generate(machine::generate::frames, Trial::write_to, seed, count)
         }
         ["question-answer"] => {
             answer_all(Query::read_from, |one| question::answer::answer(one).line())

@@ -1,0 +1,59 @@
+//! Number 32, tested on the case's form alone: no bytes are written or read for it.
+
+use super::case::{Case, Instruction, Step, MOST_INSTRUCTIONS, MOST_STEPS};
+use super::fields::{check_instruction, check_step};
+
+/// Whether some byte string reads as the case.
+pub fn fits(case: &Case) -> bool {
+    (1..=4).contains(&case.threads)
+        && (1..=8).contains(&case.locations)
+        && firsts_fit(case)
+        && (0..case.counts.len()).all(|thread| instructions_fit(case, thread))
+        && wants_fit(case)
+        && passed_fit(case)
+        && steps_fit(case)
+}
+
+fn firsts_fit(case: &Case) -> bool {
+    let lacking = &case.first[usize::from(case.locations)..];
+    lacking.iter().all(|&word| word == 0)
+}
+
+/// A thread that the program lacks has no instructions: their thread would be out of range.
+fn instructions_fit(case: &Case, thread: usize) -> bool {
+    let count = usize::from(case.counts[thread]);
+    if count > MOST_INSTRUCTIONS {
+        return false;
+    }
+    let (used, unused) = case.code[Case::places(thread)].split_at(count);
+    let good = |instruction: &Instruction| {
+        check_instruction(case.threads, case.locations, thread as u8, instruction).is_ok()
+    };
+    used.iter().all(good) && unused.iter().all(|left| *left == Instruction::default())
+}
+
+fn wants_fit(case: &Case) -> bool {
+    (0..case.wanted.len()).all(|location| {
+        if case.wanted[location] {
+            location < usize::from(case.locations)
+        } else {
+            case.want[location] == 0
+        }
+    })
+}
+
+/// A thread that the program lacks has no instructions, so its passed count can only be 0.
+fn passed_fit(case: &Case) -> bool {
+    let mut pairs = case.passed.iter().zip(case.counts.iter());
+    pairs.all(|(least, count)| least <= count)
+}
+
+fn steps_fit(case: &Case) -> bool {
+    let count = usize::from(case.count);
+    if count > MOST_STEPS {
+        return false;
+    }
+    let (used, unused) = case.steps.split_at(count);
+    let good = |step: &Step| check_step(case.threads, case.locations, step).is_ok();
+    used.iter().all(good) && unused.iter().all(|left| *left == Step::default())
+}

@@ -1,0 +1,88 @@
+//! Number 33: a machine state in memory that does not fit its case. The case is readable.
+
+use super::state::{Entry, State, QUEUE_ROOM};
+use crate::judge::case::{Case, MOST_INSTRUCTIONS};
+
+/// One way not to fit; each answers for any state, however large its counts are.
+pub struct Clause {
+    pub name: &'static str,
+    pub broken: fn(&Case, &State) -> bool,
+}
+
+pub const CLAUSES: [Clause; 7] = [
+    Clause {
+        name: "buffer of a lacking thread",
+        broken: |case, state| {
+            let lacking = &state.buffers[usize::from(case.threads)..];
+            lacking.iter().any(|buffer| buffer.count > 0)
+        },
+    },
+    Clause {
+        name: "queue of a lacking location",
+        broken: |case, state| {
+            let lacking = &state.queues[usize::from(case.locations)..];
+            lacking.iter().any(|queue| queue.count > 0)
+        },
+    },
+    Clause {
+        name: "entry names a lacking location",
+        broken: |case, state| {
+            let mut waiting = state.buffers.iter().flat_map(|buffer| buffer.used());
+            waiting.any(|&entry| named(entry).map_or(false, |at| at >= case.locations))
+        },
+    },
+    Clause {
+        name: "marker names a lacking thread",
+        broken: |case, state| {
+            let mut held = state.queues.iter().flat_map(|queue| queue.used());
+            held.any(|held| held.mark > case.threads)
+        },
+    },
+    Clause {
+        name: "more issued than there are",
+        broken: |case, state| {
+            let mut pairs = state.issued.iter().zip(&case.counts);
+            pairs.any(|(issued, count)| issued > count)
+        },
+    },
+    Clause {
+        name: "buffer and unissued above 8",
+        broken: |case, state| {
+            let to_wait = |thread| waiting(state, thread) + state.unissued(case, thread).len();
+            (0..state.buffers.len()).any(|thread| to_wait(thread) > MOST_INSTRUCTIONS)
+        },
+    },
+    Clause {
+        name: "queue and to come above 32",
+        broken: |case, state| {
+            let to_come = to_come(case, state);
+            let mut queues = state.queues.iter();
+            queues.any(|queue| usize::from(queue.count) + to_come > QUEUE_ROOM)
+        },
+    },
+];
+
+pub fn fits(case: &Case, state: &State) -> bool {
+    CLAUSES.iter().all(|clause| !(clause.broken)(case, state))
+}
+
+/// All entries in store buffers and all unissued instructions.
+pub fn to_come(case: &Case, state: &State) -> usize {
+    let threads = 0..state.buffers.len();
+    threads
+        .map(|thread| waiting(state, thread) + state.unissued(case, thread).len())
+        .sum()
+}
+
+fn waiting(state: &State, thread: usize) -> usize {
+    state.buffers[thread].count.into()
+}
+
+fn named(entry: Entry) -> Option<u8> {
+    match entry {
+        Entry::Store { location, .. } | Entry::Flush(location) | Entry::FlushOpt(location) => {
+            Some(location)
+        }
+        Entry::Sfence => None,
+    }
+}

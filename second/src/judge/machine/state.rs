@@ -1,0 +1,89 @@
+//! A state of the machine.
+
+use super::row::Row;
+use crate::judge::case::{Case, Instruction, MOST_INSTRUCTIONS, MOST_LOCATIONS, MOST_THREADS};
+
+/// No queue of a fitting state grows beyond this.
+pub const QUEUE_ROOM: usize = 32;
+pub const THREAD_REGISTERS: usize = 4;
+
+/// What stands in a queue: a write where the mark is 0, else a flush-opt marker of thread
+/// mark - 1. A marker's word means nothing, but it is kept.
+#[derive(Clone, Copy, Debug, Default, PartialEq, Eq)]
+pub struct Held {
+    pub word: u32,
+    pub mark: u8,
+}
+
+impl Held {
+    pub fn write(word: u32) -> Held {
+        Held { word, mark: 0 }
+    }
+
+    pub fn marker(thread: usize) -> Held {
+        Held {
+            word: 0,
+            mark: thread as u8 + 1,
+        }
+    }
+
+    pub fn is_write(self) -> bool {
+        self.mark == 0
+    }
+
+    pub fn is_marker_of(self, thread: usize) -> bool {
+        usize::from(self.mark) == thread + 1
+    }
+}
+
+/// What waits in a store buffer; each but the sfence names a location.
+#[derive(Clone, Copy, Debug, PartialEq, Eq)]
+pub enum Entry {
+    Store { location: u8, word: u32 },
+    Flush(u8),
+    FlushOpt(u8),
+    Sfence,
+}
+
+impl Default for Entry {
+    /// The blank.
+    fn default() -> Entry {
+        Entry::Store {
+            location: 0,
+            word: 0,
+        }
+    }
+}
+
+pub type Queue = Row<Held, QUEUE_ROOM>;
+pub type Buffer = Row<Entry, MOST_INSTRUCTIONS>;
+
+#[derive(Clone, Debug, PartialEq, Eq)]
+pub struct State {
+    /// The persistent words.
+    pub words: [u32; MOST_LOCATIONS],
+    pub queues: [Queue; MOST_LOCATIONS],
+    pub buffers: [Buffer; MOST_THREADS],
+    pub registers: [[u32; THREAD_REGISTERS]; MOST_THREADS],
+    pub issued: [u8; MOST_THREADS],
+}
+
+impl State {
+    /// First contents, and nothing queued, waiting or issued.
+    pub fn start(case: &Case) -> State {
+        State {
+            words: case.first,
+            queues: std::array::from_fn(|_| Queue::new()),
+            buffers: std::array::from_fn(|_| Buffer::new()),
+            registers: [[0; THREAD_REGISTERS]; MOST_THREADS],
+            issued: [0; MOST_THREADS],
+        }
+    }
+
+    /// The thread's instructions that are not issued yet, the next one first.
+    pub fn unissued<'a>(&self, case: &'a Case, thread: usize) -> &'a [Instruction] {
+        let count = MOST_INSTRUCTIONS.min(case.counts[thread].into());
+        let issued = usize::from(self.issued[thread]);
+        &case.code[Case::places(thread)][issued.min(count)..count]
+    }
+}

@@ -1,0 +1,143 @@
+//! Single fields of a case changed in memory between reading and writing.
+
+use super::sketch::{Fill, Sketch};
+use super::valid::ROW;
+use crate::judge::form::fits;
+use crate::judge::reading::read;
+use crate::streams::cases::answer::answer;
+use crate::streams::cases::frame::{slot, Frame, FIELDS_END};
+use crate::streams::random::Random;
+
+/// Every field, each with telling values.
+pub fn all(random: &mut Random) -> Vec<Frame> {
+    let mut frames = Vec::new();
+    for field in 1..FIELDS_END {
+        for turn in 0..8 {
+            let file = base(random);
+            let value = value(random, &file, field, turn);
+            frames.push(frame(random, file, field, value));
+        }
+    }
+    for value in [0, 1, 255, 65536, u32::MAX] {
+        for field in [0, FIELDS_END, FIELDS_END + 1, 1000, 65535, u32::MAX] {
+            let file = base(random);
+            frames.push(frame(random, file, field, value));
+        }
+    }
+    frames
+}
+
+pub fn some(random: &mut Random) -> Vec<Frame> {
+    (0..80)
+        .map(|_| {
+            let file = base(random);
+            // The many steps must not crowd out the other fields.
+            let end = random.pick(&[15, 164, 200, FIELDS_END as usize]);
+            let field = 1 + random.below(end - 1) as u32;
+            let turn = random.below(8);
+            let value = value(random, &file, field, turn);
+            frame(random, file, field, value)
+        })
+        .collect()
+}
+
+/// Changes that leave a readable case, and another one; the filter only chooses what to ask.
+pub fn readable(random: &mut Random) -> Vec<Frame> {
+    let mut frames = Vec::new();
+    while frames.len() < 400 {
+        let file = base(random);
+        let (first, end) = random.pick(&[(1, 15), (15, 143), (143, 163), (163, FIELDS_END)]);
+        let field = first + random.below((end - first) as usize) as u32;
+        let turn = 1 + random.below(7);
+        let value = value(random, &file, field, turn);
+        let frame = frame(random, file, field, value);
+        let answer = answer(&frame);
+        if fits(&answer.changed) && answer.changed != answer.reading.case {
+            frames.push(frame);
+        }
+    }
+    frames
+}
+
+/// Counts at their ends, junk behind them, wants with and without flag.
+pub fn telling(random: &mut Random) -> Vec<Frame> {
+    let mut frames = Vec::new();
+    let mut try_all = |field: u32, values: &[u32]| {
+        for &value in values {
+            for file in [
+                ROW.to_vec(),
+                base(random),
+                Sketch::any(random).bytes(),
+                Vec::new(),
+            ] {
+                frames.push(frame(random, file, field, value));
+            }
+        }
+    };
+    try_all(1, &[0, 1, 2, 3, 4, 5, 255, 256, 257, 260, 261]);
+    try_all(2, &[0, 1, 2, 7, 8, 9, 255, 256, 257, 264, 265]);
+    for thread in 0..4 {
+        try_all(11 + thread, &[0, 1, 2, 7, 8, 9, 255, 256, 258]);
+        try_all(159 + thread, &[0, 1, 2, 3, 8, 9, 255, 256, 257]);
+    }
+    try_all(163, &[0, 1, 2, 95, 96, 97, 255, 256, 65535, 65536, 65632]);
+    for location in 0..8 {
+        try_all(3 + location, &[0, 1, 256, 65536, 1 << 31]);
+        try_all(143 + location, &[0, 1, 2, 256, 65536, 1 << 31]);
+        try_all(151 + location, &[0, 1, 256, 65536, 1 << 31]);
+    }
+    frames
+}
+
+/// The file that is read before the change: small and large, accepted and refused.
+fn base(random: &mut Random) -> Vec<u8> {
+    match random.below(16) {
+        0 => Vec::new(),
+        1 => ROW.to_vec(),
+        2 => Sketch::longest(random).bytes(),
+        3..=5 => Sketch::lively(random).bytes(),
+        6..=9 => Sketch::any(random).bytes(),
+        _ => {
+            let fill = Fill {
+                instructions: (4, 8),
+                steps: (0, 40),
+                eighths: 4,
+            };
+            let (threads, locations) = (random.between(3, 4), random.between(4, 8));
+            Sketch::new(random, threads, locations, &fill).bytes()
+        }
+    }
+}
+
+/// By turn: what the field holds, the same after truncation, neighbours, ends, anything.
+fn value(random: &mut Random, file: &[u8], field: u32, turn: usize) -> u32 {
+    let mut case = read(file).case;
+    let held = slot(&mut case, field).map_or(0, |slot| slot.get());
+    match turn {
+        0 => held,
+        1 => held.wrapping_add(random.pick(&[256, 65536, 1 << 24])),
+        2 => held.wrapping_add(1),
+        3 => held.wrapping_sub(1),
+        4 => 0,
+        5 => random.below(10) as u32,
+        6 => random.pick(&[4, 5, 8, 9, 96, 97, 255, 65535, u32::MAX]),
+        _ => random.word(),
+    }
+}
+
+/// Mostly room for the changed case, which may have one record more.
+fn frame(random: &mut Random, input: Vec<u8>, field: u32, value: u32) -> Frame {
+    let length = input.len().max(8) as u32;
+    let room = match random.below(8) {
+        0 => length - 1,
+        1 => length,
+        2 => random.below(8) as u32,
+        _ => length + 12,
+    };
+    Frame {
+        input,
+        field,
+        value,
+        room,
+    }
+}

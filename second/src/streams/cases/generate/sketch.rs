@@ -1,0 +1,151 @@
+//! A valid file as its records, kind by kind.
+
+use super::records::*;
+use crate::streams::random::Random;
+
+pub struct Sketch {
+    pub threads: u8,
+    pub locations: u8,
+    pub counts: [u8; 4],
+    /// Records of kind k at k - 1.
+    pub sections: [Vec<Record>; 6],
+}
+
+/// How much of each kind: least and most instructions of a thread, steps, and how many
+/// eighths of the locations and threads have a record of kinds 2, 4 and 5.
+pub struct Fill {
+    pub instructions: (u8, u8),
+    pub steps: (u8, u8),
+    pub eighths: u8,
+}
+
+impl Sketch {
+    pub fn new(random: &mut Random, threads: u8, locations: u8, fill: &Fill) -> Sketch {
+        let mut sketch = Sketch {
+            threads,
+            locations,
+            counts: [0; 4],
+            sections: Default::default(),
+        };
+        sketch.sections[0].push(program(threads, locations));
+        for thread in 0..threads {
+            let count = random.between(fill.instructions.0, fill.instructions.1);
+            sketch.fill_thread(random, thread, count);
+        }
+        sketch.fill_questions(random, fill.eighths);
+        for _ in 0..random.between(fill.steps.0, fill.steps.1) {
+            let step = random_step(random, threads, locations);
+            sketch.sections[5].push(step);
+        }
+        sketch
+    }
+
+    pub fn fill_thread(&mut self, random: &mut Random, thread: u8, count: u8) {
+        self.counts[usize::from(thread)] = count;
+        for _ in 0..count {
+            let instruction = random_instruction(random, thread, self.locations);
+            self.sections[2].push(instruction);
+        }
+    }
+
+    fn fill_questions(&mut self, random: &mut Random, eighths: u8) {
+        for location in 0..self.locations {
+            if random.between(0, 7) < eighths {
+                self.sections[1].push(placed_word(2, location, random.nonzero_word()));
+            }
+            if random.between(0, 7) < eighths {
+                self.sections[3].push(placed_word(4, location, random.word()));
+            }
+        }
+        for thread in 0..self.threads {
+            let most = self.counts[usize::from(thread)];
+            if most > 0 && random.between(0, 7) < eighths {
+                let least = random.between(1, most);
+                self.sections[4].push(Record::new(5, &[thread, least]));
+            }
+        }
+    }
+
+    /// Any size from 8 bytes up, large and small ones alike often.
+    pub fn any(random: &mut Random) -> Sketch {
+        let (threads, locations) = (random.between(1, 4), random.between(1, 8));
+        let most = random.pick(&[0, 1, 2, 4, 8]);
+        let fill = Fill {
+            instructions: (random.between(0, most), most),
+            steps: random.pick(&[(0, 0), (0, 4), (0, 4), (5, 20), (20, 96), (96, 96)]),
+            eighths: random.pick(&[0, 2, 4, 6, 8]),
+        };
+        Sketch::new(random, threads, locations, &fill)
+    }
+
+    /// A small one with a record of every kind, so that a fault of any sort finds its place.
+    pub fn lively(random: &mut Random) -> Sketch {
+        let fill = Fill {
+            instructions: (1, 3),
+            steps: (1, 5),
+            eighths: 4,
+        };
+        loop {
+            let (threads, locations) = (random.between(2, 4), random.between(2, 8));
+            let sketch = Sketch::new(random, threads, locations, &fill);
+            if sketch.sections.iter().all(|section| !section.is_empty()) {
+                return sketch;
+            }
+        }
+    }
+
+    /// 1,328 bytes.
+    pub fn longest(random: &mut Random) -> Sketch {
+        let fill = Fill {
+            instructions: (8, 8),
+            steps: (96, 96),
+            eighths: 8,
+        };
+        Sketch::new(random, 4, 8, &fill)
+    }
+
+    pub fn records(&self) -> Vec<Record> {
+        self.sections.concat()
+    }
+
+    pub fn bytes(&self) -> Vec<u8> {
+        join(&self.records())
+    }
+
+    /// All records of lower kinds, and the first few of this kind.
+    pub fn before(&self, kind: u16, few: usize) -> Vec<Record> {
+        let kinds = usize::from(kind) - 1;
+        let mut records = self.sections[..kinds].concat();
+        records.extend_from_slice(&self.sections[kinds][..few]);
+        records
+    }
+
+    /// A record of the kind with every field in range; its order is the caller's matter.
+    pub fn record(&self, random: &mut Random, kind: u16) -> Record {
+        match kind {
+            1 => program(self.threads, self.locations),
+            2 | 4 => {
+                let location = random.between(0, self.locations - 1);
+                self.record_at(random, kind, location)
+            }
+            3 | 5 => {
+                let thread = random.between(0, self.threads - 1);
+                self.record_at(random, kind, thread)
+            }
+            _ => random_step(random, self.threads, self.locations),
+        }
+    }
+
+    /// A record of kinds 2 to 5 for that thread or location.
+    pub fn record_at(&self, random: &mut Random, kind: u16, at: u8) -> Record {
+        match kind {
+            2 => placed_word(2, at, random.nonzero_word()),
+            3 => random_instruction(random, at, self.locations),
+            4 => placed_word(4, at, random.word()),
+            _ => {
+                let most = self.counts[usize::from(at)];
+                Record::new(5, &[at, random.between(1, most)])
+            }
+        }
+    }
+}

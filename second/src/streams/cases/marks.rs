@@ -1,0 +1,84 @@
+//! Frames whose answer is known by construction bear a mark in their field number, which lies
+//! beyond all fields and so changes nothing; the value holds the expected number and offset.
+
+use super::frame::Frame;
+
+const FIRST_MARK: u32 = 65536;
+
+/// A family of marked frames: its name and the least number of its frames.
+pub struct Family {
+    pub name: &'static str,
+    pub least: u64,
+}
+
+const fn family(name: &'static str, least: u64) -> Family {
+    Family { name, least }
+}
+
+/// The number in a name is the expected one; of two it is the first.
+pub const FAMILIES: [Family; 33] = [
+    family("fault 1 (head)", 100),
+    family("fault 1 (payload)", 100),
+    family("fault 2", 100),
+    family("fault 3", 100),
+    family("fault 4", 100),
+    family("fault 5", 100),
+    family("fault 6", 100),
+    family("fault 7", 100),
+    family("fault 8", 100),
+    family("fault 9", 100),
+    family("faults 2+3", 100),
+    family("faults 2+1 (payload)", 100),
+    family("faults 2+4", 100),
+    family("faults 3+1 (payload)", 100),
+    family("faults 3+4", 100),
+    family("faults 1 (payload)+4", 100),
+    family("faults 1 (payload)+5", 100),
+    family("faults 4+5", 100),
+    family("faults 4+8", 100),
+    family("faults 4+7", 100),
+    family("faults 5+8", 100),
+    family("faults 5+6", 100),
+    family("faults 8+6", 100),
+    family("faults 6+7", 100),
+    family("faults 5+7", 100),
+    family("faults 8+7", 100),
+    family("faults 5+9", 100),
+    family("faults 8+9", 100),
+    family("valid file", 100),
+    family("boundary accepted", 100),
+    family("boundary refused", 100),
+    family("fault behind 1,328 valid bytes", 100),
+    family("any bytes behind a valid file", 100),
+];
+
+/// What a marked frame must be answered.
+pub struct Mark {
+    pub family: usize,
+    pub number: u8,
+    pub offset: usize,
+}
+
+pub fn family_of(name: &str) -> usize {
+    let found = FAMILIES.iter().position(|family| family.name == name);
+    found.expect("a family is named as in the table")
+}
+
+pub fn marked(name: &str, number: u8, offset: usize, input: Vec<u8>, room: u32) -> Frame {
+    Frame {
+        input,
+        field: FIRST_MARK + family_of(name) as u32,
+        value: u32::from(number) + 256 * offset as u32,
+        room,
+    }
+}
+
+pub fn mark_of(frame: &Frame) -> Option<Mark> {
+    let family = frame.field.checked_sub(FIRST_MARK)? as usize;
+    FAMILIES.get(family)?;
+    Some(Mark {
+        family,
+        number: (frame.value % 256) as u8,
+        offset: (frame.value / 256) as usize,
+    })
+}

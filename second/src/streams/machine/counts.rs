@@ -1,0 +1,201 @@
+//! What a stream of the machine's frames holds, and whether that is enough.
+
+use super::answer::{answer, Answer};
+use super::frame::{Job, Trial};
+use super::marks::{mark_of, FAMILIES};
+use super::raw;
+use super::sorts::SORTS;
+use crate::judge::case::MOST_STEPS;
+use crate::judge::form;
+use crate::judge::machine::fit::CLAUSES;
+use crate::judge::machine::judge::LEGAL;
+use crate::streams::cases::frame::FIELDS_END;
+use crate::streams::tally::{row, Counts, Row};
+
+/// Every number that is answered, and the least number of frames in which it is.
+const NUMBERS: [(u8, u64); 21] = [
+    (LEGAL, 4000),
+    (1, 100),
+    (2, 100),
+    (3, 50),
+    (4, 100),
+    (5, 300),
+    (6, 50),
+    (7, 20),
+    (8, 300),
+    (9, 20),
+    (21, 450),
+    (22, 450),
+    (23, 450),
+    (24, 450),
+    (25, 450),
+    (26, 450),
+    (27, 450),
+    (28, 450),
+    (29, 450),
+    (32, 1000),
+    (33, 1200),
+];
+
+const RULES: std::ops::RangeInclusive<u8> = 21..=29;
+
+pub struct TrialCounts {
+    frames: u64,
+    /// By number: all frames, runs, and single steps.
+    numbers: [[u64; 3]; 256],
+    clauses: [u64; CLAUSES.len()],
+    sorts: [u64; SORTS.len()],
+    families: [u64; FAMILIES.len()],
+    /// Lengths of legal runs, and indexes of illegal steps.
+    lengths: [bool; MOST_STEPS + 1],
+    indexes: [bool; MOST_STEPS],
+    faults: Vec<String>,
+}
+
+impl TrialCounts {
+    pub fn new() -> TrialCounts {
+        TrialCounts {
+            frames: 0,
+            numbers: [[0; 3]; 256],
+            clauses: [0; CLAUSES.len()],
+            sorts: [0; SORTS.len()],
+            families: [0; FAMILIES.len()],
+            lengths: [false; MOST_STEPS + 1],
+            indexes: [false; MOST_STEPS],
+            faults: Vec::new(),
+        }
+    }
+
+    fn take_number(&mut self, trial: &Trial, answer: &Answer) {
+        let (number, place) = (answer.verdict.number, answer.verdict.place);
+        let counts = &mut self.numbers[usize::from(number)];
+        counts[0] += 1;
+        if answer.given.is_some() {
+            counts[2] += 1;
+            return;
+        }
+        if trial.job == Job::Start {
+            return;
+        }
+        counts[1] += 1;
+        if number == LEGAL {
+            self.lengths[place] = true;
+        } else if RULES.contains(&number) {
+            self.indexes[place] = true;
+        }
+    }
+
+    /// The states that are refused by one clause alone.
+    fn take_clause(&mut self, answer: &Answer) {
+        if let Some(state) = answer.given.as_ref().filter(|_| form::fits(&answer.case)) {
+            let broken = |&clause: &usize| (CLAUSES[clause].broken)(&answer.case, state);
+            let all: Vec<usize> = (0..CLAUSES.len()).filter(broken).collect();
+            if let [one] = all[..] {
+                self.clauses[one] += 1;
+            }
+        }
+    }
+
+    /// A marked frame has one right answer, or must fit. A refusal leaves the state as it was; a
+    /// legal step uses up one of the work left, and a legal run its length; a start has it all.
+    fn check(&mut self, trial: &Trial, answer: &Answer) {
+        let (frame, verdict) = (self.frames, &answer.verdict);
+        let legal = verdict.number == LEGAL;
+        if let Some(mark) = mark_of(trial) {
+            self.families[mark.family] += 1;
+            if !mark.is_met(verdict.number, verdict.place) {
+                let name = FAMILIES[mark.family].name;
+                let got = (verdict.number, verdict.place);
+                let right = (mark.number, mark.place);
+                let fault = format!("frame {frame}, {name}: {got:?} instead of {right:?}");
+                self.faults.push(fault);
+            }
+        }
+        if let Some(given) = &answer.given {
+            if legal == (*given == verdict.state) {
+                self.faults.push(format!("frame {frame}: the state"));
+            }
+        }
+        if legal {
+            let after = crate::judge::machine::work::work_left(&answer.case, &verdict.state);
+            let before = match trial.job {
+                Job::Step(..) => answer.work.map(|work| work - 1),
+                _ => answer.full.map(|full| full - verdict.place as u32),
+            };
+            if after != before {
+                self.faults.push(format!("frame {frame}: the work left"));
+            }
+        }
+        if trial.job == Job::Start && !is_start(answer) {
+            self.faults.push(format!("frame {frame}: the start"));
+        }
+        if trial.job == Job::Bytes && answer.work.is_err() {
+            self.faults
+                .push(format!("frame {frame}: no work for a case as read"));
+        }
+    }
+}
+
+impl Counts<Trial> for TrialCounts {
+    fn take(&mut self, trial: &Trial) {
+        let answer = answer(trial);
+        self.frames += 1;
+        self.take_number(trial, &answer);
+        self.take_clause(&answer);
+        for (sort, count) in SORTS.iter().zip(&mut self.sorts) {
+            *count += u64::from((sort.told)(trial, &answer));
+        }
+        self.check(trial, &answer);
+    }
+
+    fn rows(&self) -> Vec<Row> {
+        let mut rows = Vec::new();
+        for (number, least) in NUMBERS {
+            let count = self.numbers[usize::from(number)][0];
+            rows.push(row(&format!("answered: {number}"), count, least));
+        }
+        for rule in RULES {
+            let [_, runs, steps] = self.numbers[usize::from(rule)];
+            rows.push(row(&format!("run ended by {rule}"), runs, 300));
+            rows.push(row(&format!("single step refused by {rule}"), steps, 150));
+        }
+        for (clause, &count) in CLAUSES.iter().zip(&self.clauses) {
+            rows.push(row(&format!("33: {}", clause.name), count, 100));
+        }
+        for (sort, &count) in SORTS.iter().zip(&self.sorts) {
+            rows.push(row(sort.name, count, sort.least));
+        }
+        for (family, &count) in FAMILIES.iter().zip(&self.families) {
+            rows.push(row(family.name, count, family.least));
+        }
+        let seen = |all: &[bool]| all.iter().filter(|&&one| one).count() as u64;
+        let (lengths, indexes) = (seen(&self.lengths), seen(&self.indexes));
+        rows.push(row("legal lengths 0 to 96 seen", lengths, 97));
+        rows.push(row("illegal indexes 0 to 95 seen", indexes, 90));
+        rows
+    }
+
+    fn frames(&self) -> u64 {
+        self.frames
+    }
+
+    fn wrong(&self) -> Vec<String> {
+        self.faults.clone()
+    }
+}
+
+/// The first contents of the case, none where 32 stops it, and nothing else.
+fn is_start(answer: &Answer) -> bool {
+    let first = match answer.verdict.number {
+        LEGAL => answer.case.first,
+        _ => [0; 8],
+    };
+    let words: Vec<u8> = first.iter().flat_map(|word| word.to_le_bytes()).collect();
+    let bytes = raw::encode(&answer.verdict.state);
+    bytes[..32] == words[..] && bytes[32..].iter().all(|&byte| byte == 0)
+}
+
+/// Whether the frame changes a field of its case.
+pub fn changes(trial: &Trial) -> bool {
+    trial.job != Job::Bytes && (1..FIELDS_END).contains(&trial.field)
+}

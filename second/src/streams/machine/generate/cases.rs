@@ -1,0 +1,170 @@
+//! Bytes that are refused, and cases changed in memory.
+
+use super::programs::*;
+use super::runs::{any_step, walk};
+use super::scene::{Need, Scene, ANY};
+use super::{scripts, steps};
+use crate::judge::case::Case;
+use crate::judge::machine::judge::LEGAL;
+use crate::judge::reading::read;
+use crate::judge::writing::encode;
+use crate::streams::cases::frame::{slot, FIELDS_END};
+use crate::streams::cases::generate::faults;
+use crate::streams::cases::generate::records::random_step;
+use crate::streams::cases::generate::sketch::Sketch;
+use crate::streams::cases::marks::mark_of;
+use crate::streams::machine::frame::{Job, Trial, MOST_INPUT};
+use crate::streams::machine::marks::{marked, FITS};
+use crate::streams::random::Random;
+
+/// Each refusal by construction, in all jobs: where reading is refused, jobs 1 and 2 have the
+/// empty case.
+pub fn refused(random: &mut Random) -> Vec<Trial> {
+    let mut trials = Vec::new();
+    while trials.len() < 1400 {
+        for frame in faults::some(random) {
+            let mark = mark_of(&frame).filter(|_| frame.input.len() <= MOST_INPUT as usize);
+            if let Some(mark) = mark {
+                trials.push(match random.below(8) {
+                    0 => marked("legal: empty case", LEGAL, 0, frame.input, Job::Case),
+                    1 => step_without_case(random, frame.input),
+                    _ => {
+                        let (number, offset) = (mark.number, mark.offset);
+                        marked("reading refused", number, offset, frame.input, Job::Bytes)
+                    }
+                });
+            }
+        }
+    }
+    trials
+}
+
+/// The longest files, alone and with more behind them up to the longest input; and no bytes.
+pub fn longest(random: &mut Random) -> Vec<Trial> {
+    let mut trials = Vec::new();
+    for _ in 0..30 {
+        let file = longest_file(random);
+        let step = encode_steps(random);
+        let more = MOST_INPUT as usize - file.len();
+        let length = random.pick(&[8, 100, more, more]);
+        let tails: [(u8, Vec<u8>); 3] = [
+            (1, step[..1 + random.below(7)].to_vec()),
+            (2, vec![0; length]),
+            (9, step[..8 * (length / 8)].to_vec()),
+        ];
+        for (number, tail) in tails {
+            let input = [file.clone(), tail].concat();
+            trials.push(marked("reading refused", number, 1328, input, Job::Bytes));
+        }
+        trials.push(marked("legal run", LEGAL, 96, file.clone(), Job::Bytes));
+        trials.push(marked("legal run", LEGAL, 96, file, Job::Case));
+    }
+    for _ in 0..10 {
+        trials.push(marked("reading refused", 1, 0, Vec::new(), Job::Bytes));
+        trials.push(marked("legal: empty case", LEGAL, 0, Vec::new(), Job::Case));
+        trials.push(step_without_case(random, Vec::new()));
+    }
+    trials
+}
+
+/// 1,328 bytes, with a legal run of 96 steps.
+fn longest_file(random: &mut Random) -> Vec<u8> {
+    let mut case = program(random, 8, &[8; 4], &LONG);
+    for location in 0..8 {
+        case.first[location] = word(random).max(1);
+        case.wanted[location] = true;
+        case.want[location] = word(random);
+    }
+    case.passed = [random.between(1, 8); 4];
+    let (steps, _) = walk(random, &case, 96);
+    case.set_run(&steps);
+    encode(&case)
+}
+
+/// Step records in range, as many as an input may have.
+fn encode_steps(random: &mut Random) -> Vec<u8> {
+    let records = (0..MOST_INPUT / 8).flat_map(|_| random_step(random, 4, 8).bytes());
+    records.collect()
+}
+
+fn step_without_case(random: &mut Random, refused: Vec<u8>) -> Trial {
+    let need = Need {
+        threads: (1, 1),
+        locations: (1, 1),
+        unissued: (0, 0),
+        ..ANY
+    };
+    let mut scene = Scene::new(random, &need);
+    scene.case = Case::empty();
+    scene.state.issued = [0; 4];
+    let step = any_step(random, &scene.case);
+    let mut trial = scene.trial(random, "step: reading refused", FITS, step);
+    trial.input = refused;
+    trial
+}
+
+pub fn changed(random: &mut Random) -> Vec<Trial> {
+    (0..60).flat_map(|_| some(random)).collect()
+}
+
+/// A field of a case with a run or of a single step's case changed; files damaged; files with
+/// steps at random.
+pub fn some(random: &mut Random) -> Vec<Trial> {
+    let mut trials: Vec<Trial> = (0..12).map(|_| run_to_change(random)).collect();
+    trials.extend(scripts::some(random).into_iter().take(6));
+    trials.extend(steps::some(random).into_iter().take(8));
+    for trial in &mut trials {
+        if trial.job == Job::Bytes {
+            trial.job = Job::Case;
+        }
+        change(random, trial);
+    }
+    trials.extend((0..6).map(|_| damaged(random)));
+    trials
+}
+
+pub fn run_to_change(random: &mut Random) -> Trial {
+    let mut case = any(random);
+    dress(random, &mut case);
+    let length = random.below(97);
+    let (steps, _) = walk(random, &case, length);
+    case.set_run(&steps);
+    Trial {
+        job: Job::Case,
+        input: encode(&case),
+        field: 0,
+        value: 0,
+    }
+}
+
+/// The many steps must not crowd out the other fields.
+pub fn change(random: &mut Random, trial: &mut Trial) {
+    let (first, end) = random.pick(&[(0, 15), (15, 143), (15, 143), (143, 164), (164, FIELDS_END)]);
+    change_in(random, trial, first, end);
+}
+
+/// One of the fields from the first on, the end left out.
+pub fn change_in(random: &mut Random, trial: &mut Trial, first: u32, end: u32) {
+    trial.field = first + random.below((end - first) as usize) as u32;
+    let held = slot(&mut read(&trial.input).case, trial.field).map_or(0, |slot| slot.get());
+    let any = word(random);
+    let small = u32::from(random.between(0, 9));
+    let (more, less) = (held.wrapping_add(1), held.wrapping_sub(1));
+    let same = held.wrapping_add(1 << 24);
+    trial.value = random.pick(&[held, same, more, more, less, less, 0, small, small, any]);
+}
+
+/// A byte of a run's file changed, its end lost, or steps at random.
+fn damaged(random: &mut Random) -> Trial {
+    let mut trial = run_to_change(random);
+    trial.job = Job::Bytes;
+    match random.below(4) {
+        0 => trial.input = Sketch::any(random).bytes(),
+        1 => trial.input.truncate(random.below(trial.input.len())),
+        _ => {
+            let at = random.below(trial.input.len());
+            trial.input[at] ^= 1 << random.below(8);
+        }
+    }
+    trial
+}

@@ -1,0 +1,131 @@
+//! Moves on states in memory that fit, by construction.
+
+use super::programs::word;
+use super::scene::*;
+use crate::judge::case::Step;
+use crate::judge::machine::state::Entry;
+use crate::judge::machine::steps::shift;
+use crate::streams::random::Random;
+
+fn move_by(scene: Scene, position: usize) -> (Scene, Step) {
+    let step = shift(scene.thread as u8, position as u8);
+    (scene, step)
+}
+
+pub fn beyond_the_last(random: &mut Random) -> (Scene, Step) {
+    let need = Need {
+        waiting: (0, 7),
+        ..ANY
+    };
+    let mut scene = Scene::new(random, &need);
+    let waiting = scene.entries().len() as u8;
+    let position = random.between(waiting, 7);
+    let position = random.pick(&[waiting, position]);
+    move_by(scene, position.into())
+}
+
+/// What is no flush-opt, behind position 0: 1 store, 2 flush, 7 sfence; 3 store, 4 flush behind
+/// a store of its location; 5 a flush of a filled queue; 6 an sfence while a marker is left.
+pub fn behind(random: &mut Random, sorts: &[u8]) -> (Scene, Step) {
+    let sort = random.pick(sorts);
+    let need = Need {
+        waiting: (2, 8),
+        length: (u8::from(sort == 5 || sort == 6), 32),
+        ..ANY
+    };
+    let mut scene = Scene::new(random, &need);
+    let location = scene.at as u8;
+    let word = word(random);
+    let store = Entry::Store { location, word };
+    if sort == 6 {
+        scene.plant(random);
+    }
+    let entries = scene.entries();
+    let position = 1 + random.below(entries.len() - 1);
+    if sort == 3 || sort == 4 {
+        entries[random.below(position)] = store;
+    }
+    entries[position] = match sort {
+        1 | 3 => store,
+        2 | 4 | 5 => Entry::Flush(location),
+        _ => Entry::Sfence,
+    };
+    move_by(scene, position)
+}
+
+pub fn barred(random: &mut Random) -> (Scene, Step) {
+    let need = Need {
+        waiting: (2, 8),
+        ..ANY
+    };
+    let mut scene = Scene::new(random, &need);
+    let location = scene.at as u8;
+    let word = word(random);
+    let entries = scene.entries();
+    let position = 1 + random.below(entries.len() - 1);
+    entries[position] = Entry::FlushOpt(location);
+    entries[random.below(position)] = random.pick(&[
+        Entry::Store { location, word },
+        Entry::Flush(location),
+        Entry::Sfence,
+    ]);
+    move_by(scene, position)
+}
+
+/// Nothing before the flush-opt bars it: other locations, and flush-opts of its own.
+pub fn passing(random: &mut Random) -> (Scene, Step) {
+    let need = Need {
+        waiting: (2, 8),
+        locations: (2, 8),
+        ..ANY
+    };
+    let mut scene = Scene::new(random, &need);
+    let own = scene.at as u8;
+    let others = scene.case.locations - 1;
+    let entries = scene.entries();
+    let position = 1 + random.below(entries.len() - 1);
+    for entry in &mut entries[..position] {
+        let location = (own + random.between(1, others)) % (others + 1);
+        let word = word(random);
+        *entry = random.pick(&[
+            Entry::Store { location, word },
+            Entry::Flush(location),
+            Entry::FlushOpt(location),
+            Entry::FlushOpt(own),
+        ]);
+    }
+    entries[position] = Entry::FlushOpt(own);
+    move_by(scene, position)
+}
+
+/// The first entry is of the scene's location, whose queue is empty (0), filled (1), or any (2).
+pub fn first(random: &mut Random, entry: fn(u8) -> Entry, filled: u8) -> (Scene, Step) {
+    let need = Need {
+        waiting: (1, 8),
+        length: [(0, 0), (1, 32), (0, 32)][usize::from(filled)],
+        ..ANY
+    };
+    let mut scene = Scene::new(random, &need);
+    let location = scene.at as u8;
+    scene.entries()[0] = entry(location);
+    move_by(scene, 0)
+}
+
+pub fn first_store(random: &mut Random) -> (Scene, Step) {
+    first(random, |location| Entry::Store { location, word: 77 }, 2)
+}
+
+pub fn first_sfence(random: &mut Random, marker: bool) -> (Scene, Step) {
+    let need = Need {
+        waiting: (1, 8),
+        length: (u8::from(marker), 32),
+        ..ANY
+    };
+    let mut scene = Scene::new(random, &need);
+    scene.entries()[0] = Entry::Sfence;
+    scene.strip();
+    if marker {
+        scene.plant(random);
+    }
+    move_by(scene, 0)
+}

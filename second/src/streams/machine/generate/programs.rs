@@ -1,0 +1,115 @@
+//! Random programs, as cases in memory.
+
+use crate::judge::case::{Case, Instruction};
+use crate::judge::machine::work::full_length;
+use crate::streams::cases::generate::records::OPERATION_USES;
+use crate::streams::random::Random;
+
+pub const EVERY: [u8; 8] = [1, 2, 3, 4, 5, 6, 7, 8];
+/// What waits in a store buffer.
+pub const WAITING: [u8; 5] = [1, 2, 5, 6, 7];
+/// Three steps each.
+pub const LONG: [u8; 3] = [1, 2, 6];
+/// Mostly three steps each.
+const LONGISH: [u8; 12] = [1, 1, 1, 2, 2, 6, 6, 6, 4, 5, 7, 3];
+/// Markers and what they stop.
+pub const FENCED: [u8; 9] = [6, 6, 6, 7, 8, 4, 5, 1, 5];
+
+pub fn word(random: &mut Random) -> u32 {
+    let any = random.below(1 << 32) as u32;
+    let telling = random.word();
+    random.pick(&[any, any, any, telling])
+}
+
+/// Of that operation; in range.
+pub fn instruction(random: &mut Random, operation: u8, locations: u8) -> Instruction {
+    let [location, register, with_word] = OPERATION_USES[usize::from(operation) - 1];
+    let mut made = Instruction {
+        operation,
+        ..Instruction::default()
+    };
+    if location {
+        made.location = random.between(0, locations - 1);
+    }
+    if register {
+        made.register = random.between(0, 3);
+    }
+    if with_word {
+        made.word = word(random);
+    }
+    made
+}
+
+/// Of that operation and, where it has one, that location.
+pub fn instruction_at(random: &mut Random, operation: u8, location: u8) -> Instruction {
+    let mut made = instruction(random, operation, 1);
+    if OPERATION_USES[usize::from(operation) - 1][0] {
+        made.location = location;
+    }
+    made
+}
+
+/// Adds an instruction to a thread's program.
+pub fn add(case: &mut Case, thread: usize, instruction: Instruction) {
+    let count = usize::from(case.counts[thread]);
+    case.code[Case::places(thread)][count] = instruction;
+    case.counts[thread] += 1;
+}
+
+/// A program with so many instructions of each thread.
+pub fn program(random: &mut Random, locations: u8, counts: &[u8], operations: &[u8]) -> Case {
+    let mut case = Case::empty();
+    case.threads = counts.len() as u8;
+    case.locations = locations;
+    for (thread, &count) in counts.iter().enumerate() {
+        for _ in 0..count {
+            let operation = random.pick(operations);
+            let made = instruction(random, operation, locations);
+            add(&mut case, thread, made);
+        }
+    }
+    case
+}
+
+/// Any size; few locations often, so that threads meet.
+pub fn any(random: &mut Random) -> Case {
+    let few = random.between(1, 3);
+    let many = random.between(1, 8);
+    let locations = random.pick(&[few, few, many, 8]);
+    let (least, most) = random.pick(&[(8, 8), (8, 8), (4, 8), (0, 8), (1, 3)]);
+    let threads = random.pick(&[1, 2, 3, 4, 4]);
+    let counts: Vec<u8> = (0..threads).map(|_| random.between(least, most)).collect();
+    let operations: [&[u8]; 4] = [&EVERY, &LONG, &LONGISH, &FENCED];
+    let operations = random.pick(&operations);
+    program(random, locations, &counts, operations)
+}
+
+/// A program whose full length is at least so much.
+pub fn as_long_as(random: &mut Random, length: u32) -> Case {
+    for _ in 0..12 {
+        let case = any(random);
+        if full_length(&case).map_or(false, |full| full >= length) {
+            return case;
+        }
+    }
+    let locations = random.pick(&[1, 2, 8]);
+    program(random, locations, &[8; 4], &LONG)
+}
+
+/// First contents, and wants and passed counts, which the machine does not look at.
+pub fn dress(random: &mut Random, case: &mut Case) {
+    for location in 0..usize::from(case.locations) {
+        if random.one_in(2) {
+            case.first[location] = word(random);
+        }
+        if random.one_in(8) {
+            case.wanted[location] = true;
+            case.want[location] = word(random);
+        }
+    }
+    for thread in 0..usize::from(case.threads) {
+        if random.one_in(8) {
+            case.passed[thread] = random.between(0, case.counts[thread]);
+        }
+    }
+}

@@ -1,0 +1,253 @@
+//! States in memory that fit their case by construction, reachable or not.
+
+use super::programs::*;
+use super::runs::any_step;
+use crate::judge::case::{Case, Instruction, Step};
+use crate::judge::machine::state::{Entry, Held, State, QUEUE_ROOM};
+use crate::judge::writing::encode;
+use crate::streams::machine::frame::{Job, Trial};
+use crate::streams::machine::marks::marked;
+use crate::streams::machine::raw::{self, ENTRIES_AT, ENTRY_BYTES};
+use crate::streams::random::Random;
+
+/// Least and most of what a scene must have: entries waiting and instructions unissued of its
+/// thread, entries in its location's queue; and how much every queue stays below its limit.
+pub struct Need {
+    pub threads: (u8, u8),
+    pub locations: (u8, u8),
+    pub waiting: (u8, u8),
+    pub unissued: (u8, u8),
+    pub length: (u8, u8),
+    pub spare: u8,
+}
+
+pub const ANY: Need = Need {
+    threads: (1, 4),
+    locations: (1, 8),
+    waiting: (0, 8),
+    unissued: (0, 8),
+    length: (0, 32),
+    spare: 0,
+};
+
+pub struct Scene {
+    pub case: Case,
+    pub state: State,
+    pub thread: usize,
+    pub at: usize,
+}
+
+impl Scene {
+    pub fn new(random: &mut Random, need: &Need) -> Scene {
+        loop {
+            if let Some(scene) = Scene::try_new(random, need) {
+                return scene;
+            }
+        }
+    }
+
+    /// None where the sums leave no room for what the location's queue must have.
+    fn try_new(random: &mut Random, need: &Need) -> Option<Scene> {
+        let threads = usize::from(random.between(need.threads.0, need.threads.1));
+        let locations = random.between(need.locations.0, need.locations.1);
+        let (thread, at) = (random.below(threads), random.below(locations.into()));
+        let loads = draw_loads(random, need, threads, thread);
+        let to_come: u8 = loads.iter().map(|load| load.waiting + load.unissued).sum();
+        let free = (QUEUE_ROOM as u8).checked_sub(to_come + need.spare)?;
+        free.checked_sub(need.length.0)?;
+        let counts = loads.iter().map(|load| random.between(load.unissued, 8));
+        let counts: Vec<u8> = counts.collect();
+        let mut case = program(random, locations, &counts, &EVERY);
+        dress(random, &mut case);
+        let mut state = State::start(&case);
+        for (one, load) in loads.iter().enumerate() {
+            state.issued[one] = case.counts[one] - load.unissued;
+            state.buffers[one].count = load.waiting;
+        }
+        for queue in &mut state.queues[..usize::from(locations)] {
+            let some = random.between(0, free);
+            queue.count = random.pick(&[0, free, free.min(1), some]);
+        }
+        state.queues[at].count = random.between(need.length.0, need.length.1.min(free));
+        let mut scene = Scene {
+            case,
+            state,
+            thread,
+            at,
+        };
+        scene.fill(random);
+        Some(scene)
+    }
+
+    /// Words, registers, and what stands in the used places, all in range.
+    pub fn fill(&mut self, random: &mut Random) {
+        let (threads, locations) = (self.case.threads, self.case.locations);
+        for word in &mut self.state.words[..usize::from(locations)] {
+            *word = super::programs::word(random);
+        }
+        for register in self.state.registers[..usize::from(threads)]
+            .iter_mut()
+            .flatten()
+        {
+            *register = super::programs::word(random);
+        }
+        for queue in &mut self.state.queues {
+            for place in queue.places.iter_mut().take(queue.count.into()) {
+                *place = random_held(random, threads);
+            }
+        }
+        for buffer in &mut self.state.buffers {
+            for place in buffer.places.iter_mut().take(buffer.count.into()) {
+                *place = random_entry(random, locations);
+            }
+        }
+    }
+
+    /// The thread's unissued instructions, counted here so that the judge is not asked.
+    pub fn unissued(&self, thread: usize) -> u8 {
+        self.case.counts[thread].saturating_sub(self.state.issued[thread])
+    }
+
+    /// All entries in store buffers and all unissued instructions.
+    pub fn to_come(&self) -> u8 {
+        let threads = 0..usize::from(self.case.threads);
+        threads
+            .map(|thread| self.state.buffers[thread].count + self.unissued(thread))
+            .sum()
+    }
+
+    /// A marker of the scene's thread in the location's queue.
+    pub fn plant(&mut self, random: &mut Random) {
+        let queue = &mut self.state.queues[self.at];
+        let place = random.below(queue.count.into());
+        queue.places[place].mark = self.thread as u8 + 1;
+    }
+
+    /// No queue holds a marker of the scene's thread.
+    pub fn strip(&mut self) {
+        for held in self
+            .state
+            .queues
+            .iter_mut()
+            .flat_map(|queue| &mut queue.places)
+        {
+            if held.is_marker_of(self.thread) {
+                held.mark = 0;
+            }
+        }
+    }
+
+    /// The thread's next instruction.
+    pub fn set_next(&mut self, instruction: Instruction) {
+        let next = usize::from(self.state.issued[self.thread]);
+        self.case.code[Case::places(self.thread)][next] = instruction;
+    }
+
+    pub fn entries(&mut self) -> &mut [Entry] {
+        let buffer = &mut self.state.buffers[self.thread];
+        &mut buffer.places[..usize::from(buffer.count)]
+    }
+
+    /// The frame of the step; what the state does not use is junk in two frames of three.
+    pub fn trial(mut self, random: &mut Random, name: &str, number: u8, step: Step) -> Trial {
+        for place in 0..random.pick(&[0, 0, 1, 20]) {
+            self.case.steps[place] = any_step(random, &self.case);
+            self.case.count = place as u16 + 1;
+        }
+        let junk = !random.one_in(3);
+        if junk {
+            add_junk(random, &self.case, &mut self.state);
+        }
+        let mut state = raw::encode(&self.state);
+        if junk {
+            add_ignored(random, &mut state);
+        }
+        marked(name, number, 0, encode(&self.case), Job::Step(step, state))
+    }
+}
+
+/// What a thread has to come, eight at most.
+struct Load {
+    waiting: u8,
+    unissued: u8,
+}
+
+fn draw_loads(random: &mut Random, need: &Need, threads: usize, thread: usize) -> Vec<Load> {
+    let most = random.pick(&[1, 3, 8]);
+    (0..threads)
+        .map(|one| {
+            let (wait, left) = if one == thread {
+                (need.waiting, need.unissued)
+            } else {
+                ((0, most), (0, most))
+            };
+            let unissued = random.between(left.0, left.1.min(8 - wait.0));
+            Load {
+                waiting: random.between(wait.0, wait.1.min(8 - unissued)),
+                unissued,
+            }
+        })
+        .collect()
+}
+
+pub fn random_held(random: &mut Random, threads: u8) -> Held {
+    let mark = random.between(1, threads);
+    Held {
+        // A marker's word, 0 in a reachable state.
+        word: word(random),
+        mark: random.pick(&[0, 0, mark]),
+    }
+}
+
+pub fn random_entry(random: &mut Random, locations: u8) -> Entry {
+    let location = random.between(0, locations - 1);
+    let word = word(random);
+    random.pick(&[
+        Entry::Store { location, word },
+        Entry::Flush(location),
+        Entry::FlushOpt(location),
+        Entry::Sfence,
+    ])
+}
+
+/// Junk behind the counts, and in words and registers that the program lacks.
+pub fn add_junk(random: &mut Random, case: &Case, state: &mut State) {
+    for word in &mut state.words[usize::from(case.locations)..] {
+        *word = super::programs::word(random);
+    }
+    for register in state.registers[usize::from(case.threads)..]
+        .iter_mut()
+        .flatten()
+    {
+        *register = super::programs::word(random);
+    }
+    for queue in &mut state.queues {
+        let used = queue.used().len();
+        for place in &mut queue.places[used..] {
+            place.word = super::programs::word(random);
+            place.mark = random.pick(&[0, 1, 2, 3, 4, 5, 255]);
+        }
+    }
+    for buffer in &mut state.buffers {
+        let used = buffer.used().len();
+        for place in &mut buffer.places[used..] {
+            *place = random_entry(random, 255);
+        }
+    }
+}
+
+/// Kinds above 3, and junk where an entry's kind has no location or no word.
+fn add_ignored(random: &mut Random, state: &mut [u8]) {
+    let entries = &mut state[ENTRIES_AT..ENTRIES_AT + 32 * ENTRY_BYTES];
+    for entry in entries.chunks_mut(ENTRY_BYTES) {
+        let kind = entry[0];
+        entry[0] += 4 * random.pick(&[0, 0, 1, 63]);
+        if kind == 3 {
+            entry[1] = random.between(0, 255);
+        }
+        if kind != 0 {
+            let junk = word(random);
+            entry[2..].copy_from_slice(&junk.to_le_bytes());
+        }
+    }
+}

@@ -1,0 +1,136 @@
+//! A run written out by hand, with the program that it needs: legal by construction, and the
+//! machine is not asked.
+
+use super::programs::*;
+use crate::judge::case::{Case, Instruction, Step, MOST_INSTRUCTIONS};
+use crate::judge::machine::steps::{issue, persist, shift};
+use crate::streams::random::Random;
+
+pub struct Script {
+    pub case: Case,
+    pub steps: Vec<Step>,
+    /// Two different threads and two different locations. Both threads' buffers and all
+    /// queues are empty when the script proper starts.
+    pub thread: u8,
+    pub other: u8,
+    pub at: u8,
+    pub elsewhere: u8,
+}
+
+impl Script {
+    pub fn new(random: &mut Random) -> Script {
+        let mut case = Case::empty();
+        case.threads = random.between(2, 4);
+        case.locations = random.between(2, 8);
+        let mut script = Script {
+            thread: random.between(0, case.threads - 1),
+            other: random.between(0, case.threads - 2),
+            at: random.between(0, case.locations - 1),
+            elsewhere: random.between(0, case.locations - 2),
+            case,
+            steps: Vec::new(),
+        };
+        script.other += u8::from(script.other >= script.thread);
+        script.elsewhere += u8::from(script.elsewhere >= script.at);
+        dress(random, &mut script.case);
+        for _ in 0..random.below(10) {
+            let thread = random.between(0, script.case.threads - 1);
+            script.at_once(random, thread, 3);
+        }
+        script.bystanders(random);
+        script
+    }
+
+    /// A next instruction of the thread, and all its steps: nothing of it is left anywhere.
+    pub fn at_once(&mut self, random: &mut Random, thread: u8, most: usize) {
+        if usize::from(self.case.counts[usize::from(thread)]) >= most {
+            return;
+        }
+        let operation = random.pick(&EVERY);
+        let made = instruction(random, operation, self.case.locations);
+        self.issue(thread, made);
+        if WAITING.contains(&operation) {
+            self.shift(thread, 0);
+        }
+        if [1, 2, 4, 6].contains(&operation) {
+            self.persist(made.location);
+        }
+    }
+
+    /// Threads that the script proper does not name leave some entries in their buffers.
+    fn bystanders(&mut self, random: &mut Random) {
+        for thread in 0..self.case.threads {
+            if thread != self.thread && thread != self.other {
+                for _ in 0..random.below(4) {
+                    let operation = random.pick(&[1, 2, 3, 5, 6, 7]);
+                    let made = instruction(random, operation, self.case.locations);
+                    self.issue(thread, made);
+                }
+            }
+        }
+    }
+
+    /// Gives the thread one more instruction and issues it.
+    pub fn issue(&mut self, thread: u8, instruction: Instruction) {
+        add(&mut self.case, usize::from(thread), instruction);
+        self.issue_again(thread);
+    }
+
+    /// Issues whatever is next; perhaps nothing is.
+    pub fn issue_again(&mut self, thread: u8) {
+        self.steps.push(issue(thread));
+    }
+
+    pub fn shift(&mut self, thread: u8, position: u8) {
+        self.steps.push(shift(thread, position));
+    }
+
+    pub fn persist(&mut self, location: u8) {
+        self.steps.push(persist(location));
+    }
+
+    /// One of the operations, at the script's location, issued by its thread.
+    pub fn own(&mut self, random: &mut Random, operations: &[u8]) {
+        let operation = random.pick(operations);
+        let made = instruction_at(random, operation, self.at);
+        self.issue(self.thread, made);
+    }
+
+    /// The same, at the other location.
+    pub fn own_elsewhere(&mut self, random: &mut Random, operations: &[u8]) {
+        let operation = random.pick(operations);
+        let made = instruction_at(random, operation, self.elsewhere);
+        self.issue(self.thread, made);
+    }
+
+    /// One of the operations, anywhere, issued by its thread.
+    pub fn own_anywhere(&mut self, random: &mut Random, operations: &[u8]) {
+        let operation = random.pick(operations);
+        let made = instruction(random, operation, self.case.locations);
+        self.issue(self.thread, made);
+    }
+
+    /// A write or a marker in the location's queue, from the thread's empty buffer.
+    pub fn queue(&mut self, random: &mut Random, thread: u8, location: u8, operations: &[u8]) {
+        let operation = random.pick(operations);
+        let made = instruction_at(random, operation, location);
+        self.issue(thread, made);
+        if operation != 4 {
+            self.shift(thread, 0);
+        }
+    }
+
+    /// Instructions that the run does not come to.
+    pub fn add_unissued(&mut self, random: &mut Random, spared: Option<u8>) {
+        for thread in 0..self.case.threads {
+            let most = MOST_INSTRUCTIONS - usize::from(self.case.counts[usize::from(thread)]);
+            if spared != Some(thread) {
+                for _ in 0..random.below(most + 1) {
+                    let operation = random.pick(&EVERY);
+                    let made = instruction(random, operation, self.case.locations);
+                    add(&mut self.case, usize::from(thread), made);
+                }
+            }
+        }
+    }
+}

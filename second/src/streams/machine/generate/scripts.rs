@@ -1,0 +1,197 @@
+//! Runs by construction: for each rule, for two rules where they meet, and legal ones that come
+//! near to a rule.
+
+use super::near::*;
+use super::programs::WAITING;
+use super::runs::{any_step, judged};
+use super::script::Script;
+use super::{by_chance, by_turns};
+use crate::judge::case::MOST_STEPS;
+use crate::judge::machine::judge::LEGAL;
+use crate::streams::machine::frame::Trial;
+use crate::streams::random::Random;
+
+type Maker = fn(&mut Random, &mut Script);
+
+/// Family, its maker, the number: a rule that the last step breaks, or 103.
+const MAKERS: [(&str, Maker, u8); 23] = [
+    ("script: 21", |_, s| s.issue_again(s.thread), 21),
+    ("script: 21, entries waiting", none_left_waiting, 21),
+    ("script: 22", fence_waiting, 22),
+    ("script: 22+23", fence_waiting_marked, 22),
+    ("script: 23", fence_marked, 23),
+    ("script: 24", beyond_the_last, 24),
+    ("script: 25", not_a_flush_opt, 25),
+    ("script: 25+26", not_a_flush_opt_same_location, 25),
+    ("script: 25+27", flush_behind, 25),
+    ("script: 25+28", sfence_behind, 25),
+    ("script: 26", barred, 26),
+    ("script: 27", flush_queue_filled, 27),
+    ("script: 28", sfence_marked, 28),
+    ("script: 29", persist_nothing, 29),
+    ("legal: each done at once", at_once, LEGAL),
+    ("legal: passes other locations", pass_others, LEGAL),
+    ("legal: passes a flush-opt", pass_flush_opts, LEGAL),
+    ("legal: flush, other queues", flush_others_filled, LEGAL),
+    ("legal: fence, other's marker", fence_others_marker, LEGAL),
+    ("legal: sfence, other's marker", sfence_others_marker, LEGAL),
+    ("legal: fence, marker gone", fence_marker_gone, LEGAL),
+    (
+        "legal: exchange, queue filled",
+        exchange_queue_filled,
+        LEGAL,
+    ),
+    (
+        "legal: sfence before flush-opt",
+        sfence_before_flush_opt,
+        LEGAL,
+    ),
+];
+
+pub fn all(random: &mut Random) -> Vec<Trial> {
+    by_turns(random, &MAKERS, 110, trial)
+}
+
+pub fn some(random: &mut Random) -> Vec<Trial> {
+    by_chance(random, &MAKERS, trial)
+}
+
+fn trial(random: &mut Random, (name, maker, number): &(&str, Maker, u8)) -> Trial {
+    let mut script = Script::new(random);
+    maker(random, &mut script);
+    let mut place = script.steps.len();
+    // Rule 21 needs a thread without instructions left.
+    let spared = if *number == 21 {
+        Some(script.thread)
+    } else {
+        None
+    };
+    script.add_unissued(random, spared);
+    if *number != LEGAL {
+        place -= 1;
+        let behind = random.below(MOST_STEPS - place);
+        for _ in 0..random.pick(&[0, behind.min(3), behind]) {
+            let step = any_step(random, &script.case);
+            script.steps.push(step);
+        }
+    }
+    script.case.set_run(&script.steps);
+    judged(random, name, *number, place, &script.case)
+}
+
+pub const FENCES: [u8; 2] = [4, 8];
+/// Store word, store register, flush-opt.
+const QUEUED: [u8; 3] = [1, 2, 6];
+
+fn none_left_waiting(random: &mut Random, s: &mut Script) {
+    for _ in 0..1 + random.below(4) {
+        s.own_anywhere(random, &WAITING);
+    }
+    s.issue_again(s.thread);
+}
+
+fn fence_waiting(random: &mut Random, s: &mut Script) {
+    for _ in 0..1 + random.below(3) {
+        s.own_anywhere(random, &WAITING);
+    }
+    s.own_anywhere(random, &FENCES);
+}
+
+fn fence_waiting_marked(random: &mut Random, s: &mut Script) {
+    s.queue(random, s.thread, s.at, &[6]);
+    fence_waiting(random, s);
+}
+
+fn fence_marked(random: &mut Random, s: &mut Script) {
+    surround(random, s);
+    s.queue(random, s.thread, s.at, &[6]);
+    surround(random, s);
+    s.own_anywhere(random, &FENCES);
+}
+
+/// Perhaps something of the other thread in the location's queue.
+pub fn surround(random: &mut Random, s: &mut Script) {
+    if random.one_in(2) {
+        s.queue(random, s.other, s.at, &QUEUED);
+    }
+}
+
+fn beyond_the_last(random: &mut Random, s: &mut Script) {
+    let waiting = random.between(0, 5);
+    for _ in 0..waiting {
+        s.own_anywhere(random, &WAITING);
+    }
+    let position = random.between(waiting, 7);
+    let position = random.pick(&[waiting, position]);
+    s.shift(s.thread, position);
+}
+
+fn not_a_flush_opt(random: &mut Random, s: &mut Script) {
+    let before = random.between(1, 4);
+    for _ in 0..before {
+        s.own_anywhere(random, &WAITING);
+    }
+    s.own_anywhere(random, &[1, 2, 5, 7]);
+    s.shift(s.thread, before);
+}
+
+/// Behind a store of its location: a flush-opt there would be barred.
+fn not_a_flush_opt_same_location(random: &mut Random, s: &mut Script) {
+    s.own(random, &[1, 2, 5, 7]);
+    s.own(random, &[1, 2, 5]);
+    s.shift(s.thread, 1);
+}
+
+fn flush_behind(random: &mut Random, s: &mut Script) {
+    let filler = random.pick(&[s.thread, s.other]);
+    s.queue(random, filler, s.at, &[1, 2, 6]);
+    s.own_elsewhere(random, &WAITING);
+    s.own(random, &[5]);
+    s.shift(s.thread, 1);
+}
+
+fn sfence_behind(random: &mut Random, s: &mut Script) {
+    s.queue(random, s.thread, s.at, &[6]);
+    s.own_anywhere(random, &WAITING);
+    s.own(random, &[7]);
+    s.shift(s.thread, 1);
+}
+
+/// A store or flush of its location, or an sfence, before a flush-opt; others around it.
+fn barred(random: &mut Random, s: &mut Script) {
+    let (before, between) = (random.between(0, 1), random.between(0, 2));
+    for _ in 0..before {
+        s.own_elsewhere(random, &[1, 2, 5, 6]);
+    }
+    s.own(random, &[1, 2, 5, 7]);
+    for _ in 0..between {
+        s.own_elsewhere(random, &[1, 2, 5, 6]);
+    }
+    s.own(random, &[6]);
+    s.shift(s.thread, before + 1 + between);
+}
+
+fn flush_queue_filled(random: &mut Random, s: &mut Script) {
+    let filler = random.pick(&[s.thread, s.other]);
+    s.queue(random, filler, s.at, &[1, 2, 4, 6, 6]);
+    s.own(random, &[5]);
+    s.shift(s.thread, 0);
+}
+
+fn sfence_marked(random: &mut Random, s: &mut Script) {
+    surround(random, s);
+    s.queue(random, s.thread, s.at, &[6]);
+    surround(random, s);
+    s.own(random, &[7]);
+    s.shift(s.thread, 0);
+}
+
+fn persist_nothing(random: &mut Random, s: &mut Script) {
+    if random.one_in(2) {
+        s.queue(random, s.thread, s.elsewhere, &[1, 2, 4, 6]);
+    }
+    if random.one_in(2) {
+        s.own(random, &WAITING);
+    }
+    s.persist(s.at);
+}

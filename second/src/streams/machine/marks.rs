@@ -1,0 +1,170 @@
+//! Frames whose answer is known by construction bear a mark in their field number, as in the
+//! stream of cases; the value holds the expected number and place.
+
+use super::frame::{Job, Trial};
+use crate::streams::cases::marks::Family;
+
+const FIRST_MARK: u32 = 65536;
+
+/// The number of a mark where the state must fit: 103 or any rule.
+pub const FITS: u8 = 0;
+
+/// The last family bears no mark in its frames: they set a count out of range.
+pub const BAD_COUNT: usize = FAMILIES.len() - 1;
+
+const fn family(name: &'static str, least: u64) -> Family {
+    Family { name, least }
+}
+
+/// Of two numbers the first is the expected one; `script`, `step` and `start` are by construction.
+pub const FAMILIES: [Family; 88] = [
+    family("legal run", 1500),
+    family("run: rule 21", 150),
+    family("run: rule 22", 150),
+    family("run: rule 23", 150),
+    family("run: rule 24", 150),
+    family("run: rule 25", 150),
+    family("run: rule 26", 150),
+    family("run: rule 27", 150),
+    family("run: rule 28", 150),
+    family("run: rule 29", 150),
+    family("script: 21", 100),
+    family("script: 21, entries waiting", 100),
+    family("script: 22", 100),
+    family("script: 22+23", 100),
+    family("script: 23", 100),
+    family("script: 24", 100),
+    family("script: 25", 100),
+    family("script: 25+26", 100),
+    family("script: 25+27", 100),
+    family("script: 25+28", 100),
+    family("script: 26", 100),
+    family("script: 27", 100),
+    family("script: 28", 100),
+    family("script: 29", 100),
+    family("legal: each done at once", 100),
+    family("legal: passes other locations", 60),
+    family("legal: passes a flush-opt", 60),
+    family("legal: flush, other queues", 60),
+    family("legal: fence, other's marker", 60),
+    family("legal: sfence, other's marker", 60),
+    family("legal: fence, marker gone", 60),
+    family("legal: exchange, queue filled", 60),
+    family("legal: sfence before flush-opt", 60),
+    family("legal: empty case", 50),
+    family("reading refused", 500),
+    family("step: reading refused", 50),
+    family("step: reachable state", 1000),
+    family("step: fitting state", 1000),
+    family("step: 21", 100),
+    family("step: 22", 100),
+    family("step: 22+23", 100),
+    family("step: 23", 100),
+    family("step: 24", 100),
+    family("step: 25", 100),
+    family("step: 25+26", 100),
+    family("step: 25+27", 100),
+    family("step: 25+28", 100),
+    family("step: 26", 100),
+    family("step: 27", 100),
+    family("step: 28", 100),
+    family("step: 29", 100),
+    family("step: legal issue", 100),
+    family("step: legal load", 100),
+    family("step: legal fence", 100),
+    family("step: legal store", 100),
+    family("step: legal flush", 100),
+    family("step: legal flush-opt", 100),
+    family("step: legal passing", 100),
+    family("step: legal sfence", 100),
+    family("step: legal persist", 100),
+    family("33 above: lacking thread", 100),
+    family("33 above: lacking queue", 100),
+    family("33 above: entry's location", 100),
+    family("33 above: marker's thread", 100),
+    family("33 above: issued", 100),
+    family("33 above: buffer of 8", 100),
+    family("33 above: queue of 32", 100),
+    family("33 at: last thread", 100),
+    family("33 at: last queue", 100),
+    family("33 at: entry's location", 100),
+    family("33 at: sfence names none", 100),
+    family("33 at: marker's thread", 100),
+    family("33 at: issued", 100),
+    family("33 at: buffer of 8", 100),
+    family("33 at: queue of 32", 100),
+    family("33 at: queues together", 100),
+    family("33+5", 100),
+    family("33+8", 100),
+    family("33+rule", 100),
+    family("5", 100),
+    family("8", 100),
+    family("5+8", 100),
+    family("5+rule", 100),
+    family("8+rule", 100),
+    family("33: any bytes", 100),
+    family("start: case as read", 300),
+    family("start: reading refused", 100),
+    family("32: a count out of range", 500),
+];
+
+/// What a frame must be answered.
+pub struct Mark {
+    pub family: usize,
+    pub number: u8,
+    pub place: usize,
+}
+
+fn family_of(name: &str) -> usize {
+    let found = FAMILIES.iter().position(|family| family.name == name);
+    found.expect("a family is named as in the table")
+}
+
+pub fn marked(name: &str, number: u8, place: usize, input: Vec<u8>, job: Job) -> Trial {
+    Trial {
+        job,
+        input,
+        field: FIRST_MARK + family_of(name) as u32,
+        value: u32::from(number) + 256 * place as u32,
+    }
+}
+
+pub fn mark_of(trial: &Trial) -> Option<Mark> {
+    if sets_bad_count(trial) {
+        return Some(Mark {
+            family: BAD_COUNT,
+            number: 32,
+            place: 0,
+        });
+    }
+    let family = trial.field.checked_sub(FIRST_MARK)? as usize;
+    FAMILIES.get(family)?;
+    Some(Mark {
+        family,
+        number: (trial.value % 256) as u8,
+        place: (trial.value / 256) as usize,
+    })
+}
+
+/// Threads, locations, instructions of a thread or steps: whatever the input is, 32.
+fn sets_bad_count(trial: &Trial) -> bool {
+    let byte = trial.value as u8;
+    let bad = match trial.field {
+        1 => !(1..=4).contains(&byte),
+        2 => !(1..=8).contains(&byte),
+        11..=14 => byte > 8,
+        163 => trial.value as u16 > 96,
+        _ => false,
+    };
+    bad && trial.job != Job::Bytes
+}
+
+impl Mark {
+    pub fn is_met(&self, number: u8, place: usize) -> bool {
+        let right = match self.number {
+            FITS => number == 103 || (21..=29).contains(&number),
+            _ => number == self.number,
+        };
+        right && place == self.place
+    }
+}

@@ -1,0 +1,9 @@
+//! The stream of the machine: its frames, their answers and counts.
+
+pub mod answer;
+pub mod counts;
+pub mod frame;
+pub mod generate;
+mod marks;
+pub mod raw;
+mod sorts;

@@ -1,0 +1,188 @@
+//! What a stream of questions holds, whether that is enough, and whether the answers agree with
+//! the judge and with one another.
+
+use super::answer::{answer, Answer};
+use super::frame::Query;
+use super::ledger::{without_steps, Ledger};
+use super::sorts::SORTS;
+use crate::judge::ask::{reaches, REACHED, RECORD, UNDECIDED};
+use crate::judge::case::Case;
+use crate::judge::machine::judge::{judge_bytes, single_step, LEGAL};
+use crate::judge::machine::state::State;
+use crate::judge::machine::work::full_length;
+use crate::judge::reading::read;
+use crate::judge::refusal::BUFFER_TOO_SHORT;
+use crate::streams::tally::{row, Counts, Row};
+use crate::streams::wire::UNTOUCHED;
+
+/// Every number that is answered, and the least number of frames in which it is.
+const NUMBERS: [(u8, u64); 13] = [
+    (100, 500),
+    (101, 500),
+    (102, 500),
+    (31, 500),
+    (1, 20),
+    (2, 20),
+    (3, 20),
+    (4, 20),
+    (5, 20),
+    (6, 20),
+    (7, 20),
+    (8, 20),
+    (9, 20),
+];
+
+/// A frame, its answer, and what the judge says of both.
+pub struct Sight<'a> {
+    pub query: &'a Query,
+    pub answer: &'a Answer,
+    /// 0, or the number of the reading refusal.
+    pub refusal: u8,
+    /// The empty case where the reading is refused.
+    pub case: Case,
+    /// The least room that the case asks for.
+    pub need: usize,
+    /// Behind the run that is shown.
+    pub end: Option<State>,
+}
+
+#[derive(Default)]
+pub struct QueryCounts {
+    frames: u64,
+    runs: u64,
+    numbers: Vec<u64>,
+    sorts: Vec<u64>,
+    ledger: Ledger,
+    faults: Vec<String>,
+}
+
+impl QueryCounts {
+    pub fn new() -> QueryCounts {
+        QueryCounts {
+            numbers: vec![0; 256],
+            sorts: vec![0; SORTS.len()],
+            ..QueryCounts::default()
+        }
+    }
+
+    fn blame(&mut self, what: &str) {
+        let frame = self.frames;
+        self.faults.push(format!("frame {frame}: {what}"));
+    }
+
+    /// Reading, 31 and budget 0 in this order; what is stored and what is not.
+    fn check(&mut self, sight: &Sight) {
+        let Sight { query, answer, .. } = sight;
+        let (number, lent) = (answer.reply.number, &answer.lent);
+        let short = sight.refusal == 0 && lent.len() < sight.need;
+        if sight.refusal != 0 && number != sight.refusal {
+            self.blame("the reading refusal does not come first");
+        }
+        if short != (number == BUFFER_TOO_SHORT) {
+            self.blame("31 where the room is enough, or none where it is not");
+        }
+        if query.budget == 0 && sight.refusal == 0 && !short && number != UNDECIDED {
+            self.blame("decided without a run");
+        }
+        let stored = match number {
+            REACHED => RECORD * answer.reply.place,
+            _ => 0,
+        };
+        if lent[stored..].iter().any(|&byte| byte != UNTOUCHED) {
+            self.blame("bytes behind were touched");
+        }
+    }
+
+    /// The run that is shown is legal, it reaches the question, and no part of it does so before.
+    fn check_run(&mut self, sight: &Sight) {
+        if sight.answer.reply.number != REACHED {
+            return;
+        }
+        let end = match &sight.end {
+            Some(end) => end,
+            None => return self.blame("the run shown is not legal"),
+        };
+        if !reaches(&sight.case, end) {
+            self.blame("the run shown does not reach the question");
+        }
+        let shown = read(&with_run(&sight.case, sight.answer)).case;
+        let mut state = State::start(&sight.case);
+        for step in &shown.steps[..sight.answer.reply.place] {
+            if reaches(&sight.case, &state) {
+                return self.blame("a shorter run reaches the question before");
+            }
+            state = single_step(&sight.case, state, step).state;
+        }
+    }
+}
+
+/// The file of the case with the run that is shown.
+fn with_run(case: &Case, answer: &Answer) -> Vec<u8> {
+    let run = &answer.lent[..RECORD * answer.reply.place];
+    [&without_steps(case), run].concat()
+}
+
+/// The state behind the run that is shown, if the judge lets it pass with all its steps.
+fn end_of(case: &Case, answer: &Answer) -> Option<State> {
+    if answer.reply.number != REACHED {
+        return None;
+    }
+    let verdict = judge_bytes(&with_run(case, answer));
+    let passes = (verdict.number, verdict.place) == (LEGAL, answer.reply.place);
+    passes.then_some(verdict.state)
+}
+
+impl Counts<Query> for QueryCounts {
+    fn take(&mut self, query: &Query) {
+        let answer = answer(query);
+        let reading = read(&query.input);
+        let sight = Sight {
+            query,
+            refusal: reading.number,
+            need: RECORD * full_length(&reading.case).unwrap_or(0) as usize,
+            end: end_of(&reading.case, &answer),
+            case: reading.case,
+            answer: &answer,
+        };
+        self.frames += 1;
+        self.runs += u64::from(answer.reply.runs);
+        self.numbers[usize::from(answer.reply.number)] += 1;
+        for (sort, count) in SORTS.iter().zip(&mut self.sorts) {
+            *count += u64::from((sort.told)(&sight));
+        }
+        self.check(&sight);
+        self.check_run(&sight);
+        if sight.refusal == 0 {
+            if let Some(what) = self.ledger.take(&sight) {
+                self.blame(what);
+            }
+        }
+    }
+
+    fn rows(&self) -> Vec<Row> {
+        let mut rows = Vec::new();
+        for (number, least) in NUMBERS {
+            let count = self.numbers[usize::from(number)];
+            rows.push(row(&format!("answered: {number}"), count, least));
+        }
+        for (sort, &count) in SORTS.iter().zip(&self.sorts) {
+            rows.push(row(sort.name, count, sort.least));
+        }
+        rows.extend(self.ledger.rows());
+        rows.push(row("runs looked at, all together", self.runs, 1_000_000));
+        rows
+    }
+
+    fn frames(&self) -> u64 {
+        self.frames
+    }
+
+    fn wrong(&self) -> Vec<String> {
+        let open = self.ledger.open();
+        let mut wrong = self.faults.clone();
+        if open > 0 {
+            wrong.push(format!("{open} cases: one budget less is not 102"));
+        }
+        wrong
+    }
+}

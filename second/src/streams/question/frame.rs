@@ -1,0 +1,42 @@
+//! A frame of the question's stream.
+
+use crate::streams::machine::frame::{MACHINE, MOST_INPUT};
+use crate::streams::wire::{bad_frame, read_head, read_part, MOST_ROOM};
+use std::io::{self, Read, Write};
+
+/// A frame's first number: the job behind those of the machine's stream.
+const QUESTION: u32 = MACHINE + 3;
+
+#[derive(Clone, Debug, PartialEq, Eq)]
+pub struct Query {
+    pub input: Vec<u8>,
+    /// The length of the lent buffer.
+    pub room: u32,
+    pub budget: u32,
+}
+
+impl Query {
+    pub fn write_to(&self, out: &mut impl Write) -> io::Result<()> {
+        let length = self.input.len() as u32;
+        for number in [QUESTION, length, self.room, self.budget] {
+            out.write_all(&number.to_le_bytes())?;
+        }
+        out.write_all(&self.input)
+    }
+
+    /// The next frame; none at the end of the stream.
+    pub fn read_from(stream: &mut impl Read) -> io::Result<Option<Query>> {
+        let [first, length, room, budget] = match read_head(stream)? {
+            Some(head) => head,
+            None => return Ok(None),
+        };
+        if first != QUESTION || length > MOST_INPUT || room > MOST_ROOM {
+            return Err(bad_frame());
+        }
+        Ok(Some(Query {
+            input: read_part(stream, length as usize)?,
+            room,
+            budget,
+        }))
+    }
+}

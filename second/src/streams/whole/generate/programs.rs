@@ -1,0 +1,170 @@
+//! Programs that are small enough to go through all their states.
+
+use crate::judge::case::{Case, Instruction};
+use crate::judge::whole::program::{code, writes, writes_word};
+use crate::streams::machine::generate::programs::{add, instruction, instruction_at, FENCED, LONG};
+use crate::streams::random::Random;
+
+pub struct Size {
+    pub threads: u8,
+    /// The most instructions of a thread.
+    pub most: u8,
+    pub locations: u8,
+}
+
+const fn size(threads: u8, most: u8, locations: u8) -> Size {
+    Size {
+        threads,
+        most,
+        locations,
+    }
+}
+
+pub const SIZES: [Size; 5] = [
+    size(2, 3, 2),
+    size(3, 2, 2),
+    size(1, 6, 3),
+    size(2, 2, 3),
+    size(4, 1, 2),
+];
+
+/// Up to some 100,000 states: a few of these.
+pub const LARGE: [Size; 2] = [size(3, 3, 2), size(4, 2, 2)];
+
+/// All operations.
+const MIXED: [u8; 18] = [1, 1, 2, 2, 2, 3, 3, 3, 4, 4, 5, 5, 6, 6, 7, 7, 8, 8];
+/// Those that hand words on.
+const HANDING: [u8; 6] = [1, 2, 2, 3, 3, 4];
+
+/// What is made of a program behind its drawing.
+pub type Bent = fn(&mut Random, &mut Case);
+
+pub const BENTS: [Bent; 5] = [|_, _| {}, contended, alone, idle, handed];
+
+pub fn draw(random: &mut Random, size: &Size, bent: Bent) -> Case {
+    let mut case = Case::empty();
+    case.threads = size.threads;
+    case.locations = size.locations;
+    let operations: [&[u8]; 6] = [&MIXED, &MIXED, &HANDING, &HANDING, &LONG, &FENCED];
+    let operations = random.pick(&operations);
+    for thread in 0..usize::from(size.threads) {
+        let any = random.between(0, size.most);
+        let count = random.pick(&[size.most, size.most, any]);
+        // Not every thread without an instruction.
+        for _ in 0..count.max(u8::from(thread == 0)) {
+            let operation = random.pick(operations);
+            let made = instruction(random, operation, size.locations);
+            add(&mut case, thread, made);
+        }
+    }
+    few_registers(random, &mut case);
+    bent(random, &mut case);
+    set_words(random, &mut case);
+    case
+}
+
+/// A register that was loaded is stored more often.
+fn few_registers(random: &mut Random, case: &mut Case) {
+    for one in &mut case.code {
+        if (2..=4).contains(&one.operation) {
+            one.register = random.pick(&[0, 0, 0, one.register]);
+        }
+    }
+}
+
+/// Words and first contents, all different and not 0: a word tells whose write it is.
+fn set_words(random: &mut Random, case: &mut Case) {
+    let mut used = vec![0];
+    let mut fresh = |random: &mut Random| loop {
+        let word = random.word();
+        if !used.contains(&word) {
+            used.push(word);
+            return word;
+        }
+    };
+    for one in case.code.iter_mut().filter(|one| writes_word(one)) {
+        one.word = fresh(random);
+    }
+    let with_firsts = random.one_in(2);
+    for first in &mut case.first[..usize::from(case.locations)] {
+        if with_firsts && random.one_in(2) {
+            *first = fresh(random);
+        }
+    }
+}
+
+/// A thread with at least so many instructions.
+fn thread_of(random: &mut Random, counts: &[u8], least: u8) -> Option<usize> {
+    let threads = 0..counts.len();
+    let threads: Vec<usize> = threads.filter(|&one| counts[one] >= least).collect();
+    random.pick_some(&threads)
+}
+
+fn replace(random: &mut Random, case: &mut Case, thread: usize, operations: &[u8], at: u8) {
+    let place = random.below(case.counts[thread].into());
+    let operation = random.pick(operations);
+    case.code[Case::places(thread)][place] = instruction_at(random, operation, at);
+}
+
+/// All writes of a location but those of one thread go to another location.
+fn divert(case: &mut Case, at: u8, but: Option<usize>) {
+    let elsewhere = (at + 1) % case.locations;
+    for thread in (0..4).filter(|&thread| Some(thread) != but) {
+        for one in &mut case.code[Case::places(thread)] {
+            if writes(one) && one.location == at {
+                one.location = elsewhere;
+            }
+        }
+    }
+}
+
+/// Most threads write one location.
+fn contended(random: &mut Random, case: &mut Case) {
+    let at = random.between(0, case.locations - 1);
+    for thread in 0..usize::from(case.threads) {
+        if case.counts[thread] > 0 && !random.one_in(8) {
+            replace(random, case, thread, &[1, 1, 2, 4], at);
+        }
+    }
+}
+
+/// One thread alone writes a location, and words only.
+fn alone(random: &mut Random, case: &mut Case) {
+    let at = random.between(0, case.locations - 1);
+    let own = thread_of(random, &case.counts, 1).unwrap_or(0);
+    divert(case, at, Some(own));
+    for one in &mut case.code[Case::places(own)] {
+        if one.operation == 2 && one.location == at {
+            *one = Instruction::new(1, at, 0, 0);
+        }
+    }
+    replace(random, case, own, &[1, 1, 4], at);
+}
+
+/// Nobody writes a location; it may be loaded and flushed.
+fn idle(random: &mut Random, case: &mut Case) {
+    let at = random.between(0, case.locations - 1);
+    divert(case, at, None);
+}
+
+/// A thread takes a word from one location to another, and another thread, if any, writes it.
+fn handed(random: &mut Random, case: &mut Case) {
+    let taker = match thread_of(random, &case.counts, 2) {
+        Some(taker) => taker,
+        None => return,
+    };
+    let from = random.between(0, case.locations - 1);
+    let to = (from + 1) % case.locations;
+    let mut others = case.counts;
+    others[taker] = 0;
+    if let Some(giver) = thread_of(random, &others, 1) {
+        replace(random, case, giver, &[1, 1, 4], from);
+    }
+    let last = code(case, taker).len() - 1;
+    let place = random.below(last);
+    let register = random.between(0, 3);
+    let take = random.pick(&[3, 3, 4]);
+    let taking = &mut case.code[Case::places(taker)];
+    taking[place] = Instruction::new(take, from, register, 0);
+    taking[last] = Instruction::new(2, to, register, 0);
+}

@@ -1,0 +1,8 @@
+//! Tests of the judge.
+
+mod machine;
+mod question;
+mod reading;
+mod states;
+mod walk;
+mod whole;

@@ -1,0 +1,168 @@
+//! Frames of the machine: the bytes of a state, their stream and their lines.
+
+use crate::judge::case::Case;
+use crate::judge::machine::state::{Entry, Held, State};
+use crate::judge::machine::steps::issue;
+use crate::judge::reading::read;
+use crate::streams::cases::generate::valid::ROW;
+use crate::streams::machine::answer::answer;
+use crate::streams::machine::frame::{Job, Trial};
+use crate::streams::machine::raw::{decode, encode, ENTRIES_AT, STATE_BYTES};
+use crate::streams::random::Random;
+
+#[test]
+fn states_come_back_from_their_bytes() {
+    let mut random = Random::new(3);
+    for _ in 0..50 {
+        let bytes = random.bytes(STATE_BYTES);
+        let state = decode(&bytes);
+        let again = encode(&state);
+        assert_eq!(again.len(), STATE_BYTES);
+        assert_eq!(decode(&again), state);
+        assert_eq!(again[..ENTRIES_AT], bytes[..ENTRIES_AT]);
+        assert_eq!(again[ENTRIES_AT + 192..], bytes[ENTRIES_AT + 192..]);
+    }
+}
+
+#[test]
+fn each_part_stands_at_its_bytes() {
+    let mut state = State::start(&Case::empty());
+    state.words[7] = 1;
+    state.queues[1].places[2] = Held { word: 2, mark: 3 };
+    state.queues[6].count = 4;
+    state.buffers[1].places[3] = Entry::Store {
+        location: 5,
+        word: 6,
+    };
+    state.buffers[2].places[0] = Entry::FlushOpt(7);
+    state.buffers[3].count = 8;
+    state.registers[1][2] = 9;
+    state.issued[0] = 10;
+    let mut bytes = vec![0; STATE_BYTES];
+    bytes[28] = 1;
+    bytes[32 + 4 * 34] = 2;
+    bytes[1056 + 34] = 3;
+    bytes[1312 + 6] = 4;
+    bytes[1320 + 6 * 11 + 1] = 5;
+    bytes[1320 + 6 * 11 + 2] = 6;
+    bytes[1320 + 6 * 16] = 2;
+    bytes[1320 + 6 * 16 + 1] = 7;
+    bytes[1512 + 3] = 8;
+    bytes[1516 + 4 * 6] = 9;
+    bytes[1580] = 10;
+    assert_eq!(encode(&state), bytes);
+    // A kind is taken modulo 4; an sfence has no location and no word, a flush-opt no word.
+    let mut other = bytes.clone();
+    other[1320 + 6 * 16] = 254;
+    other[1320 + 6 * 16 + 5] = 255;
+    assert_eq!(decode(&other), state);
+    other[1320 + 6 * 16] = 255;
+    bytes[1320 + 6 * 16] = 3;
+    bytes[1320 + 6 * 16 + 1] = 0;
+    assert_eq!(encode(&decode(&other)), bytes);
+}
+
+/// Issue, from the start, of the row's first store with another word: field 18.
+fn first_issue() -> Trial {
+    Trial {
+        job: Job::Step(issue(0), vec![0; STATE_BYTES]),
+        input: ROW.to_vec(),
+        field: 18,
+        value: 0x0102_0304,
+    }
+}
+
+#[test]
+fn frames_of_the_machine_come_back_from_their_stream() {
+    let trial = first_issue();
+    let mut stream = Vec::new();
+    assert!(trial.write_to(&mut stream).is_ok());
+    assert_eq!(stream.len(), 16 + 50 + 4 + STATE_BYTES);
+    let mut rest = &stream[..];
+    assert_eq!(Trial::read_from(&mut rest).ok(), Some(Some(trial)));
+    assert_eq!(Trial::read_from(&mut rest).ok(), Some(None));
+    assert!(Trial::read_from(&mut &stream[..stream.len() - 1]).is_err());
+    for job in [3, 5] {
+        stream[0] = job;
+        assert!(Trial::read_from(&mut &stream[..]).is_err());
+    }
+    stream[0] = 4;
+    stream.truncate(16 + 50);
+    let start = Trial {
+        job: Job::Start,
+        ..first_issue()
+    };
+    let mut rest = &stream[..];
+    assert_eq!(Trial::read_from(&mut rest).ok(), Some(Some(start.clone())));
+    assert_eq!(Trial::read_from(&mut rest).ok(), Some(None));
+    let mut again = Vec::new();
+    assert!(start.write_to(&mut again).is_ok() && again == stream);
+}
+
+/// The start of the row's case with a field changed: first contents of its two locations and of one
+/// more, and the number of locations.
+#[test]
+fn lines_of_a_start() {
+    let line = |input: &[u8], field, value| {
+        let trial = Trial {
+            job: Job::Start,
+            input: input.to_vec(),
+            field,
+            value,
+        };
+        answer(&trial).line()
+    };
+    let nothing = "00".repeat(STATE_BYTES);
+    assert_eq!(line(&ROW, 0, 0), format!("103 0 6 6 {nothing}\n"));
+    let word = |at: usize| {
+        let mut bytes = nothing.clone();
+        bytes.replace_range(8 * at..8 * at + 8, "04030201");
+        bytes
+    };
+    let first = format!("103 0 6 6 {}\n", word(0));
+    assert_eq!(line(&ROW, 3, 0x0102_0304), first);
+    let second = format!("103 0 6 6 {}\n", word(1));
+    assert_eq!(line(&ROW, 4, 0x0102_0304), second);
+    let refused = format!("32 0 r32 r32 {nothing}\n");
+    assert_eq!(line(&ROW, 5, 0x0102_0304), refused);
+    assert_eq!(line(&ROW, 2, 9), refused);
+    // A file with a first content, and nine locations: the empty case's start.
+    let filled = [&ROW[..8], &[5, 0, 2, 0, 1, 4, 3, 2, 1]].concat();
+    let start = format!("103 0 0 0 {}\n", word(1));
+    assert_eq!(line(&filled, 0, 0), start);
+    assert_eq!(line(&filled, 2, 9), refused);
+    // Bytes that do not read: the empty case, of one thread and one location.
+    assert_eq!(line(&[7], 0, 0), format!("103 0 0 0 {nothing}\n"));
+    let first = format!("103 0 0 0 {}\n", word(0));
+    assert_eq!(line(&[7], 3, 0x0102_0304), first);
+    assert_eq!(line(&[7], 4, 0x0102_0304), refused);
+}
+
+#[test]
+fn lines_of_the_machine() {
+    let told = answer(&first_issue());
+    let mut state = State::start(&read(&ROW).case);
+    state.issued[0] = 1;
+    state.buffers[0].push(Entry::Store {
+        location: 0,
+        word: 0x0102_0304,
+    });
+    assert_eq!(told.verdict.state, state);
+    let line = told.line();
+    assert!(line.starts_with("103 0 6 6 0000") && line.ends_with("01000000\n"));
+    assert_eq!(line.trim_end().len(), "103 0 6 6 ".len() + 2 * STATE_BYTES);
+    let judged = |job, field, value| {
+        let trial = Trial {
+            job,
+            field,
+            value,
+            ..first_issue()
+        };
+        let line = answer(&trial).line();
+        line[..line.rfind(' ').unwrap_or(0)].to_string()
+    };
+    assert_eq!(judged(Job::Bytes, 1, 0), "103 0 6 6");
+    assert_eq!(judged(Job::Case, 1, 0), "32 0 r32 r32");
+    let unfit = Job::Step(issue(0), vec![255; STATE_BYTES]);
+    assert_eq!(judged(unfit, 0, 0), "33 0 r33 6");
+}

@@ -1,0 +1,298 @@
+//! Texts: two laid out by hand, what a free text says, the freedoms told of a text, the folder.
+
+use crate::judge::case::{Case, Instruction};
+use crate::judge::machine::steps::{issue, persist, shift};
+use crate::judge::reading::read;
+use crate::streams::cases::generate::valid::ROW;
+use crate::streams::machine::frame::Job;
+use crate::streams::random::Random;
+use crate::streams::tally::Counts;
+use crate::streams::text::cases;
+use crate::streams::text::counts::TextCounts;
+use crate::streams::text::files;
+use crate::streams::text::written::Written;
+use crate::tests::by_hand::{
+    exchange, flush, flush_opt, load, program, store, MFENCE, SFENCE, X, Y,
+};
+use std::collections::BTreeMap;
+use std::fs;
+use std::io;
+
+const OUTAGE: &str = "\
+locations x y
+
+thread 0
+  store x 500
+  store y 1
+
+want x 0
+want y 1
+";
+
+const EVERYTHING: &str = "\
+locations x y z w a b c d
+
+first y 4294967295
+first d 7
+
+thread 0
+  store x 500
+  store y r3
+  load d r1
+  xchg y r2 0
+  clflush x
+  clflushopt y
+  sfence
+  mfence
+
+thread 1
+
+thread 2
+  store d 9
+
+want x 0
+want d 12
+passed 0 8
+passed 2 1
+
+run
+  issue 0
+  move 0 7
+  persist d
+";
+
+fn outage() -> Case {
+    read(&ROW).case
+}
+
+/// Every statement; the last location and register, the highest word.
+fn everything() -> Case {
+    let first = [
+        store(X, 500),
+        Instruction::new(2, Y, 3, 0),
+        load(7, 1),
+        exchange(Y, 2, 0),
+        flush(X),
+        flush_opt(Y),
+        SFENCE,
+        MFENCE,
+    ];
+    let mut case = program(&[&first, &[], &[store(7, 9)]]);
+    case.locations = 8;
+    (case.first[1], case.first[7]) = (u32::MAX, 7);
+    (case.wanted[0], case.wanted[7], case.want[7]) = (true, true, 12);
+    (case.passed[0], case.passed[2]) = (8, 1);
+    case.set_run(&[issue(0), shift(0, 7), persist(7)]);
+    case
+}
+
+fn written(case: &Case) -> Written {
+    Written::of(&mut Random::new(1), case)
+}
+
+fn some(seed: u64, count: u64) -> Vec<Written> {
+    let mut all = Vec::new();
+    let kept = cases::all(seed, count, &mut |part| {
+        all.extend(part);
+        Ok(())
+    });
+    assert!(kept.is_ok() && all.len() as u64 >= count);
+    all
+}
+
+#[test]
+fn the_one_text() {
+    assert_eq!(written(&outage()).plain, OUTAGE);
+    assert_eq!(written(&outage()).bytes, ROW);
+    assert_eq!(written(&everything()).plain, EVERYTHING);
+    assert_eq!(
+        written(&Case::empty()).plain,
+        "locations x\n\nthread 0\n".to_string()
+    );
+}
+
+#[test]
+fn a_seed_gives_the_same_cases() {
+    let all = some(3, 700);
+    assert_eq!(all, some(3, 700));
+    assert_ne!(all, some(4, 700));
+    let fewer = some(3, 300);
+    assert_eq!(fewer[..], all[..fewer.len()]);
+}
+
+/// A statement in one way of writing it: steps in words, locations by number, decimal numbers.
+fn told_one_way(names: &[&str], words: &[&str]) -> String {
+    let letters = words[0].split_at(1);
+    let numbers = letters.1.replace('.', " ");
+    let numbers: Vec<&str> = numbers.split(' ').collect();
+    let words = match letters.0 {
+        "I" => [&["issue"], &numbers[..]].concat(),
+        "M" => [&["move"], &numbers[..]].concat(),
+        "P" => vec!["persist", names[decimal(letters.1) as usize]],
+        _ => words.to_vec(),
+    };
+    let behind = words[1..].iter().enumerate().map(|(place, word)| {
+        let at = names.iter().position(|name| name == word);
+        match at {
+            Some(at) if place == 0 => format!("at {at}"),
+            _ if word.starts_with('r') => word.to_string(),
+            _ => decimal(word).to_string(),
+        }
+    });
+    [words[0].to_string()]
+        .into_iter()
+        .chain(behind)
+        .collect::<Vec<String>>()
+        .join(" ")
+}
+
+fn decimal(word: &str) -> u32 {
+    let number = match word.strip_prefix("0x") {
+        Some(digits) => u32::from_str_radix(digits, 16),
+        None => word.parse(),
+    };
+    number.expect(word)
+}
+
+/// Each thread, the run and every other line, by its first words, with what belongs to it.
+fn says(text: &str) -> BTreeMap<String, Vec<String>> {
+    let heads = ["first", "thread", "want", "passed", "run"];
+    let said = text
+        .lines()
+        .map(|line| line.split('#').next().unwrap_or(""));
+    let lines = said.map(|said| said.split_whitespace().collect::<Vec<&str>>());
+    let mut lines = lines.filter(|words| !words.is_empty());
+    let names = lines.next().unwrap_or_default();
+    let mut said = BTreeMap::from([(format!("{} locations", names.len() - 1), Vec::new())]);
+    let mut head = String::new();
+    for words in lines {
+        let line = told_one_way(&names[1..], &words);
+        if heads.contains(&words[0]) {
+            head = line;
+            assert_eq!(said.insert(head.clone(), Vec::new()), None);
+        } else {
+            said.entry(head.clone()).or_default().push(line);
+        }
+    }
+    // A run without steps says nothing.
+    said.retain(|head, behind| head != "run" || !behind.is_empty());
+    said
+}
+
+#[test]
+fn a_free_text_says_what_the_one_text_says() {
+    for Written { plain, free, .. } in some(5, 2000) {
+        assert_eq!(says(&free), says(&plain), "{free}");
+        // Where records have the kind of their first one, a text has none of its bytes.
+        assert!(free.bytes().take(4).all(|byte| byte > 1));
+    }
+}
+
+/// The sorts that a case with such a text counts for.
+fn told(case: &Case, free: &str) -> Vec<String> {
+    let mut counts = TextCounts::new();
+    counts.take(&Written {
+        free: free.to_string(),
+        ..written(case)
+    });
+    let table = counts.table();
+    let counted = table.lines().filter_map(|line| {
+        let name = line.get(..34)?.trim_end();
+        let count = line.get(34..)?.split_whitespace().next()?;
+        (count == "1").then(|| name.to_string())
+    });
+    counted.collect()
+}
+
+#[test]
+fn what_the_one_text_counts_for() {
+    assert_eq!(
+        told(&outage(), OUTAGE),
+        [
+            "store word",
+            "1 thread",
+            "no first contents",
+            "a want",
+            "a want of 0",
+            "question reached",
+            "no run",
+            "an empty line",
+            "line ends: LF alone",
+            "all frames",
+        ]
+    );
+}
+
+/// The outage with a passed count, in a free text.
+const FREE: &str = "#store x 1\u{1}\r\nlocations\tP1  p1\n \nwant p1 0x1 \r\npassed 00 2# é #\n\
+                    run\nwant P1 0x0\nthread 0\n#\nstore P1 0x01F4\nstore p1 01";
+
+/// What it counts for behind the sorts of its case.
+const TAKEN: [&str; 30] = [
+    "name: like a step",
+    "names: apart by capitals alone",
+    "want before a thread",
+    "want behind the run",
+    "passed before its thread",
+    "passed before a want",
+    "want lines not by location",
+    "run before a thread",
+    "run without steps",
+    "tabs",
+    "blanks in a row",
+    "blanks at a line's end",
+    "a line of blanks",
+    "something before locations",
+    "something inside a list",
+    "line ends: both",
+    "no end of the last line",
+    "comment alone",
+    "comment behind a statement",
+    "comment right behind a word",
+    "comment without characters",
+    "comment with #",
+    "comment with other letters",
+    "comment with controls",
+    "comment like a statement",
+    "hexadecimal, capital digits",
+    "hexadecimal, zeros before",
+    "a decimal number, zeros before",
+    "a passed line, zeros before",
+    "all frames",
+];
+
+#[test]
+fn freedoms_are_told() {
+    let mut case = outage();
+    case.passed[0] = 2;
+    let told = told(&case, FREE);
+    let at = told.iter().position(|name| name == "no run").unwrap_or(0);
+    assert_eq!(told[at + 1..], TAKEN);
+    assert_eq!(says(FREE), says(&written(&case).plain));
+}
+
+#[test]
+fn a_folder_of_cases() -> io::Result<()> {
+    let folder = std::env::temp_dir().join(format!("second-texts-{}", std::process::id()));
+    files::generate(3, 250, &folder)?;
+    let mut found = Vec::new();
+    files::each(&folder, |one| found.push(one))?;
+    assert_eq!(found, some(3, 250)[..250]);
+    let mut inputs = Vec::new();
+    files::each_bytes(&folder, |bytes| {
+        inputs.push(bytes);
+        Ok(())
+    })?;
+    let again = files::generate(3, 1, &folder);
+    fs::remove_dir_all(&folder)?;
+    assert!(again.is_err());
+    assert!(found.iter().map(|one| &one.bytes).eq(&inputs));
+    let query = files::question(inputs.remove(0), 7);
+    assert_eq!(
+        (&query.input[..], query.room, query.budget),
+        (&ROW[..], 768, 7)
+    );
+    let trial = files::judge(query.input);
+    assert_eq!((trial.job, &trial.input[..]), (Job::Bytes, &ROW[..]));
+    Ok(())
+}

@@ -1,9 +1,0 @@
-//! The stream of the machine's comparison: its frames, their answers and counts.
-
-pub mod answer;
-pub mod counts;
-pub mod frame;
-pub mod generate;
-mod marks;
-pub mod raw;
-mod sorts;
