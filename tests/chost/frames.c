@@ -1,5 +1,5 @@
 /*
- * The C face on a stream of frames: standard input has frames of the machine or of the question as second/README.md
+ * The C face on a stream of frames: standard input has frames of the machine or of the question as docs/FRAMES.md
  * lays them out, standard output gets a line for each that the C face can answer. Job 0 is judged: number and place.
  * A question is asked with the frame's room and budget: number, place and the lent buffer in hex. Other jobs are passed
  * over. What was lent stands between guard bytes, at another alignment each time; a byte that is not as it must be

@@ -1,4 +1,4 @@
--- The sizes of the frames and lines of second/README.md. src/ has the same numbers for the code.
+-- The sizes of the frames and lines of docs/FRAMES.md. src/ has the same numbers for the code.
 --   mostInput    the longest input of a frame
 --   mostRoom     the most bytes that are lent, or printed at once
 --   stateBytes   a state: words, held, marks, lengths, buffers, waiting, registers, issued

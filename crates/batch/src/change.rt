@@ -1,4 +1,4 @@
-// A case in memory with one of its fields changed, whatever that makes of it; second/README.md numbers the
+// A case in memory with one of its fields changed, whatever that makes of it; docs/FRAMES.md numbers the
 // fields.
 use cases::case::Ask;
 use cases::case::Case;

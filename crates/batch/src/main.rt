@@ -1,6 +1,6 @@
 // Answers a stream of frames from standard input, a line each: how the frame's bytes read, and how the case
 // that comes of them is written; how its run is judged, a single step ruled, or where it starts; or what its
-// question is answered. second/README.md has the frames and the lines; the second judge answers the same
+// question is answered. docs/FRAMES.md has the frames and the lines; the second judge answers the same
 // stream. Where standard input cannot be read the stream ends, and standard error says why.
 use crate::print::ROOM;
 use cases::reader;

@@ -1,4 +1,4 @@
-// A state of the machine and its bytes; second/README.md has the layout.
+// A state of the machine and its bytes; docs/FRAMES.md has the layout.
 use crate::numbers;
 use crate::print::ROOM;
 use cases::case::Location;

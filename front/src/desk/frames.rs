@@ -1,4 +1,4 @@
-//! Frames for the program `batch` and what its lines say. second/README.md has both.
+//! Frames for the program `batch` and what its lines say. docs/FRAMES.md has both.
 
 use super::records;
 use crate::case::{Case, Step};
