@@ -32,7 +32,7 @@ pub enum Entry {
     Sfence,
 }
 
-/// Where the parts of a state's bytes begin, as second/README.md has them.
+/// Where the parts of a state's bytes begin, as docs/FRAMES.md has them.
 const HELD: usize = LOCATIONS * 4;
 const MARKS: usize = HELD + SLOTS * 4;
 const LENGTHS: usize = MARKS + SLOTS;
