@@ -11,7 +11,8 @@ use machine::cells::State;
 use machine::cells::Waiting;
 use machine::sizes::ALL_REGISTERS;
 use machine::sizes::SLOTS;
-ghost use Prim.Native.Nat.{_+_, _≤_};
+ghost use Prim.Native.Nat.{_+_, _*_, _≤_};
+ghost use lib.ListN.{length};
 ghost use Rattle.batch.specs.Sizes.{stateBytes};
 
 // Where each part begins, behind the words; a word takes 4 bytes and an entry 6.
@@ -90,124 +91,108 @@ fn put_entry(raw: &mut [u8; ROOM], at: usize, e: Entry)
     }
 }
 
-fn read_queues(s: State, raw: &[u8; ROOM]) -> State {
-    let mut u = s;
+fn read_words(raw: &[u8; ROOM], at: usize, into: &mut [u32])
+    requires { ⌜ at + 4 * length (now into) ≤ stateBytes ⌝ }
+{
     let mut i = 0;
-    while i < SLOTS {
-        u.held[i] = word_at(raw, HELD + 4 * i);
-        u.marks[i] = raw[MARKS + i];
+    while i < into.len() {
+        into[i] = word_at(raw, at + 4 * i);
         i += 1;
     }
-    u
 }
 
-fn read_locations(s: State, raw: &[u8; ROOM]) -> State {
-    let mut u = s;
+fn read_bytes(raw: &[u8; ROOM], at: usize, into: &mut [u8])
+    requires { ⌜ at + length (now into) ≤ stateBytes ⌝ }
+{
     let mut i = 0;
-    while i < LOCATIONS {
-        u.words[i] = word_at(raw, 4 * i);
-        u.lengths[i] = raw[LENGTHS + i];
+    while i < into.len() {
+        into[i] = raw[at + i];
         i += 1;
     }
-    u
 }
 
-fn read_buffers(s: State, raw: &[u8; ROOM]) -> State {
-    let mut u = s;
+// By value: an array of entries cannot be lent.
+fn read_entries(raw: &[u8; ROOM]) -> [Waiting; CODE] {
+    let blank = Waiting {
+        entry: Entry::Sfence,
+    };
+    let mut entries = [blank; CODE];
     let mut i = 0;
     while i < CODE {
         let e = entry_at(raw, BUFFERS + 6 * i);
-        u.buffers[i] = Waiting { entry: e };
+        entries[i] = Waiting { entry: e };
         i += 1;
     }
-    u
+    entries
 }
 
-fn read_registers(s: State, raw: &[u8; ROOM]) -> State {
-    let mut u = s;
+// The state of those bytes. Its arrays are filled first: a field cannot be lent as a `&mut` slice.
+pub(crate) fn from_bytes(raw: &[u8; ROOM]) -> State {
+    let mut words = [0u32; LOCATIONS];
+    read_words(raw, 0, &mut words);
+    let mut held = [0u32; SLOTS];
+    read_words(raw, HELD, &mut held);
+    let mut marks = [0u8; SLOTS];
+    read_bytes(raw, MARKS, &mut marks);
+    let mut lengths = [0u8; LOCATIONS];
+    read_bytes(raw, LENGTHS, &mut lengths);
+    let mut waiting = [0u8; THREADS];
+    read_bytes(raw, WAITING, &mut waiting);
+    let mut registers = [0u32; ALL_REGISTERS];
+    read_words(raw, REGISTERS_AT, &mut registers);
+    let mut issued = [0u8; THREADS];
+    read_bytes(raw, ISSUED, &mut issued);
+    State {
+        words: words,
+        held: held,
+        marks: marks,
+        lengths: lengths,
+        buffers: read_entries(raw),
+        waiting: waiting,
+        registers: registers,
+        issued: issued,
+    }
+}
+
+fn put_words(raw: &mut [u8; ROOM], at: usize, words: &[u32])
+    requires { ⌜ at + 4 * length (now words) ≤ stateBytes ⌝ }
+{
     let mut i = 0;
-    while i < ALL_REGISTERS {
-        u.registers[i] = word_at(raw, REGISTERS_AT + 4 * i);
+    while i < words.len() {
+        put_word(raw, at + 4 * i, words[i]);
         i += 1;
     }
-    u
 }
 
-fn read_threads(s: State, raw: &[u8; ROOM]) -> State {
-    let mut u = s;
+fn put_bytes(raw: &mut [u8; ROOM], at: usize, bytes: &[u8])
+    requires { ⌜ at + length (now bytes) ≤ stateBytes ⌝ }
+{
     let mut i = 0;
-    while i < THREADS {
-        u.waiting[i] = raw[WAITING + i];
-        u.issued[i] = raw[ISSUED + i];
-        i += 1;
-    }
-    u
-}
-
-// The state of those bytes; `blank` is any state.
-pub(crate) fn from_bytes(blank: State, raw: &[u8; ROOM]) -> State {
-    let queues = read_queues(blank, raw);
-    let locations = read_locations(queues, raw);
-    let buffers = read_buffers(locations, raw);
-    let registers = read_registers(buffers, raw);
-    read_threads(registers, raw)
-}
-
-fn put_queues(raw: &mut [u8; ROOM], s: State) {
-    let u = s;
-    let mut i = 0;
-    while i < SLOTS {
-        put_word(raw, HELD + 4 * i, u.held[i]);
-        raw[MARKS + i] = u.marks[i];
+    while i < bytes.len() {
+        raw[at + i] = bytes[i];
         i += 1;
     }
 }
 
-fn put_locations(raw: &mut [u8; ROOM], s: State) {
-    let u = s;
-    let mut i = 0;
-    while i < LOCATIONS {
-        put_word(raw, 4 * i, u.words[i]);
-        raw[LENGTHS + i] = u.lengths[i];
-        i += 1;
-    }
-}
-
-fn put_buffers(raw: &mut [u8; ROOM], s: State) {
-    let u = s;
+fn put_entries(raw: &mut [u8; ROOM], entries: [Waiting; CODE]) {
     let mut i = 0;
     while i < CODE {
-        let w = u.buffers[i];
+        let w = entries[i];
         let e = w.entry;
         put_entry(raw, BUFFERS + 6 * i, e);
         i += 1;
     }
 }
 
-fn put_registers(raw: &mut [u8; ROOM], s: State) {
-    let u = s;
-    let mut i = 0;
-    while i < ALL_REGISTERS {
-        put_word(raw, REGISTERS_AT + 4 * i, u.registers[i]);
-        i += 1;
-    }
-}
-
-fn put_threads(raw: &mut [u8; ROOM], s: State) {
-    let u = s;
-    let mut i = 0;
-    while i < THREADS {
-        raw[WAITING + i] = u.waiting[i];
-        raw[ISSUED + i] = u.issued[i];
-        i += 1;
-    }
-}
-
 // The bytes of a state, into bytes that are all 0.
 pub(crate) fn to_bytes(raw: &mut [u8; ROOM], s: State) {
-    put_queues(raw, s);
-    put_locations(raw, s);
-    put_buffers(raw, s);
-    put_registers(raw, s);
-    put_threads(raw, s);
+    put_words(raw, 0, &s.words);
+    put_words(raw, HELD, &s.held);
+    put_bytes(raw, MARKS, &s.marks);
+    put_bytes(raw, LENGTHS, &s.lengths);
+    let buffers = s.buffers;
+    put_entries(raw, buffers);
+    put_bytes(raw, WAITING, &s.waiting);
+    put_words(raw, REGISTERS_AT, &s.registers);
+    put_bytes(raw, ISSUED, &s.issued);
 }

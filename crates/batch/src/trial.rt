@@ -93,7 +93,7 @@ fn take_step(c: Case) -> bool {
         position: fields[2],
         location: Location(fields[3]),
     };
-    let s = state::from_bytes(steps::start_of(c.program), &raw);
+    let s = state::from_bytes(&raw);
     let r = machine::step(c, s, k);
     let ruling = r.ruling;
     print_line(steps::ruling_number(ruling), 0, c, s, r.state);

@@ -1,16 +1,16 @@
--- `put_buffers` is safe and ends: the measure is how many entries are still to come. Assumes nothing.
+-- `put_entries` is safe and ends: the measure is how many entries are still to come. Assumes nothing.
 use Prim.Native.Nat.{_≤_, _-_}
-use borrow.Author.Needs.{needs}
 use Rattle.cases.specs.Sizes.{allCode}
-use Rattle.batch.proofs.state.put_buffers.Statement.{statement}
-use Rattle.batch.proofs.state.put_buffers.Tie as tie
+use borrow.Author.Needs.{needs}
+use Rattle.batch.proofs.state.put_entries.Statement.{statement}
+use Rattle.batch.proofs.state.put_entries.Tie as tie
 
 -- the index is at most the number of entries
 abbrev Inv-loop : tie.InvT-loop
-Inv-loop raw₀ u i₀ raw i = i ≤ allCode
+Inv-loop raw₀ entries i₀ raw i = i ≤ allCode
 
 abbrev μ-loop : tie.MeasureT-loop
-μ-loop raw₀ u i₀ raw i = allCode - i
+μ-loop raw₀ entries i₀ raw i = allCode - i
 
 loop-holds : tie.Need-loop-holds Inv-loop μ-loop
 loop-holds c = search needs
@@ -18,8 +18,8 @@ loop-holds c = search needs
 mul-w : tie.Need-mul-w Inv-loop μ-loop
 mul-w c = search needs
 
-element-copy-out-w : tie.Need-element-copy-out-w Inv-loop μ-loop
-element-copy-out-w c = search needs
+array-copy-out-w : tie.Need-array-copy-out-w Inv-loop μ-loop
+array-copy-out-w c = search needs
 
 mul-put-entry : tie.Need-mul-put-entry Inv-loop μ-loop
 mul-put-entry c = search needs
@@ -42,15 +42,15 @@ loop-again c = search needs
 returns : tie.Need-returns Inv-loop μ-loop
 returns c = search needs
 
-pub put-buffers-spec : {M : Type 1} → statement M
-put-buffers-spec =
+pub put-entries-spec : {M : Type 1} → statement M
+put-entries-spec =
     tie.close
     (tie.spec
     Inv-loop
     μ-loop
     loop-holds
     mul-w
-    element-copy-out-w
+    array-copy-out-w
     mul-put-entry
     add-put-entry
     put-entry-requires

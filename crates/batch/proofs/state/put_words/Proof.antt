@@ -1,16 +1,16 @@
--- `put_queues` is safe and ends: the measure is how many slots are still to come. Assumes nothing.
+-- `put_words` is safe and ends: the measure is how many words are still to come. Assumes nothing.
 use Prim.Native.Nat.{_≤_, _-_}
+use lib.ListN.{length}
 use borrow.Author.Needs.{needs}
-use Rattle.machine.specs.Sizes.{allSlots}
-use Rattle.batch.proofs.state.put_queues.Statement.{statement}
-use Rattle.batch.proofs.state.put_queues.Tie as tie
+use Rattle.batch.proofs.state.put_words.Statement.{statement}
+use Rattle.batch.proofs.state.put_words.Tie as tie
 
--- the index is at most the number of slots
+-- the index is at most the number of words
 abbrev Inv-loop : tie.InvT-loop
-Inv-loop raw₀ u i₀ raw i = i ≤ allSlots
+Inv-loop raw₀ at words i₀ raw i = i ≤ length words
 
 abbrev μ-loop : tie.MeasureT-loop
-μ-loop raw₀ u i₀ raw i = allSlots - i
+μ-loop raw₀ at words i₀ raw i = length words - i
 
 loop-holds : tie.Need-loop-holds Inv-loop μ-loop
 loop-holds c = search needs
@@ -24,20 +24,11 @@ add-put-word c = search needs
 mul-put-word-2 : tie.Need-mul-put-word-2 Inv-loop μ-loop
 mul-put-word-2 c = search needs
 
-element-copy-out-put-word : tie.Need-element-copy-out-put-word Inv-loop μ-loop
-element-copy-out-put-word c = search needs
+shared-slice-read-put-word : tie.Need-shared-slice-read-put-word Inv-loop μ-loop
+shared-slice-read-put-word c = search needs
 
 put-word-requires : tie.Need-put-word-requires Inv-loop μ-loop
 put-word-requires c κs = search needs
-
-element-copy-out-raw : tie.Need-element-copy-out-raw Inv-loop μ-loop
-element-copy-out-raw c = search needs
-
-add-raw : tie.Need-add-raw Inv-loop μ-loop
-add-raw c = search needs
-
-element-write-raw : tie.Need-element-write-raw Inv-loop μ-loop
-element-write-raw c = search needs
 
 add-i : tie.Need-add-i Inv-loop μ-loop
 add-i c = search needs
@@ -51,8 +42,8 @@ loop-again c = search needs
 returns : tie.Need-returns Inv-loop μ-loop
 returns c = search needs
 
-pub put-queues-spec : {M : Type 1} → statement M
-put-queues-spec =
+pub put-words-spec : {M : Type 1} → statement M
+put-words-spec =
     tie.close
     (tie.spec
     Inv-loop
@@ -61,11 +52,8 @@ put-queues-spec =
     mul-put-word
     add-put-word
     mul-put-word-2
-    element-copy-out-put-word
+    shared-slice-read-put-word
     put-word-requires
-    element-copy-out-raw
-    add-raw
-    element-write-raw
     add-i
     loop-less
     loop-again

@@ -1,16 +1,16 @@
--- `read_buffers` is safe and ends: the measure is how many entries are still to come. Assumes nothing.
+-- `read_entries` is safe and ends: the measure is how many entries are still to come. Assumes nothing.
 use Prim.Native.Nat.{_≤_, _-_}
-use borrow.Author.Needs.{needs}
 use Rattle.cases.specs.Sizes.{allCode}
-use Rattle.batch.proofs.state.read_buffers.Statement.{statement}
-use Rattle.batch.proofs.state.read_buffers.Tie as tie
+use borrow.Author.Needs.{needs}
+use Rattle.batch.proofs.state.read_entries.Statement.{statement}
+use Rattle.batch.proofs.state.read_entries.Tie as tie
 
 -- the index is at most the number of entries
 abbrev Inv-loop : tie.InvT-loop
-Inv-loop raw u₀ i₀ u i = i ≤ allCode
+Inv-loop raw entries₀ i₀ entries i = i ≤ allCode
 
 abbrev μ-loop : tie.MeasureT-loop
-μ-loop raw u₀ i₀ u i = allCode - i
+μ-loop raw entries₀ i₀ entries i = allCode - i
 
 loop-holds : tie.Need-loop-holds Inv-loop μ-loop
 loop-holds c = search needs
@@ -24,11 +24,11 @@ add-entry-at c = search needs
 entry-at-requires : tie.Need-entry-at-requires Inv-loop μ-loop
 entry-at-requires c κs = search needs
 
-mul-t7 : tie.Need-mul-t7 Inv-loop μ-loop
-mul-t7 c = search needs
+mul-entries : tie.Need-mul-entries Inv-loop μ-loop
+mul-entries c = search needs
 
-element-set-from-u : tie.Need-element-set-from-u Inv-loop μ-loop
-element-set-from-u c = search needs
+array-set-from-entries : tie.Need-array-set-from-entries Inv-loop μ-loop
+array-set-from-entries c = search needs
 
 add-i : tie.Need-add-i Inv-loop μ-loop
 add-i c = search needs
@@ -42,8 +42,8 @@ loop-again c = search needs
 returns : tie.Need-returns Inv-loop μ-loop
 returns c = search needs
 
-pub read-buffers-spec : {M : Type 1} → statement M
-read-buffers-spec =
+pub read-entries-spec : {M : Type 1} → statement M
+read-entries-spec =
     tie.close
     (tie.spec
     Inv-loop
@@ -52,8 +52,8 @@ read-buffers-spec =
     mul-entry-at
     add-entry-at
     entry-at-requires
-    mul-t7
-    element-set-from-u
+    mul-entries
+    array-set-from-entries
     add-i
     loop-less
     loop-again

@@ -1,16 +1,17 @@
--- `read_registers` is safe and ends: the measure is how many registers are still to come. Assumes nothing.
+-- `read_words` is safe and ends: the measure is how many words are still to come. Assumes nothing.
 use Prim.Native.Nat.{_≤_, _-_}
+use mathlib.Core.Path.{_≡_}
+use lib.ListN.{length}
 use borrow.Author.Needs.{needs}
-use Rattle.machine.specs.Sizes.{allRegisters}
-use Rattle.batch.proofs.state.read_registers.Statement.{statement}
-use Rattle.batch.proofs.state.read_registers.Tie as tie
+use Rattle.batch.proofs.state.read_words.Statement.{statement}
+use Rattle.batch.proofs.state.read_words.Tie as tie
 
--- the index is at most the number of registers
+-- the index is at most the number of lent words, which stays as it is
 abbrev Inv-loop : tie.InvT-loop
-Inv-loop raw u₀ i₀ u i = i ≤ allRegisters
+Inv-loop raw at into₀ i₀ into i = (i ≤ length into₀) × (length into ≡ length into₀)
 
 abbrev μ-loop : tie.MeasureT-loop
-μ-loop raw u₀ i₀ u i = allRegisters - i
+μ-loop raw at into₀ i₀ into i = length into₀ - i
 
 loop-holds : tie.Need-loop-holds Inv-loop μ-loop
 loop-holds c = search needs
@@ -24,11 +25,11 @@ add-word-at c = search needs
 word-at-requires : tie.Need-word-at-requires Inv-loop μ-loop
 word-at-requires c κs = search needs
 
-mul-u : tie.Need-mul-u Inv-loop μ-loop
-mul-u c = search needs
+mul-into : tie.Need-mul-into Inv-loop μ-loop
+mul-into c = search needs
 
-element-write-u : tie.Need-element-write-u Inv-loop μ-loop
-element-write-u c = search needs
+slice-write-into : tie.Need-slice-write-into Inv-loop μ-loop
+slice-write-into c = search needs
 
 add-i : tie.Need-add-i Inv-loop μ-loop
 add-i c = search needs
@@ -39,11 +40,14 @@ loop-less c = search needs
 loop-again : tie.Need-loop-again Inv-loop μ-loop
 loop-again c = search needs
 
+same-length : tie.Need-same-length Inv-loop μ-loop
+same-length c = search needs
+
 returns : tie.Need-returns Inv-loop μ-loop
 returns c = search needs
 
-pub read-registers-spec : {M : Type 1} → statement M
-read-registers-spec =
+pub read-words-spec : {M : Type 1} → statement M
+read-words-spec =
     tie.close
     (tie.spec
     Inv-loop
@@ -52,9 +56,10 @@ read-registers-spec =
     mul-word-at
     add-word-at
     word-at-requires
-    mul-u
-    element-write-u
+    mul-into
+    slice-write-into
     add-i
     loop-less
     loop-again
+    same-length
     returns)
