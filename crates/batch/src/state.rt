@@ -101,14 +101,12 @@ fn read_words(raw: &[u8; ROOM], at: usize, into: &mut [u32])
     }
 }
 
-fn read_bytes(raw: &[u8; ROOM], at: usize, into: &mut [u8])
-    requires { ⌜ at + length (now into) ≤ stateBytes ⌝ }
+// raw as a slice, here and in put_bytes: of an array behind a reference no part can be lent.
+fn read_bytes(raw: &[u8], at: usize, into: &mut [u8])
+    requires { ⌜ at + length (now into) ≤ length (now raw) ⌝ }
 {
-    let mut i = 0;
-    while i < into.len() {
-        into[i] = raw[at + i];
-        i += 1;
-    }
+    let end = at + into.len();
+    bytes::copy(&raw[at..end], into);
 }
 
 // By value: an array of entries cannot be lent.
@@ -164,14 +162,11 @@ fn put_words(raw: &mut [u8; ROOM], at: usize, words: &[u32])
     }
 }
 
-fn put_bytes(raw: &mut [u8; ROOM], at: usize, bytes: &[u8])
-    requires { ⌜ at + length (now bytes) ≤ stateBytes ⌝ }
+fn put_bytes(raw: &mut [u8], at: usize, part: &[u8])
+    requires { ⌜ at + length (now part) ≤ length (now raw) ⌝ }
 {
-    let mut i = 0;
-    while i < bytes.len() {
-        raw[at + i] = bytes[i];
-        i += 1;
-    }
+    let end = at + part.len();
+    bytes::copy(part, &mut raw[at..end]);
 }
 
 fn put_entries(raw: &mut [u8; ROOM], entries: [Waiting; CODE]) {
