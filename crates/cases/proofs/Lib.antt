@@ -1,38 +1,9 @@
--- The laws of cases. Other crates can name Promises, the laws that every layer needs, of how definitions choose
+-- The laws of cases, in rooms: one for each module of src/ that they are about, and `parts`; a room's own file
+-- says what it holds. Other crates can name Promises, the laws that every layer needs, of how definitions choose
 -- and of lists, and what to unfold so that a definition computes. No other.
 pub mod Promises
 pub mod ChoiceLaws
 pub mod ArrayLaws
 pub mod Computing
--- definitions' own laws: bytes, records, seats, checks, drafts
-mod BytesLaws
-mod RecordLaws
-mod EachLaws
-mod SeatLaws
-mod WithLaws
-mod FitLaws
-mod DraftLaws
-mod SameLaws
--- a record more: what it does to the case and to its file
-mod CountLaws
-mod SoundLaws
-mod AddProgramLaws
-mod AddLaws
-mod BlankLaws
--- whole inputs and whole files
-mod ReadLaws
-mod TurnLaws
-mod LengthLaws
-mod RoundTrip
-mod PrefixLaws
-mod RangeLaws
-mod BytewiseLaws
--- reading in parts, and a case with other steps
-mod PartLaws
-mod RunLaws
-mod CutLaws
-mod RerunLaws
--- bytes put into lent bytes, and the writer
-mod PutLaws
-mod EncodeLaws
-mod WriteLaws
+-- a room beside those of src/: bytes, draft, reader, record, same, seats and writer
+mod parts

@@ -26,35 +26,35 @@ use Rattle.cases.specs.Seats.{encodeOf, stepsBytes}
 use Rattle.cases.specs.Ranges.{ProgramFits, Ranged}
 use Rattle.cases.specs.Writing.{readsAs, readsBack, wroteOf, writtenOf}
 use Rattle.cases.proofs.ChoiceLaws.{both-true}
-use Rattle.cases.proofs.FitLaws as FitLaws
-use Rattle.cases.proofs.ReadLaws as ReadLaws
-use Rattle.cases.proofs.RoundTrip.{read-all}
-use Rattle.cases.proofs.PrefixLaws.{read-prefix, fuel-same}
-use Rattle.cases.proofs.BytewiseLaws.{sound-bytes}
-use Rattle.cases.proofs.RangeLaws as RangeLaws
-use Rattle.cases.proofs.RangeLaws.{sound-ranged}
-use Rattle.cases.proofs.RunLaws.{steps-length, file-more}
-use Rattle.cases.proofs.RerunLaws.{run-steps, other-readable}
-use Rattle.cases.proofs.WriteLaws.{stored-as, stored-is, untouched-is}
-use Rattle.cases.proofs.SameLaws.{case-is, case-self}
+use Rattle.cases.proofs.draft.RecordFitLaws as RecordFitLaws
+use Rattle.cases.proofs.reader.ReadLaws as ReadLaws
+use Rattle.cases.proofs.reader.RoundTripLaws.{round-trip}
+use Rattle.cases.proofs.reader.PrefixLaws.{read-prefix, read-fuel-same}
+use Rattle.cases.proofs.draft.BytewiseLaws.{sound-bytes}
+use Rattle.cases.proofs.draft.RangedLaws as RangedLaws
+use Rattle.cases.proofs.draft.RangedLaws.{sound-ranged}
+use Rattle.cases.proofs.parts.StepsLaws.{steps-length, steps-file-more}
+use Rattle.cases.proofs.parts.OtherRunLaws.{run-steps, other-readable}
+use Rattle.cases.proofs.writer.WriteLaws.{write-stored-as, write-stored-is, write-untouched-is}
+use Rattle.cases.proofs.same.SameLaws.{case-is, case-self}
 
 -- Reading any bytes at all
 module _ (s : List ℕ) where
   -- a reading answers 0 or a refusal of the table, 1 to 9
   pub number-in-table : numberOf (readOf s .answer) ≤ 9
-  number-in-table = read-all s .table
+  number-in-table = round-trip s .table
 
   -- a refusal hands out only the fixed empty case
   pub refusal-hands-out-nothing : numberOf (readOf s .answer) ≢ 0 → readOf s .case ≡ emptyCase
-  refusal-hands-out-nothing = read-all s .hands
+  refusal-hands-out-nothing = round-trip s .hands
 
   -- a faulty record starts within the input
   pub offset-within : offsetOf (readOf s .answer) ≤ length s
-  offset-within = omega (arith, read-all s .within)
+  offset-within = omega (arith, round-trip s .within)
 
   -- and at most at the longest file's length
   pub offset-low : offsetOf (readOf s .answer) ≤ longest
-  offset-low = read-all s .early
+  offset-low = round-trip s .early
 
   -- so number and 256 times the offset fit 32 bits
   pub packed-fits : numberOf (readOf s .answer) + 256 * offsetOf (readOf s .answer) < 2 ^ 32
@@ -62,7 +62,7 @@ module _ (s : List ℕ) where
 
   -- a success has read all of the input
   pub success-whole : numberOf (readOf s .answer) ≡ 0 → readOf s .answer ≡ Whole (length s)
-  success-whole h = read-all s .ends h ∙ ap Whole (omega arith)
+  success-whole h = round-trip s .ends h ∙ ap Whole (omega arith)
 
   -- and leaves the empty rest
   pub success-rest : numberOf (readOf s .answer) ≡ 0 → unreadOf s ≡ []
@@ -76,7 +76,7 @@ module _ (s : List ℕ) where
   -- the number that the definition counts down never decides
   pub fuel-never-decides : (n : ℕ) → length s < n → readFrom n blankDraft 0 s ≡ readOf s
   unfolding readOf
-  fuel-never-decides n h = fuel-same (suc (length s)) n blankDraft 0 s (omega arith) h
+  fuel-never-decides n h = read-fuel-same (suc (length s)) n blankDraft 0 s (omega arith) h
 
 -- "Records are checked from the left; the first faulty one decides." s is what is left to read, `at` its
 -- offset, d what was read before it
@@ -111,7 +111,7 @@ record-is-behind = ReadLaws.record-is-behind
 -- any bytes that read give, written, the same bytes
 pub write-after-read : (s : List ℕ) → IsBytes s → numberOf (readOf s .answer) ≡ 0
     → encodeOf (readOf s .case) ≡ s
-write-after-read s b h = read-all s .back b h
+write-after-read s b h = round-trip s .back b h
 
 -- and a case that passes the test for 32
 pub read-reads-back : (s : List ℕ) → IsBytes s → numberOf (readOf s .answer) ≡ 0
@@ -125,21 +125,21 @@ pub read-writes : (s : List ℕ) → IsBytes s → numberOf (readOf s .answer) �
     → (wroteOf (readOf s .case) out ≡ Stored (length s))
     × (writtenOf (readOf s .case) out ≡ s ++ drop (length s) out)
 read-writes s b h out room =
-    stored-as (readOf s .case) out (read-reads-back s b h) s (write-after-read s b h) room
+    write-stored-as (readOf s .case) out (read-reads-back s b h) s (write-after-read s b h) room
 
 -- a case that is handed out with 0 has every number in range
 pub read-ranged : (s : List ℕ) → numberOf (readOf s .answer) ≡ 0 → Ranged (readOf s .case)
 read-ranged s h =
-    let d = read-all s .sound h in
+    let d = round-trip s .sound h in
     rw (sym (d .3)) at (sound-ranged (d .0) (d .1) (d .2))
 
 -- a program with no more than the most locations has no more queues than that
 pub few-queues : (p : Program) → p .locations ≤ mostLocations → queuesOf p ≤ mostLocations
-few-queues = FitLaws.few-queues
+few-queues = RecordFitLaws.few-queues
 
 -- a thread of a program that fits is one that there may be
 pub thread-low : {p : Program} → ProgramFits p → {t : ℕ} → t < p .threads → t < mostThreads
-thread-low = RangeLaws.thread-low
+thread-low = RangedLaws.thread-low
 
 -- A case that passes the test for 32
 module _ (c : Case) (readable : readsBack c ≡ true) where
@@ -161,7 +161,7 @@ module _ (c : Case) (readable : readsBack c ≡ true) where
   -- its file is made of bytes
   pub file-bytes : IsBytes (encodeOf c)
   file-bytes =
-      let d = read-all (encodeOf c) .sound file-number in
+      let d = round-trip (encodeOf c) .sound file-number in
       rw (sym (d .3) ∙ file-case) at (sound-bytes (d .0) (d .1) (d .2))
 
   -- and every number of it is in range
@@ -181,7 +181,7 @@ module _ (c : Case) (readable : readsBack c ≡ true) where
 -- the file of any case with the steps ks: the file without steps, and behind it the steps' records
 pub other-run-file : (c : Case) (ks : List Step) → length ks ≤ mostSteps
     → encodeOf (withRun c (runWith ks)) ≡ encodeOf (withRun c (runWith [])) ++ stepsBytes ks
-other-run-file c ks few = file-more c ks [] (omega arith)
+other-run-file c ks few = steps-file-more c ks [] (omega arith)
 
 -- eight bytes for each step
 pub steps-bytes-length : (ks : List Step) → length (stepsBytes ks) ≡ stepSize * length ks
@@ -199,20 +199,20 @@ readable-exactly c = (
 -- "Refusals .. store nothing."
 pub refusal-stores-nothing : (c : Case) (out : List ℕ) (m : ℕ) → wroteOf c out ≡ Untouched m
     → writtenOf c out ≡ out
-refusal-stores-nothing c out m h = untouched-is c out m h
+refusal-stores-nothing c out m h = write-untouched-is c out m h
 
 -- "A success writes from the front and touches nothing behind."
 pub success-from-the-front : (c : Case) (out : List ℕ) (n : ℕ) → wroteOf c out ≡ Stored n
     → (n ≡ length (encodeOf c)) × (writtenOf c out ≡ encodeOf c ++ drop n out)
 success-from-the-front c out n h =
-    let e = stored-is c out n h in
+    let e = write-stored-is c out n h in
     (e .1, rw (e .1) (e .2))
 
 -- what was written at the front of lent bytes reads as the case, whatever stood there
 pub written-reads : (c : Case) (out : List ℕ) (n : ℕ) → wroteOf c out ≡ Stored n
     → readOf (take n (writtenOf c out)) ≡ record { answer = Whole n; case = c }
 written-reads c out n h =
-    let e = stored-is c out n h in
+    let e = write-stored-is c out n h in
     let front = take-at (encodeOf c) (drop (length (encodeOf c)) out) (length (encodeOf c)) refl in
     rw (e .1, e .2, front) (read-after-write c (e .0))
 

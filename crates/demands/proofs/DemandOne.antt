@@ -39,7 +39,7 @@ use Rattle.search.specs.declared.ask.Outcome.the-variants.{Refused}
 use Rattle.search.specs.Question.{reaches, askOf, outcomeNo, toldOf, questionOf, shownOf}
 use Rattle.search.proofs.Promises as Search
 use Rattle.demands.specs.Order.{outOf, leftOf, unorderedOf, ninthOf, ninetySeventhOf}
-use Rattle.demands.proofs.TableLaws as TableLaws
+use Rattle.demands.proofs.answers.TableLaws as TableLaws
 
 -- "Any bytes may be given as a case. Each is judged or refused by a number in your table,"
 module _ (s : List ℕ) (bytes : IsBytes s) where

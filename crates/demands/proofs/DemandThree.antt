@@ -20,18 +20,17 @@ use Rattle.machine.specs.declared.runs.Verdict.the-variants.{Legal}
 use Rattle.machine.specs.View.{wordOf}
 use Rattle.machine.specs.Rules.{instructionAt, ruleOf, nextOf}
 use Rattle.machine.specs.Fit.{sumTo, Fits}
-use Rattle.machine.specs.Next.{rankOf}
 use Rattle.machine.specs.Work.{work, Unfinished, programWeight}
-use Rattle.machine.specs.Model.{Lawful, fullLength, LegalRun, CannotGoOn, FinishedRun}
+use Rattle.machine.specs.Model.{fullLength, LegalRun, CannotGoOn, FinishedRun}
 use Rattle.machine.specs.Judge.{judged, judgeOf}
 use Rattle.machine.specs.Ptso.{ptso}
-use Rattle.machine.proofs.Promises.{program-fits, ptso-lawful, each-costs-one, full-length-weighs, progress}
+use Rattle.machine.proofs.Promises.{program-fits, each-costs-one, full-length-weighs, progress, case-lawful}
 use Rattle.demands.specs.Writes.{fixedOf, Writer, LastWrite, Unwritten, Alone}
 use Rattle.demands.specs.Carried.{lastRun}
-use Rattle.demands.proofs.EndLaws as EndLaws
-use Rattle.demands.proofs.JudgedLaws as JudgedLaws
-use Rattle.demands.proofs.MemoryLaws as MemoryLaws
-use Rattle.demands.proofs.AnyThreadLaws as AnyThreadLaws
+use Rattle.demands.proofs.ends.EndLaws as EndLaws
+use Rattle.demands.proofs.answers.JudgedLaws as JudgedLaws
+use Rattle.demands.proofs.ends.MemoryLaws as MemoryLaws
+use Rattle.demands.proofs.turns.AnyThreadLaws as AnyThreadLaws
 
 -- "So all runs that cannot go on have one length, known from the program alone." The full length is what the
 -- program's instructions weigh.
@@ -40,11 +39,8 @@ known-from-the-program = full-length-weighs
 
 -- A case that can be read
 module _ (c : Case) (readable : readsBack c ≡ true) where
-  laws : Lawful (ptso (c .program)) (Fits (c .program)) rankOf
-  laws = ptso-lawful (c .program) (program-fits c readable)
-
   fit : (ks : List Step) (u : State) → LegalRun (ptso (c .program)) ks u → Fits (c .program) u
-  fit = EndLaws.run-fits (ptso (c .program)) laws
+  fit = EndLaws.run-fits (ptso (c .program)) (case-lawful c readable)
 
   working : (s : State) → Fits (c .program) s → 0 < work (c .program) s
       → (k : Step) × (stepFault (limitsOf (c .program)) k ≡ 0) × (ruleOf (c .program) s k ≡ 0)
@@ -69,11 +65,15 @@ module _ (c : Case) (readable : readsBack c ≡ true) where
         → stepFault (limitsOf (c .program)) k ≡ 0
         → ruleOf (c .program) u k ≡ 0
         → work (c .program) (nextOf (c .program) u k) + 1 ≡ work (c .program) u
-    each-step-one = EndLaws.step-one (ptso (c .program)) laws (each-costs-one (c .program)) u (fit ks u run)
+    each-step-one =
+        EndLaws.step-one (ptso (c .program)) (case-lawful c readable) (each-costs-one (c .program)) u
+        (fit ks u run)
 
     -- "So all runs that cannot go on have one length, known from the program alone."
     pub one-length : CannotGoOn (ptso (c .program)) u → length ks ≡ fullLength (ptso (c .program))
-    one-length = EndLaws.one-length (ptso (c .program)) laws working (each-costs-one (c .program)) ks u run
+    one-length =
+        EndLaws.one-length (ptso (c .program)) (case-lawful c readable) working (each-costs-one (c .program))
+        ks u run
 
     -- Where it cannot go on, every instruction is issued and no entry waits.
     pub nothing-left : CannotGoOn (ptso (c .program)) u → Unfinished (c .program) u → ⊥
@@ -82,16 +82,18 @@ module _ (c : Case) (readable : readsBack c ≡ true) where
     -- And where a run has that length, it cannot go on; no run is longer; every run can be made that long.
     pub full-length-ends : length ks ≡ fullLength (ptso (c .program)) → CannotGoOn (ptso (c .program)) u
     full-length-ends =
-        EndLaws.full-length-ends (ptso (c .program)) laws (each-costs-one (c .program)) ks u run
+        EndLaws.full-length-ends (ptso (c .program)) (case-lawful c readable) (each-costs-one (c .program))
+        ks u run
 
     pub none-longer : length ks ≤ fullLength (ptso (c .program))
-    none-longer = EndLaws.none-longer (ptso (c .program)) laws ks u run
+    none-longer = EndLaws.none-longer (ptso (c .program)) (case-lawful c readable) ks u run
 
     pub every-run-ends : (ms : List Step) × (v : State)
         × FinishedRun (ptso (c .program)) (ks ++ ms) v
         × (length (ks ++ ms) ≡ fullLength (ptso (c .program)))
     every-run-ends =
-        EndLaws.every-run-ends (ptso (c .program)) laws working (each-costs-one (c .program)) ks u run
+        EndLaws.every-run-ends (ptso (c .program)) (case-lawful c readable) working
+        (each-costs-one (c .program)) ks u run
 
   -- "At their end each location holds the last write, in program order, of one of the threads that write it, or
   -- its first content if none does;" The word is the one that the instruction fixed as this run issued it.
@@ -100,7 +102,7 @@ module _ (c : Case) (readable : readsBack c ≡ true) where
       → (l : ℕ) → l < c .program .locations
       → ((t : ℕ) × (i : ℕ) × LastWrite (c .program) t l i × (wordOf u l ≡ fixedOf (c .program) ks t i))
       ⊎ (Unwritten (c .program) l × (wordOf u l ≡ getD (c .program .first) l 0))
-  end-of-run = MemoryLaws.end-holds (c .program) (program-fits c readable)
+  end-of-run = MemoryLaws.memory-at-end (c .program) (program-fits c readable)
 
   -- Of a store of a word or an exchange that is the word that stands in the program.
   pub word-of-the-program : (ks : List Step) (u : State)
@@ -108,7 +110,7 @@ module _ (c : Case) (readable : readsBack c ≡ true) where
       → (t i : ℕ) → i < countAt (c .program) t
       → instructionAt (c .program) t i .operation ≢ storeRegister
       → fixedOf (c .program) ks t i ≡ instructionAt (c .program) t i .word
-  word-of-the-program = MemoryLaws.own-word (c .program) (program-fits c readable)
+  word-of-the-program = MemoryLaws.memory-own-word (c .program) (program-fits c readable)
 
   -- "taking one location alone, any of those threads can be the one." In the run that `lastRun` writes out.
   pub any-thread : (t l : ℕ)
@@ -128,7 +130,7 @@ module _ (c : Case) (readable : readsBack c ≡ true) where
       → (ks : List Step) (u : State)
       → FinishedRun (ptso (c .program)) ks u
       → wordOf u l ≡ instructionAt (c .program) t i .word
-  one-writer = MemoryLaws.alone-holds (c .program) (program-fits c readable)
+  one-writer = MemoryLaws.memory-alone (c .program) (program-fits c readable)
 
   -- A location that no thread writes keeps its first content after every legal run.
   pub no-writer : (l : ℕ) → l < c .program .locations
@@ -136,4 +138,4 @@ module _ (c : Case) (readable : readsBack c ≡ true) where
       → (ks : List Step) (u : State)
       → LegalRun (ptso (c .program)) ks u
       → wordOf u l ≡ getD (c .program .first) l 0
-  no-writer = MemoryLaws.unwritten-keeps (c .program) (program-fits c readable)
+  no-writer = MemoryLaws.memory-unwritten (c .program) (program-fits c readable)

@@ -23,23 +23,19 @@ use Rattle.machine.specs.declared.cells.State.{State}
 use Rattle.machine.specs.declared.runs.Verdict.the-variants.{Legal, Illegal}
 use Rattle.machine.specs.View.{wordOf, issuedOf}
 use Rattle.machine.specs.Rules.{ruleOf, startOf}
-use Rattle.machine.specs.Model.{Lawful, fullLength, Leads, Faultless, StopsAt, Listed}
+use Rattle.machine.specs.Model.{fullLength, Leads, Faultless, StopsAt, Listed}
 use Rattle.machine.specs.Judge.{runOf, judgeOf, judgeBytes}
 use Rattle.machine.specs.Next.{rankOf}
-use Rattle.machine.specs.Fit.{Fits}
 use Rattle.machine.specs.Ptso.{ptso}
 use Rattle.machine.proofs.Promises as Machine
 use Rattle.search.specs.declared.ask.Outcome.the-variants.{Reached, Unreachable, Undecided}
 use Rattle.search.specs.Walk.{Visit, InOrder, walkFrom}
 use Rattle.search.specs.Question.{reaches, None, FirstThat, questionOf, shownOf}
 use Rattle.search.proofs.Promises as Search
-use Rattle.demands.proofs.AskedLaws as AskedLaws
+use Rattle.demands.proofs.answers.AskedLaws as AskedLaws
 
 -- The judge, over a case that can be read
 module _ (c : Case) (readable : readsBack c ≡ true) where
-  laws : Lawful (ptso (c .program)) (Fits (c .program)) rankOf
-  laws = Machine.ptso-lawful (c .program) (Machine.program-fits c readable)
-
   -- "It passes a run exactly when every step is legal,": with their number, and the state where they end
   pub passes-exactly :
       (judgeOf c .verdict ≡ Legal (length (runOf c)))
@@ -73,15 +69,15 @@ module _ (c : Case) (readable : readsBack c ≡ true) where
   pub the-stated-walk : (ks : List Step) (u : State)
       → Listed (record { run = ks; end = u }) (walkFrom (ptso (c .program)))
       ↔ (Faultless (ptso (c .program)) ks × Leads (ptso (c .program)) (startOf (c .program)) ks u)
-  the-stated-walk = Search.walk-exact (ptso (c .program)) laws
+  the-stated-walk = Search.walk-exact (ptso (c .program)) (Machine.case-lawful c readable)
 
   pub the-stated-order : InOrder rankOf (walkFrom (ptso (c .program)))
-  the-stated-order = Search.walk-in-order (ptso (c .program)) laws
+  the-stated-order = Search.walk-in-order (ptso (c .program)) (Machine.case-lawful c readable)
 
   pub no-other-walk : (vs : List (Visit State Step)) → InOrder rankOf vs
       → ((v : Visit State Step) → Listed v vs ↔ Listed v (walkFrom (ptso (c .program))))
       → vs ≡ walkFrom (ptso (c .program))
-  no-other-walk = Search.walk-only (ptso (c .program)) laws
+  no-other-walk = Search.walk-only (ptso (c .program)) (Machine.case-lawful c readable)
 
 -- bytes that read are judged as the case they read as
 pub judged-as-read : (s : List ℕ) → IsBytes s → numberOf (readOf s .answer) ≡ 0

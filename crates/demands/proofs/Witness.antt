@@ -32,7 +32,7 @@ use Rattle.machine.specs.Work.{Unfinished}
 use Rattle.machine.specs.Model.{fullLength, Leads, Faultless, StopsAt, Listed, LegalRun, FinishedRun}
 use Rattle.machine.specs.Next.{persistStep}
 use Rattle.machine.specs.Ptso.{ptso}
-use Rattle.machine.proofs.Promises.{program-fits, ptso-lawful, full-length-most}
+use Rattle.machine.proofs.Promises.{program-fits, ptso-lawful, full-length-most, case-lawful}
 use Rattle.machine.proofs.Effects.{start-issued}
 use Rattle.search.specs.Walk.{here, walkFrom}
 use Rattle.search.specs.Question.{misses, missesAt, lacksAt, reachesIn, reaches, None, FirstThat, askOf}
@@ -159,8 +159,7 @@ pub example-first :
     (here (startOf (example .program)))
 unfolding example emptyCase reaches reachesIn anyFrom missesAt misses lacksAt startOf None Listed both either
 example-first =
-    let w = walk-first (ptso (example .program))
-    (ptso-lawful (example .program) (program-fits example example-readable)) in
+    let w = walk-first (ptso (example .program)) (case-lawful example example-readable) in
     record { after = w .0; stands = w .1; passes = refl; none = λ v h. absurd h }
 
 -- a question that is not, whatever is asked: of a budget of none

@@ -19,18 +19,19 @@ use Rattle.machine.specs.Rules.{instructionAt, entryAt, ruleOf, nextOf, 
 use Rattle.machine.specs.Joins.{joins, exchanges, enters, storeOf, swapOf, onWay, lastOr}
 use Rattle.machine.specs.Fit.{Fits}
 use Rattle.machine.specs.Next.{issueStep, moveStep, persistStep}
-use Rattle.machine.proofs.RangeLaws as RangeLaws
-use Rattle.machine.proofs.StartLaws as StartLaws
-use Rattle.machine.proofs.EffectLaws as EffectLaws
-use Rattle.machine.proofs.PersistLaws as PersistLaws
-use Rattle.machine.proofs.WordLaws as WordLaws
+use Rattle.machine.proofs.steps.StepFaultLaws as StepFaultLaws
+use Rattle.machine.proofs.fit.StartLaws as StartLaws
+use Rattle.machine.proofs.steps.IssueEffectLaws as IssueEffectLaws
+use Rattle.machine.proofs.steps.MoveEffectLaws as MoveEffectLaws
+use Rattle.machine.proofs.steps.PersistEffectLaws as PersistEffectLaws
+use Rattle.machine.proofs.steps.WordEffectLaws as WordEffectLaws
 
 -- a step that passes the checks 5 and 8 is an issue, a move or a persist
 pub step-kinds : (p : Program) (k : Step) → stepFault (limitsOf p) k ≡ 0
     → ((t : ℕ) × (t < p .threads) × (k ≡ issueStep t))
     ⊎ ((t : ℕ) × (i : ℕ) × (t < p .threads) × (k ≡ moveStep t i))
     ⊎ ((q : ℕ) × (q < queuesOf p) × (k ≡ persistStep q))
-step-kinds = RangeLaws.step-kinds
+step-kinds = StepFaultLaws.step-kinds
 
 -- "a run starts from the first contents, nothing queued, waiting or issued"
 module _ (p : Program) where
@@ -47,90 +48,90 @@ module _ (p : Program) where
   start-word = StartLaws.start-word p
 
   pub start-words : (l : ℕ) → onWay p (startOf p) l ≡ []
-  start-words = WordLaws.start-words p
+  start-words = WordEffectLaws.start-words p
 
 -- A state that fits its program
 module _ (p : Program) (s : State) (fit : Fits p s) where
   -- what an issue does to each part
   module _ (t : ℕ) (low : t < p .threads) (legal : ruleOf p s (issueStep t) ≡ 0) where
     pub issue-left : issuedOf s t < countAt p t
-    issue-left = EffectLaws.issue-left p s fit t low legal
+    issue-left = IssueEffectLaws.issue-left p s fit t low legal
 
     pub issue-issued : issuedOf (nextOf p s (issueStep t)) t ≡ suc (issuedOf s t)
-    issue-issued = EffectLaws.issue-issued p s fit t low legal
+    issue-issued = IssueEffectLaws.issue-issued p s fit t low legal
 
     pub issue-issued-other : (k : ℕ) → k ≢ t → issuedOf (nextOf p s (issueStep t)) k ≡ issuedOf s k
-    issue-issued-other = EffectLaws.issue-issued-other p s fit t low legal
+    issue-issued-other = IssueEffectLaws.issue-issued-other p s fit t low legal
 
     pub issue-buffer : buffer (nextOf p s (issueStep t)) t
         ≡ buffer s t ++ joins (s .registers) t (instructionAt p t (issuedOf s t))
-    issue-buffer = EffectLaws.issue-buffer p s fit t low legal
+    issue-buffer = IssueEffectLaws.issue-buffer p s fit t low legal
 
     pub issue-buffer-other : (k : ℕ) → k < mostThreads → k ≢ t
         → buffer (nextOf p s (issueStep t)) k ≡ buffer s k
-    issue-buffer-other = EffectLaws.issue-buffer-other p s fit t low legal
+    issue-buffer-other = IssueEffectLaws.issue-buffer-other p s fit t low legal
 
     pub issue-queue : (q : ℕ) → q < mostLocations
         → queue (nextOf p s (issueStep t)) q ≡ queue s q ++ exchanges p q (instructionAt p t (issuedOf s t))
-    issue-queue = EffectLaws.issue-queue p s fit t low legal
+    issue-queue = IssueEffectLaws.issue-queue p s fit t low legal
 
     pub issue-word : (l : ℕ) → wordOf (nextOf p s (issueStep t)) l ≡ wordOf s l
-    issue-word = EffectLaws.issue-word p s fit t low legal
+    issue-word = IssueEffectLaws.issue-word p s fit t low legal
 
     pub issue-words : (l : ℕ) → l < p .locations
         → onWay p (nextOf p s (issueStep t)) l ≡ onWay p s l ++ swapOf l (instructionAt p t (issuedOf s t))
-    issue-words = WordLaws.issue-words p s fit t low legal
+    issue-words = WordEffectLaws.issue-words p s fit t low legal
 
     -- "Exchange and mfence need the own buffer empty (else 22)": of the exchange
     pub exchange-alone : instructionAt p t (issuedOf s t) .operation ≡ exchange → buffer s t ≡ []
-    exchange-alone = EffectLaws.exchange-alone p s fit t low legal
+    exchange-alone = IssueEffectLaws.exchange-alone p s fit t low legal
 
   -- what a move does to each part
   module _ (t i : ℕ) (low : t < p .threads) (legal : ruleOf p s (moveStep t i) ≡ 0) where
     pub move-within : i < length (buffer s t)
-    move-within = EffectLaws.move-within p s fit t i low legal
+    move-within = MoveEffectLaws.move-within p s fit t i low legal
 
     -- "Behind position 0 only a flush-opt may go (else 25)"
     pub move-first-or : (i ≡ 0) ⊎ ((l : Location) × (entryAt (buffer s t) i ≡ FlushOpt l))
-    move-first-or = EffectLaws.move-first-or p s fit t i low legal
+    move-first-or = MoveEffectLaws.move-first-or p s fit t i low legal
 
     pub move-issued : (k : ℕ) → issuedOf (nextOf p s (moveStep t i)) k ≡ issuedOf s k
-    move-issued = EffectLaws.move-issued p s fit t i low legal
+    move-issued = MoveEffectLaws.move-issued p s fit t i low legal
 
     pub move-buffer : buffer (nextOf p s (moveStep t i)) t ≡ without i (buffer s t)
-    move-buffer = EffectLaws.move-buffer p s fit t i low legal
+    move-buffer = MoveEffectLaws.move-buffer p s fit t i low legal
 
     pub move-buffer-other : (k : ℕ) → k < mostThreads → k ≢ t
         → buffer (nextOf p s (moveStep t i)) k ≡ buffer s k
-    move-buffer-other = EffectLaws.move-buffer-other p s fit t i low legal
+    move-buffer-other = MoveEffectLaws.move-buffer-other p s fit t i low legal
 
     pub move-queue : (q : ℕ) → q < mostLocations
         → queue (nextOf p s (moveStep t i)) q ≡ queue s q ++ enters p t q (entryAt (buffer s t) i)
-    move-queue = EffectLaws.move-queue p s fit t i low legal
+    move-queue = MoveEffectLaws.move-queue p s fit t i low legal
 
     pub move-word : (l : ℕ) → wordOf (nextOf p s (moveStep t i)) l ≡ wordOf s l
-    move-word = EffectLaws.move-word p s fit t i low legal
+    move-word = MoveEffectLaws.move-word p s fit t i low legal
 
     pub move-words : (l : ℕ) → l < p .locations
         → onWay p (nextOf p s (moveStep t i)) l ≡ onWay p s l ++ storeOf l (entryAt (buffer s t) i)
-    move-words = WordLaws.move-words p s fit t i low legal
+    move-words = WordEffectLaws.move-words p s fit t i low legal
 
   -- what a persist does to each part
   module _ (q : ℕ) (low : q < queuesOf p) (legal : ruleOf p s (persistStep q) ≡ 0) where
     pub persist-issued : (k : ℕ) → issuedOf (nextOf p s (persistStep q)) k ≡ issuedOf s k
-    persist-issued = PersistLaws.persist-issued p s fit q low legal
+    persist-issued = PersistEffectLaws.persist-issued p s fit q low legal
 
     pub persist-buffer : (t : ℕ) → buffer (nextOf p s (persistStep q)) t ≡ buffer s t
-    persist-buffer = PersistLaws.persist-buffer p s fit q low legal
+    persist-buffer = PersistEffectLaws.persist-buffer p s fit q low legal
 
     pub persist-queue : (h : Slot) × (queue s q ≡ h ∷ queue (nextOf p s (persistStep q)) q)
-    persist-queue = PersistLaws.persist-queue p s fit q low legal
+    persist-queue = PersistEffectLaws.persist-queue p s fit q low legal
 
     pub persist-queue-other : (m : ℕ) → m < mostLocations → m ≢ q
         → queue (nextOf p s (persistStep q)) m ≡ queue s m
-    persist-queue-other = PersistLaws.persist-queue-other p s fit q low legal
+    persist-queue-other = PersistEffectLaws.persist-queue-other p s fit q low legal
 
     pub persist-words : (l : ℕ) → l < p .locations
         → (out : List ℕ) × (onWay p s l ≡ out ++ onWay p (nextOf p s (persistStep q)) l)
         × (wordOf (nextOf p s (persistStep q)) l ≡ lastOr out (wordOf s l))
-    persist-words = WordLaws.persist-words p s fit q low legal
+    persist-words = WordEffectLaws.persist-words p s fit q low legal

@@ -38,24 +38,25 @@ use Rattle.machine.specs.Next.{issueStep, moveStep, persistStep, rankOf,
 use Rattle.machine.specs.Ptso.{ptso}
 use Rattle.machine.specs.Offer.{Movable}
 use Rattle.machine.specs.Sizes.{allSlots, mostCandidates, mostWork}
-use Rattle.machine.proofs.QueueOfLaws as QueueOfLaws
-use Rattle.machine.proofs.StartLaws as StartLaws
-use Rattle.machine.proofs.RangeLaws.{fault-none}
-use Rattle.machine.proofs.StepLaws as StepLaws
-use Rattle.machine.proofs.ProgressLaws as ProgressLaws
-use Rattle.machine.proofs.RunLaws as RunLaws
-use Rattle.machine.proofs.ModelLaws as ModelLaws
-use Rattle.machine.proofs.PtsoLaws as PtsoLaws
-use Rattle.machine.proofs.RankLaws as RankLaws
-use Rattle.machine.proofs.ReadyLaws as ReadyLaws
-use Rattle.machine.proofs.RuleLaws as RuleLaws
-use Rattle.machine.proofs.FitLaws as FitLaws
-use Rattle.machine.proofs.FoundLaws as FoundLaws
-use Rattle.machine.proofs.PlaceLaws as PlaceLaws
-use Rattle.machine.proofs.BlankStepLaws as BlankStepLaws
-use Rattle.machine.proofs.SameEntryLaws as SameEntryLaws
-use Rattle.machine.proofs.JudgeLaws.{leads-or-stops, says-legal, says-illegal, legal-says, illegal-says}
-use Rattle.machine.proofs.JudgeLaws.{says-leads, says-stops, state-is}
+use Rattle.machine.proofs.view.QueueOfLaws as QueueOfLaws
+use Rattle.machine.proofs.fit.StartLaws as StartLaws
+use Rattle.machine.proofs.steps.StepFaultLaws.{fault-none}
+use Rattle.machine.proofs.steps.StepLaws as StepLaws
+use Rattle.machine.proofs.steps.ProgressLaws as ProgressLaws
+use Rattle.machine.proofs.runs.RerunLaws as RerunLaws
+use Rattle.machine.proofs.model.ModelLaws as ModelLaws
+use Rattle.machine.proofs.model.PtsoLaws as PtsoLaws
+use Rattle.machine.proofs.next.NextLaws as NextLaws
+use Rattle.machine.proofs.rules.ReadyLaws as ReadyLaws
+use Rattle.machine.proofs.rules.RuleLaws as RuleLaws
+use Rattle.machine.proofs.fit.FitTestLaws as FitTestLaws
+use Rattle.machine.proofs.look.MarkerLaws as MarkerLaws
+use Rattle.machine.proofs.runs.VerdictLaws as VerdictLaws
+use Rattle.machine.proofs.behind.BlankStepLaws as BlankStepLaws
+use Rattle.machine.proofs.behind.BlankSameLaws as BlankSameLaws
+use Rattle.machine.proofs.runs.JudgeLaws.{leads-or-stops, judge-says-legal, judge-says-illegal}
+use Rattle.machine.proofs.runs.JudgeLaws.{judge-legal-says, judge-illegal-says, judge-says-leads}
+use Rattle.machine.proofs.runs.JudgeLaws.{judge-says-stops, judge-state-is}
 
 -- the program of a case that is handed out with 0 is one that the machine can run
 pub read-fits : (s : List ℕ) → numberOf (readOf s .answer) ≡ 0 → ProgramFits (readOf s .case .program)
@@ -140,7 +141,7 @@ module _ (p : Program) (fits : ProgramFits p) where
       → SameEntries s u
       → s ≡ u
   run-same ks js s u faultless leads other goes =
-      SameEntryLaws.blank-same s u
+      BlankSameLaws.blank-same s u
       (leads-fits (ptso p) ptso-lawful _ ks s start-fits faultless leads .sized)
       (leads-fits (ptso p) ptso-lawful _ js u start-fits other goes .sized)
       (run-blank ks s faultless leads) (run-blank js u other goes)
@@ -152,7 +153,7 @@ start-blank = BlankStepLaws.start-blank
 -- two states that are blank behind their entries, and have the same entries, are the same state, array for
 -- array
 pub blank-same : (s u : State) → Sized s → Sized u → BlankBehind s → BlankBehind u → SameEntries s u → s ≡ u
-blank-same = SameEntryLaws.blank-same
+blank-same = BlankSameLaws.blank-same
 
 -- "known from the program alone": it is what the threads' instructions weigh
 pub full-length-weighs : (p : Program) → fullLength (ptso p) ≡ sumTo mostThreads (programWeight p)
@@ -164,6 +165,10 @@ module _ (c : Case) (readable : readsBack c ≡ true) where
   pub program-fits : ProgramFits (c .program)
   program-fits = readable-ranged c readable .program
 
+  -- so it has the laws of a machine
+  pub case-lawful : Lawful (ptso (c .program)) (Fits (c .program)) rankOf
+  case-lawful = ptso-lawful (c .program) program-fits
+
   judge-is : judgeOf c ≡ judgeFrom (ptso (c .program)) 0 (startOf (c .program)) (runOf c)
   unfolding judgeOf judgeRun
   judge-is = pick-false _ _ _ (true-not _ readable)
@@ -174,13 +179,13 @@ module _ (c : Case) (readable : readsBack c ≡ true) where
       ↔ ((u : State) × Leads (ptso (c .program)) (startOf (c .program)) (runOf c) u)
   judge-legal =
       rw judge-is (
-        says-leads (ptso (c .program)) (startOf (c .program)) (runOf c) (length (runOf c)),
-        (λ e. legal-says (ptso (c .program)) (startOf (c .program)) (runOf c) (e .0) (e .1)),
+        judge-says-leads (ptso (c .program)) (startOf (c .program)) (runOf c) (length (runOf c)),
+        (λ e. judge-legal-says (ptso (c .program)) (startOf (c .program)) (runOf c) (e .0) (e .1)),
       )
 
   pub judge-legal-state : (u : State) → Leads (ptso (c .program)) (startOf (c .program)) (runOf c) u
       → judgeOf c .state ≡ u
-  judge-legal-state u h = rw judge-is (state-is _ _ _ _ u (says-legal _ _ _ u h))
+  judge-legal-state u h = rw judge-is (judge-state-is _ _ _ _ u (judge-says-legal _ _ _ u h))
 
   -- "else it names the first illegal step and its rule": the rule that this step breaks in the state that the
   -- steps before it lead to, and that state
@@ -190,24 +195,24 @@ module _ (c : Case) (readable : readsBack c ≡ true) where
       × (ruleOf (c .program) u (getD (runOf c) i noStep) ≡ r))
   judge-illegal r i =
       rw judge-is (
-        says-stops (ptso (c .program)) (startOf (c .program)) (runOf c) r i,
-        (λ e. illegal-says (ptso (c .program)) (startOf (c .program)) (runOf c) i (e .0) r (e .1) (e .2)),
+        judge-says-stops (ptso (c .program)) (startOf (c .program)) (runOf c) r i,
+        (λ e. judge-illegal-says (ptso (c .program)) (startOf (c .program)) (runOf c) i (e .0) r (e .1) (e .2)),
       )
 
   pub judge-illegal-state : (i : ℕ) (u : State)
       → StopsAt (ptso (c .program)) (startOf (c .program)) (runOf c) i u
       → judgeOf c .state ≡ u
-  judge-illegal-state i u h = rw judge-is (state-is _ _ _ _ u (says-illegal _ _ _ i u h))
+  judge-illegal-state i u h = rw judge-is (judge-state-is _ _ _ _ u (judge-says-illegal _ _ _ i u h))
 
   -- its steps pass the checks 5 and 8
   pub run-faultless : Faultless (ptso (c .program)) (runOf c)
-  run-faultless = RunLaws.run-faultless c (readable-ranged c readable)
+  run-faultless = RerunLaws.run-faultless c (readable-ranged c readable)
 
   -- a legal run of it ends in a state that fits, and has used up one of the full length for each of its steps
   pub legal-run-fits : (u : State) → Leads (ptso (c .program)) (startOf (c .program)) (runOf c) u
       → Fits (c .program) u
   legal-run-fits u h =
-      leads-fits (ptso (c .program)) (ptso-lawful (c .program) program-fits) _ (runOf c) u
+      leads-fits (ptso (c .program)) case-lawful _ (runOf c) u
       (start-fits (c .program) program-fits) run-faultless h
 
   pub legal-run-work : (u : State) → Leads (ptso (c .program)) (startOf (c .program)) (runOf c) u
@@ -216,7 +221,7 @@ module _ (c : Case) (readable : readsBack c ≡ true) where
   legal-run-work u h =
       let one = spent-length (ptso (c .program)) (each-costs-one (c .program)) (startOf (c .program))
       (runOf c) in
-      let all = leads-work (ptso (c .program)) (ptso-lawful (c .program) program-fits) _ (runOf c) u
+      let all = leads-work (ptso (c .program)) case-lawful _ (runOf c) u
       (start-fits (c .program) program-fits) run-faultless h in
       omega arith
 
@@ -245,7 +250,7 @@ module _ (s : List ℕ) where
 
   -- the number and the place are low enough to be packed: a refusal's, a rule's, or those of a legal run
   pub verdict-low : (verdictNo (judgeBytes s .verdict) < 256) × (verdictPlace (judgeBytes s .verdict) ≤ longest)
-  verdict-low = PlaceLaws.verdict-low s
+  verdict-low = VerdictLaws.verdict-low s
 
 -- "It doesn't look at kinds 4 and 5."
 pub ask-not-looked-at : (c : Case) (a : Ask) → judgeRun (withAsk c a) ≡ judgeRun c
@@ -254,7 +259,7 @@ ask-not-looked-at c a = refl
 
 -- the run of a case with the steps ks is ks
 pub run-again : (c : Case) (ks : List Step) → runOf (withRun c (runWith ks)) ≡ ks
-run-again = RunLaws.run-again
+run-again = RerunLaws.run-again
 
 -- where they are a legal run of a case that passes the test for 32: the case with them passes it too, and the
 -- judge passes them, with their number and their end
@@ -262,10 +267,10 @@ module _ (c : Case) (readable : readsBack c ≡ true) (ks : List Step) (u : Stat
     (faultless : Faultless (ptso (c .program)) ks)
     (legal : Leads (ptso (c .program)) (startOf (c .program)) ks u) where
   pub rerun-reads : readsBack (withRun c (runWith ks)) ≡ true
-  rerun-reads = RunLaws.rerun-reads c readable ks u faultless legal
+  rerun-reads = RerunLaws.rerun-reads c readable ks u faultless legal
 
   pub rerun-passes : judgeOf (withRun c (runWith ks)) ≡ judged (Legal (length ks)) u
-  rerun-passes = RunLaws.rerun-passes c readable ks u faultless legal
+  rerun-passes = RerunLaws.rerun-passes c readable ks u faultless legal
 
 -- A state that fits its program
 module _ (p : Program) (s : State) (fit : Fits p s) where
@@ -313,19 +318,19 @@ module _ (p : Program) (s : State) (fit : Fits p s) where
 
   -- the array of ranks that the code makes stands for the list of next steps
   pub next-steps-are : map stepAt (take (nextSteps p s .count) (nextSteps p s .ranks)) ≡ legalSteps (ptso p) s
-  next-steps-are = RankLaws.next-steps-are p s (fit .program)
+  next-steps-are = NextLaws.next-steps-are p s (fit .program)
 
   -- the code's way through it: step i is the one of rank i, and the others stand behind it
   pub next-step-here : (i : ℕ) → i < nextSteps p s .count
       → drop i (legalSteps (ptso p) s)
       ≡ stepAt (getD (nextSteps p s .ranks) i 0) ∷ drop (i + 1) (legalSteps (ptso p) s)
-  next-step-here = RankLaws.next-step-here p s (fit .program)
+  next-step-here = NextLaws.next-step-here p s (fit .program)
 
   pub next-steps-few : nextSteps p s .count ≤ mostCandidates
-  next-steps-few = RankLaws.next-steps-few p s (fit .program)
+  next-steps-few = NextLaws.next-steps-few p s (fit .program)
 
   pub next-steps-end : drop (nextSteps p s .count) (legalSteps (ptso p) s) ≡ []
-  next-steps-end = RankLaws.next-steps-end p s
+  next-steps-end = NextLaws.next-steps-end p s
 
   -- and what the code that lists them asks for
   pub next-asks : ProgramFits p × Movable (s .buffers) (s .waiting) × Shallow (s .lengths)
@@ -334,7 +339,7 @@ module _ (p : Program) (s : State) (fit : Fits p s) where
 
 -- the test for 33 and the facts that proofs use are one: of a state whose arrays are as long as their types say
 pub fits-exactly : (p : Program) (s : State) → ProgramFits p → Sized s → (misfits p s ≡ false) ↔ Fits p s
-fits-exactly p s g z = (FitLaws.fits-is p s g z, FitLaws.is-fits p s)
+fits-exactly p s g z = (FitTestLaws.fits-is p s g z, FitTestLaws.is-fits p s)
 
 -- "Looking for a thread's marker goes through every queue and stops at the first one found."
 module _ (marks lengths : List ℕ) (t : ℕ) where
@@ -345,19 +350,19 @@ module _ (marks lengths : List ℕ) (t : ℕ) where
       < length (marksIn marks lengths (foundQueue (markerOf marks lengths t))))
       × (getD (marksIn marks lengths (foundQueue (markerOf marks lengths t)))
       (foundPosition (markerOf marks lengths t)) 0 ≡ t + 1)
-  marker-stands = FoundLaws.marker-stands marks lengths t
+  marker-stands = MarkerLaws.marker-stands marks lengths t
 
   -- it is the first: no earlier queue holds one of that thread, and no earlier position of its own queue does
   pub marker-first : isAt (markerOf marks lengths t) ≡ true
       → ((q i : ℕ) → q < foundQueue (markerOf marks lengths t) → getD (marksIn marks lengths q) i 0 ≢ t + 1)
       × ((i : ℕ) → i < foundPosition (markerOf marks lengths t)
       → getD (marksIn marks lengths (foundQueue (markerOf marks lengths t))) i 0 ≢ t + 1)
-  marker-first = FoundLaws.marker-first marks lengths t
+  marker-first = MarkerLaws.marker-first marks lengths t
 
   -- where none is found no queue holds one
   pub marker-none : isAt (markerOf marks lengths t) ≡ false
       → (q i : ℕ) → q < mostLocations → getD (marksIn marks lengths q) i 0 ≢ t + 1
-  marker-none = FoundLaws.marker-none marks lengths t
+  marker-none = MarkerLaws.marker-none marks lengths t
 
 -- a step breaks no rule, or one of 21 to 29
 pub rule-in-table : (p : Program) (s : State) (k : Step)

@@ -2,7 +2,8 @@
 -- position, persist by location".
 --   issueStep t, moveStep t i, persistStep q   a step of each code
 --   stepsFrom step i n   the steps that `step` says of the n numbers from i on
---   movesFrom t n    the moves of n threads from t on, at every position
+--   movesOf t        the moves of thread t, at every position
+--   movesFrom t n    those of n threads from t on
 --   candidates p     every step that such a program can have, in that order
 --   rankOf, stepAt   a step's rank in that order, and the step of a rank
 --   listed ks        the steps ks, as an array of their ranks with its count
@@ -38,9 +39,12 @@ unfoldable pub stepsFrom : (ℕ → Step) → ℕ → ℕ → List Step
 stepsFrom step i zero = []
 stepsFrom step i (suc n) = step i ∷ stepsFrom step (suc i) n
 
+abbrev pub movesOf : ℕ → List Step
+movesOf t = stepsFrom (moveStep t) 0 mostInstructions
+
 unfoldable pub movesFrom : ℕ → ℕ → List Step
 movesFrom t zero = []
-movesFrom t (suc n) = stepsFrom (moveStep t) 0 mostInstructions ++ movesFrom (suc t) n
+movesFrom t (suc n) = movesOf t ++ movesFrom (suc t) n
 
 unfoldable pub candidates : Program → List Step
 candidates p =

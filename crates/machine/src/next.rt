@@ -31,8 +31,8 @@ ghost use Rattle.machine.specs.Parts.{lent};
 ghost use Rattle.machine.specs.Rules.{ruleIn};
 ghost use Rattle.cases.specs.Ranges.{ProgramFits};
 ghost use Rattle.machine.specs.Fit.{Shallow};
-ghost use Rattle.machine.specs.Next.{issueStep, moveStep, persistStep, stepsFrom, movesFrom};
-ghost use Rattle.machine.specs.Next.{rankOf, stepAt, nextIn};
+ghost use Rattle.machine.specs.Next.{issueStep, persistStep, stepsFrom, movesFrom, rankOf, stepAt};
+ghost use Rattle.machine.specs.Next.{nextIn, movesOf};
 ghost use Rattle.machine.specs.Offer.{nextWith, offered, offeredAll, Movable};
 
 // The first `count` ranks are those of the legal next steps; the others are 0.
@@ -148,7 +148,7 @@ fn offer_moves_of<'a>(
         × (length (now marks) ≡ allSlots) × (count + mostInstructions ≤ mostCandidates) ⌝ }
     ensures { λ r. ⌜ nextWith r (now (ranks .exit)) ≡ offeredAll
         (ruleIn p (lent buffers [] (now (waiting .entry)) (now (marks .entry)) (now (lengths .entry))))
-        (stepsFrom (moveStep (t .0)) 0 mostInstructions) (nextWith count (now (ranks .entry))) ⌝ }
+        (movesOf (t .0)) (nextWith count (now (ranks .entry))) ⌝ }
 {
     let many = waiting[t.0 as usize];
     let mut n = count;

@@ -25,8 +25,8 @@ ghost use Rattle.cases.specs.Sizes.{mostThreads, mostInstructions, mostLocation
 ghost use Rattle.cases.specs.Checks.{countAt};
 ghost use Rattle.machine.specs.View.{bufferIn, queueLen, issuedOf};
 ghost use Rattle.machine.specs.Fit.{sumTo, Fits};
-ghost use Rattle.machine.specs.Work.{unissuedWeight, waitingWeight, codeWeight, entryWeight, weigh, unissuedCode};
-ghost use Rattle.machine.specs.Work.{threadWork, work};
+ghost use Rattle.machine.specs.Work.{unissuedWeight, waitingWeight, codeWeight, entryWeight, weigh};
+ghost use Rattle.machine.specs.Work.{unissuedCode, threadWork, work};
 ghost use Rattle.machine.specs.Judge.{weighedNo, weighedWork, workOf, fullOf};
 
 // The work left, or the number of the refusal.

@@ -26,25 +26,25 @@ use Rattle.search.specs.Walk.{walkFrom}
 use Rattle.search.specs.Question.{reaches, reached, unreachable, undecided, None, FirstThat, askOf}
 use Rattle.search.specs.Question.{outcomeNo, outcomePlace, toldOf, questionOf, shownOf}
 use Rattle.search.specs.Seek.{seek, walkedOf, walkedNo, walkedPlace, walkedRest}
-use Rattle.search.proofs.WalkLaws as WalkLaws
-use Rattle.search.proofs.ModelLaws as ModelLaws
-use Rattle.search.proofs.OrderLaws as OrderLaws
-use Rattle.search.proofs.BudgetLaws as BudgetLaws
-use Rattle.search.proofs.WalkedLaws as WalkedLaws
-use Rattle.search.proofs.ReachLaws as ReachLaws
-use Rattle.search.proofs.ShownLaws as ShownLaws
-use Rattle.search.proofs.QuestionLaws as QuestionLaws
+use Rattle.search.proofs.walk.WalkLaws as WalkLaws
+use Rattle.search.proofs.walk.WalkModelLaws as WalkModelLaws
+use Rattle.search.proofs.walk.WalkOrderLaws as WalkOrderLaws
+use Rattle.search.proofs.seek.BudgetLaws as BudgetLaws
+use Rattle.search.proofs.seek.WalkedLaws as WalkedLaws
+use Rattle.search.proofs.ask.ReachLaws as ReachLaws
+use Rattle.search.proofs.shown.ShownLaws as ShownLaws
+use Rattle.search.proofs.ask.QuestionLaws as QuestionLaws
 
 -- Machines: only some of a model's legal steps next, or all
 module _ {S K : Type 0} (m : Model S K) {Fit : S → Type 0} {rank : K → ℕ} (laws : Lawful m Fit rank) where
   -- with some of them next, in their order, it can be walked, and its runs are legal runs
   pub thinned-walkable : (nexts : S → List K) → Thinned m nexts → Walkable (thinned m nexts) Fit (m .left) rank
-  thinned-walkable = ModelLaws.thinned-walkable m laws
+  thinned-walkable = WalkModelLaws.thinned-walkable m laws
 
   pub thinned-leads : (nexts : S → List K) → Thinned m nexts
       → (s : S) (ks : List K) (u : S) → Runs (thinned m nexts) s ks u
       → Faultless m ks × Leads m s ks u
-  thinned-leads = ModelLaws.thinned-leads m laws
+  thinned-leads = WalkModelLaws.thinned-leads m laws
 
 -- Of a machine that can be walked: above the work left the walk is the same list, whatever depth it is given
 pub walk-enough : {S K : Type 0} (m : Machine S K) {Fit : S → Type 0} {left : S → ℕ} {rank : K → ℕ}
@@ -60,8 +60,8 @@ module _ {S K : Type 0} (m : Model S K) {Fit : S → Type 0} {rank : K → ℕ} 
       → Listed (record { run = ks; end = u }) (walkFrom m) ↔ (Faultless m ks × Leads m (m .start) ks u)
   unfolding walkFrom
   walk-exact ks u = (
-    ModelLaws.walk-leads m laws (m .start) (laws .starts) ks u,
-    (λ h. ModelLaws.leads-walk m laws (m .start) (laws .starts) ks u (h .0) (h .1)),
+    WalkModelLaws.walk-leads m laws (m .start) (laws .starts) ks u,
+    (λ h. WalkModelLaws.leads-walk m laws (m .start) (laws .starts) ks u (h .0) (h .1)),
   )
 
   -- "the empty run first; each run is followed by everything that starts with it, next steps in the order issue
@@ -69,13 +69,13 @@ module _ {S K : Type 0} (m : Model S K) {Fit : S → Type 0} {rank : K → ℕ} 
   -- it in the list, by that order
   pub walk-in-order : InOrder rank (walkFrom m)
   unfolding walkFrom
-  walk-in-order = ModelLaws.walk-ordered m laws (m .start) (laws .starts)
+  walk-in-order = WalkModelLaws.walk-ordered m laws (m .start) (laws .starts)
 
   -- and no other list holds exactly these in that order
   pub walk-only : (vs : List (Visit S K)) → InOrder rank vs
       → ((v : Visit S K) → Listed v vs ↔ Listed v (walkFrom m))
       → vs ≡ walkFrom m
-  walk-only vs o h = OrderLaws.order-only rank vs (walkFrom m) o walk-in-order (λ v. h v .0) (λ v. h v .1)
+  walk-only vs o h = WalkOrderLaws.order-only rank vs (walkFrom m) o walk-in-order (λ v. h v .0) (λ v. h v .1)
 
   pub walk-first : (rest : List (Visit S K)) × (walkFrom m ≡ here (m .start) ∷ rest)
   walk-first = QuestionLaws.walk-first m
@@ -83,7 +83,7 @@ module _ {S K : Type 0} (m : Model S K) {Fit : S → Type 0} {rank : K → ℕ} 
   -- each once: of two parts of the list, the runs differ
   pub walk-once : (xs ys : List (Visit S K)) → walkFrom m ≡ xs ++ ys
       → (v w : Visit S K) → Listed v xs → Listed w ys → v .run ≢ w .run
-  walk-once xs ys e = OrderLaws.order-once rank xs ys (subst (InOrder rank) e walk-in-order)
+  walk-once xs ys e = WalkOrderLaws.order-once rank xs ys (subst (InOrder rank) e walk-in-order)
 
   -- "It never goes deeper than the full length"
   pub walk-deep : (ks : List K) (u : S) → Listed (record { run = ks; end = u }) (walkFrom m)
@@ -109,8 +109,8 @@ module _ {S K : Type 0} (m : Model S K) (test : S → Bool) (b : ℕ) where
       × (v .run ≡ run))
   unfolding askOf
   reached-exactly run = (
-    BudgetLaws.reached-is test b (walkFrom m) run,
-    (λ h. BudgetLaws.is-reached test b (walkFrom m) (h .0) (h .1) (h .2) (h .3) ∙ ap reached (h .4)),
+    BudgetLaws.budget-reached-is test b (walkFrom m) run,
+    (λ h. BudgetLaws.budget-is-reached test b (walkFrom m) (h .0) (h .1) (h .2) (h .3) ∙ ap reached (h .4)),
   )
 
   -- unreachable exactly when the budget covers the whole walk and no run reaches
@@ -118,8 +118,8 @@ module _ {S K : Type 0} (m : Model S K) (test : S → Bool) (b : ℕ) where
       ↔ ((length (walkFrom m) ≤ b) × None test (walkFrom m))
   unfolding askOf
   unreachable-exactly = (
-    BudgetLaws.unreachable-is test b (walkFrom m),
-    (λ h. BudgetLaws.is-unreachable test b (walkFrom m) (h .0) (h .1)),
+    BudgetLaws.budget-unreachable-is test b (walkFrom m),
+    (λ h. BudgetLaws.budget-is-unreachable test b (walkFrom m) (h .0) (h .1)),
   )
 
   -- undecided exactly when it does not, and none of the runs that it covers reaches
@@ -127,8 +127,8 @@ module _ {S K : Type 0} (m : Model S K) (test : S → Bool) (b : ℕ) where
       (askOf m test b ≡ undecided) ↔ ((b < length (walkFrom m)) × None test (take b (walkFrom m)))
   unfolding askOf
   undecided-exactly = (
-    BudgetLaws.undecided-is test b (walkFrom m),
-    (λ h. BudgetLaws.is-undecided test b (walkFrom m) (h .0) (h .1)),
+    BudgetLaws.budget-undecided-is test b (walkFrom m),
+    (λ h. BudgetLaws.budget-is-undecided test b (walkFrom m) (h .0) (h .1)),
   )
 
 -- What the code's walk answers from the start
@@ -150,7 +150,7 @@ pub one-less-undecided : {S K : Type 0} (m : Model S K) (test : S → Bool) (bef
     → FirstThat test (walkFrom m) before v
     → askOf m test (length before) ≡ undecided
 unfolding askOf
-one-less-undecided m test before v = BudgetLaws.one-less test (walkFrom m) before v
+one-less-undecided m test before v = BudgetLaws.budget-one-less test (walkFrom m) before v
 
 -- What is answered for bytes, and what the lent bytes hold afterwards
 module _ (s : List ℕ) (b : ℕ) (out : List ℕ) where

@@ -1,6 +1,6 @@
 -- `add` meets its contract: a faultless record of each kind finds its seat. Assumes nothing.
-use Rattle.cases.proofs.DraftLaws.{first-seated, instruction-seated, want-seated, passed-seated}
-use Rattle.cases.proofs.DraftLaws.{step-seated}
+use Rattle.cases.proofs.draft.DraftLaws.{first-seated, instruction-seated, want-seated, passed-seated}
+use Rattle.cases.proofs.draft.DraftLaws.{step-seated}
 use borrow.Author.Needs.{needs}
 use Rattle.cases.proofs.draft.add.Statement.{statement}
 use Rattle.cases.proofs.draft.add.Tie as tie

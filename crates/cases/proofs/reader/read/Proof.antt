@@ -7,8 +7,9 @@ use borrow.Author.Needs.{needs}
 use native.Mathlib.Omega.{arith}
 use Rattle.cases.specs.Record.{openedNo}
 use Rattle.cases.specs.Reading.{refusedOf}
-use Rattle.cases.proofs.TurnLaws.{ReadSoFar, read-start, read-none, read-whole}
-use Rattle.cases.proofs.TurnLaws.{read-faulty, read-fault, read-within, read-next}
+use Rattle.cases.proofs.reader.ReadLoopLaws.{ReadSoFar, read-loop-start, read-loop-none, read-loop-whole}
+use Rattle.cases.proofs.reader.ReadLoopLaws.{read-loop-faulty, read-loop-fault, read-loop-within}
+use Rattle.cases.proofs.reader.ReadLoopLaws.{read-loop-next}
 use Rattle.cases.proofs.reader.read.Statement.{statement}
 use Rattle.cases.proofs.reader.read.Tie as tie
 
@@ -22,7 +23,7 @@ blank-draft-requires : tie.Need-blank-draft-requires Inv-loop μ-loop
 blank-draft-requires c κs = search needs
 
 loop-holds : tie.Need-loop-holds Inv-loop μ-loop
-loop-holds c = read-start _ _ (c .blank-draft .ensures)
+loop-holds c = read-loop-start _ _ (c .blank-draft .ensures)
 
 sub-rest : tie.Need-sub-rest Inv-loop μ-loop
 sub-rest c = search needs
@@ -55,7 +56,7 @@ returns c =
     let e = c .before .before .enum-told .given .1 in
     c .refused .ensures
     ∙ ap (λ (k : _). refusedOf k (l .loop .at)) (c .before .opened-number .ensures ∙ ap openedNo e)
-    ∙ read-faulty (l .loop .inv) (o .before .before .loop-test .taken) _ (sym e ∙ o .open-record .ensures)
+    ∙ read-loop-faulty (l .loop .inv) (o .before .before .loop-test .taken) _ (sym e ∙ o .open-record .ensures)
 
 fault-requires : tie.Need-fault-requires Inv-loop μ-loop
 fault-requires c κs = search needs
@@ -69,7 +70,7 @@ returns-2 c =
     let l = o .before .before .before in
     let e = sym (c .before .before .before .before .opened .given .1) ∙ o .open-record .ensures in
     c .refused2 .ensures
-    ∙ read-fault (l .loop .inv) (o .before .before .loop-test .taken) _ e _
+    ∙ read-loop-fault (l .loop .inv) (o .before .before .loop-test .taken) _ e _
     (c .before .before .fault .ensures) (c .before .if1 .taken)
 
 add-requires : tie.Need-add-requires Inv-loop μ-loop
@@ -85,7 +86,7 @@ add-at c =
     let o = c .before .before .before .before .before .before .before in
     let l = o .before .before .before in
     let e = sym (c .before .before .before .before .before .opened .given .1) ∙ o .open-record .ensures in
-    let w = read-within (l .loop .inv) (o .before .before .loop-test .taken) _ e _ (c .size .ensures) in
+    let w = read-loop-within (l .loop .inv) (o .before .before .loop-test .taken) _ e _ (c .size .ensures) in
     omega (arith, w .1, l .before .before .before .good .0 .0)
 
 loop-less : tie.Need-loop-less Inv-loop μ-loop
@@ -93,7 +94,7 @@ loop-less c =
     let o = c .before .before .before .before .before .before .before in
     let l = o .before .before .before in
     let e = sym (c .before .before .before .before .before .opened .given .1) ∙ o .open-record .ensures in
-    let w = read-within (l .loop .inv) (o .before .before .loop-test .taken) _ e _ (c .size .ensures) in
+    let w = read-loop-within (l .loop .inv) (o .before .before .loop-test .taken) _ e _ (c .size .ensures) in
     omega (arith, w .0, w .1)
 
 loop-again : tie.Need-loop-again Inv-loop μ-loop
@@ -102,7 +103,7 @@ loop-again c =
     let l = o .before .before .before in
     let e = sym (c .before .before .before .before .before .opened .given .1) ∙ o .open-record .ensures in
     let clean = sym (c .before .before .before .fault .ensures) ∙ c .before .before .if1 .left in
-    read-next (l .loop .inv) (o .before .before .loop-test .taken) _ e clean
+    read-loop-next (l .loop .inv) (o .before .before .loop-test .taken) _ e clean
     _ (c .size .ensures) _ (c .before .add .ensures)
 
 refused-requires-3 : tie.Need-refused-requires-3 Inv-loop μ-loop
@@ -112,12 +113,12 @@ returns-3 : tie.Need-returns-3 Inv-loop μ-loop
 returns-3 c =
     let l = c .before .before .before .before in
     c .refused3 .ensures
-    ∙ read-none (l .loop .inv) (c .before .before .before .loop-test .left) (c .before .if2 .taken)
+    ∙ read-loop-none (l .loop .inv) (c .before .before .before .loop-test .left) (c .before .if2 .taken)
 
 returns-4 : tie.Need-returns-4 Inv-loop μ-loop
 returns-4 c =
     let l = c .before .before .before .before in
-    read-whole (l .loop .inv) (c .before .before .before .loop-test .left) (c .before .if2 .left)
+    read-loop-whole (l .loop .inv) (c .before .before .before .loop-test .left) (c .before .if2 .left)
 
 pub read-spec : {M : Type 1} → statement M
 read-spec =

@@ -1,6 +1,6 @@
 -- `unread` meets its contract: the offset of a reading is within the input. Assumes nothing.
 use borrow.Author.Needs.{needs}
-use Rattle.cases.proofs.WriteLaws.{unread-within, unread-is}
+use Rattle.cases.proofs.reader.UnreadLaws.{unread-within, unread-is}
 use Rattle.cases.proofs.reader.unread.Statement.{statement}
 use Rattle.cases.proofs.reader.unread.Tie as tie
 

@@ -1,12 +1,13 @@
 -- `open_record` meets its contract: for each way out, the law of that way. Assumes nothing.
 use borrow.Author.Needs.{needs}
 use native.Mathlib.Omega.{arith}
-use Rattle.cases.proofs.RecordLaws.{faulty-head, faulty-kind, faulty-length, faulty-payload, opens-whole}
+use Rattle.cases.proofs.record.OpenLaws.{open-faulty-head, open-faulty-kind, open-faulty-length}
+use Rattle.cases.proofs.record.OpenLaws.{open-faulty-payload, opens-whole}
 use Rattle.cases.proofs.record.open_record.Statement.{statement}
 use Rattle.cases.proofs.record.open_record.Tie as tie
 
 returns : tie.Need-returns
-returns c = faulty-head _ (c .if1 .taken)
+returns c = open-faulty-head _ (c .if1 .taken)
 
 half-at-requires : tie.Need-half-at-requires
 half-at-requires c κs = search needs
@@ -18,16 +19,16 @@ payload-requires : tie.Need-payload-requires
 payload-requires c κs = search needs
 
 returns-2 : tie.Need-returns-2
-returns-2 c = faulty-kind _ (omega arith) (cc)
+returns-2 c = open-faulty-kind _ (omega arith) (cc)
 
 returns-3 : tie.Need-returns-3
-returns-3 c = faulty-length _ (omega arith) (λ e. c .before .if2 .left (cc)) (λ e. c .if3 .taken (cc))
+returns-3 c = open-faulty-length _ (omega arith) (λ e. c .before .if2 .left (cc)) (λ e. c .if3 .taken (cc))
 
 cast-if4 : tie.Need-cast-if4
 cast-if4 c = search needs
 
 returns-4 : tie.Need-returns-4
-returns-4 c = faulty-payload _ (omega arith) (λ e. c .before .before .if2 .left (cc)) (cc) (omega arith)
+returns-4 c = open-faulty-payload _ (omega arith) (λ e. c .before .before .if2 .left (cc)) (cc) (omega arith)
 
 decode-requires : tie.Need-decode-requires
 decode-requires c κs = search needs

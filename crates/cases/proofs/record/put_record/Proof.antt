@@ -7,7 +7,7 @@ use lib.Seq.{paste, paste-zero}
 use borrow.Author.Needs.{needs}
 use native.Mathlib.Omega.{arith}
 use Rattle.cases.specs.Sizes.{longestRecord}
-use Rattle.cases.proofs.PutLaws.{put-next, padded-length, padded-fits, padded-put}
+use Rattle.cases.proofs.record.PaddedLaws.{put-next, padded-length, padded-fits, padded-put}
 use Rattle.cases.proofs.record.put_record.Statement.{statement}
 use Rattle.cases.proofs.record.put_record.Tie as tie
 

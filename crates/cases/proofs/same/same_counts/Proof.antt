@@ -5,7 +5,7 @@ use native.Mathlib.Omega.{arith}
 use lib.Dec.{eqb}
 use borrow.Author.Tests.{eq-eqb, ne-eqb}
 use Rattle.cases.specs.Sizes.{mostThreads}
-use Rattle.cases.proofs.SameLaws.{SameSoFar, same-start, same-next, same-here, same-end}
+use Rattle.cases.proofs.same.SameLaws.{SameSoFar, same-start, same-next, same-here, same-end}
 use borrow.Author.Needs.{needs}
 use Rattle.cases.proofs.same.same_counts.Statement.{statement}
 use Rattle.cases.proofs.same.same_counts.Tie as tie

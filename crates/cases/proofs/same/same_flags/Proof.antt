@@ -6,7 +6,7 @@ use mathlib.Core.Bool.{false}
 use Rattle.cases.specs.Sizes.{mostLocations}
 use Rattle.cases.specs.Writing.{sameFlag}
 use Rattle.cases.proofs.ChoiceLaws.{told-true, told-false}
-use Rattle.cases.proofs.SameLaws.{SameSoFar, same-start, same-next, same-here, same-end}
+use Rattle.cases.proofs.same.SameLaws.{SameSoFar, same-start, same-next, same-here, same-end}
 use borrow.Author.Needs.{needs}
 use Rattle.cases.proofs.same.same_flags.Statement.{statement}
 use Rattle.cases.proofs.same.same_flags.Tie as tie

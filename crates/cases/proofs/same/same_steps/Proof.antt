@@ -7,7 +7,7 @@ use Rattle.cases.specs.Writing.{sameStep}
 use Rattle.cases.specs.Draft.{noStep}
 use Rattle.cases.proofs.ChoiceLaws.{told-true, told-false}
 use Rattle.cases.proofs.ArrayLaws.{unmapped}
-use Rattle.cases.proofs.SameLaws.{SameSoFar, same-start, same-next, same-here, same-end}
+use Rattle.cases.proofs.same.SameLaws.{SameSoFar, same-start, same-next, same-here, same-end}
 use borrow.Author.Needs.{needs}
 use Rattle.cases.proofs.same.same_steps.Statement.{statement}
 use Rattle.cases.proofs.same.same_steps.Tie as tie

@@ -6,7 +6,7 @@ use mathlib.Core.Path.{sym, _∙_}
 use borrow.Author.Needs.{needs}
 use native.Mathlib.Omega.{arith}
 use Rattle.cases.specs.Seats.{seats}
-use Rattle.cases.proofs.EncodeLaws.{
+use Rattle.cases.proofs.seats.EncodeLaws.{
   Encoded,
   encoded-start,
   encoded-length,

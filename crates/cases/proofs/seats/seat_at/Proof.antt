@@ -2,7 +2,7 @@
 use borrow.Author.Needs.{needs}
 use mathlib.Core.Path.{sym, _∙_}
 use native.Mathlib.Omega.{arith}
-use Rattle.cases.proofs.SeatLaws.{
+use Rattle.cases.proofs.seats.SeatLaws.{
   seat-header,
   seat-first,
   seat-code,

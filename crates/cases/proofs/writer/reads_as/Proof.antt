@@ -1,6 +1,6 @@
 -- `reads_as` meets its contract. Assumes nothing.
 use borrow.Author.Needs.{needs}
-use Rattle.cases.proofs.WriteLaws.{reads-none, reads-some}
+use Rattle.cases.proofs.writer.WriteLaws.{reads-as-none, reads-as-some}
 use Rattle.cases.proofs.writer.reads_as.Statement.{statement}
 use Rattle.cases.proofs.writer.reads_as.Tie as tie
 
@@ -11,7 +11,8 @@ number-requires : tie.Need-number-requires
 number-requires c κs = search needs
 
 returns : tie.Need-returns
-returns c = reads-none _ _ _ (c .before .before .read .ensures) _ (c .before .number .ensures) (c .if1 .taken)
+returns c =
+    reads-as-none _ _ _ (c .before .before .read .ensures) _ (c .before .number .ensures) (c .if1 .taken)
 
 same-case-requires : tie.Need-same-case-requires
 same-case-requires c κs = search needs
@@ -19,7 +20,7 @@ same-case-requires c κs = search needs
 returns-2 : tie.Need-returns-2
 returns-2 c =
     let n = c .before .before .before in
-    reads-some _ _ _ (n .before .read .ensures) _ (n .number .ensures) (c .before .before .if1 .left)
+    reads-as-some _ _ _ (n .before .read .ensures) _ (n .number .ensures) (c .before .before .if1 .left)
     _ (c .same-case .ensures)
 
 pub reads-as-spec : {M : Type 1} → statement M

@@ -4,7 +4,7 @@ use native.Mathlib.Omega.{arith}
 use Rattle.cases.specs.Sizes.{allCode}
 use Rattle.machine.specs.View.{blankWaiting}
 use Rattle.cases.proofs.ArrayLaws.{unmapped}
-use Rattle.machine.proofs.ChangeLaws.{Closing, closing-start, closing-next, closing-end}
+use Rattle.machine.proofs.change.ChangeLaws.{Closing, closing-start, closing-next, closing-end}
 use borrow.Author.Needs.{needs}
 use Rattle.machine.proofs.change.close_entries.Statement.{statement}
 use Rattle.machine.proofs.change.close_entries.Tie as tie

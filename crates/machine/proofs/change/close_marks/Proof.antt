@@ -2,7 +2,7 @@
 use Prim.Native.Nat.{_-_}
 use native.Mathlib.Omega.{arith}
 use Rattle.machine.specs.Sizes.{allSlots}
-use Rattle.machine.proofs.ChangeLaws.{Closing, closing-start, closing-next, closing-end}
+use Rattle.machine.proofs.change.ChangeLaws.{Closing, closing-start, closing-next, closing-end}
 use borrow.Author.Needs.{needs}
 use Rattle.machine.proofs.change.close_marks.Statement.{statement}
 use Rattle.machine.proofs.change.close_marks.Tie as tie

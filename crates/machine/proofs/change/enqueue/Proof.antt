@@ -1,6 +1,6 @@
 -- `enqueue` meets its contract. Assumes nothing.
 use native.Mathlib.Omega.{arith}
-use Rattle.machine.proofs.ChangeLaws.{enqueue-is}
+use Rattle.machine.proofs.change.ChangeLaws.{enqueue-is}
 use borrow.Author.Needs.{needs}
 use Rattle.machine.proofs.change.enqueue.Statement.{statement}
 use Rattle.machine.proofs.change.enqueue.Tie as tie

@@ -6,7 +6,8 @@ use mir.Val.{Fits}
 use Rattle.cases.specs.Sizes.{mostThreads}
 use Rattle.cases.specs.Checks.{countAt}
 use Rattle.machine.specs.Fit.{unissued}
-use Rattle.machine.proofs.CheckLaws.{SummedSoFar, sum-start, sum-next, sum-end, unissued-most}
+use Rattle.machine.proofs.lists.SumLaws.{SummedSoFar, sum-start, sum-next, sum-end}
+use Rattle.machine.proofs.fit.MisfitLaws.{unissued-most}
 use borrow.Author.Needs.{needs}
 use Rattle.machine.proofs.fit.all_unissued.Statement.{statement}
 use Rattle.machine.proofs.fit.all_unissued.Tie as tie

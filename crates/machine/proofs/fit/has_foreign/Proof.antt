@@ -4,7 +4,7 @@ use native.Mathlib.Omega.{arith}
 use lib.Dec.{ltb}
 use borrow.Author.Tests.{lt-ltb, le-ltb}
 use Rattle.machine.specs.View.{marksIn}
-use Rattle.machine.proofs.AnyLaws.{AnySoFar, any-of-start, any-of-next, any-of-here, any-of-end}
+use Rattle.machine.proofs.lists.AnyLaws.{AnySoFar, any-of-start, any-of-next, any-of-here, any-of-end}
 use borrow.Author.Needs.{needs}
 use Rattle.machine.proofs.fit.has_foreign.Statement.{statement}
 use Rattle.machine.proofs.fit.has_foreign.Tie as tie

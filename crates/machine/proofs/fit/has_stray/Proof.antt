@@ -8,7 +8,7 @@ use Rattle.cases.proofs.ChoiceLaws.{told}
 use Rattle.machine.specs.View.{bufferIn, blankWaiting}
 use Rattle.machine.specs.Fit.{strayed}
 use Rattle.cases.proofs.ArrayLaws.{unmapped}
-use Rattle.machine.proofs.AnyLaws.{AnySoFar, any-of-start, any-of-next, any-of-here, any-of-end}
+use Rattle.machine.proofs.lists.AnyLaws.{AnySoFar, any-of-start, any-of-next, any-of-here, any-of-end}
 use borrow.Author.Needs.{needs}
 use Rattle.machine.proofs.fit.has_stray.Statement.{statement}
 use Rattle.machine.proofs.fit.has_stray.Tie as tie

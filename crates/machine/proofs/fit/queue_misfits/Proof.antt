@@ -3,7 +3,8 @@ use native.Mathlib.Omega.{arith}
 use mir.Syntax.{w8}
 use mir.Val.{Fits}
 use Rattle.machine.specs.View.{queueLen}
-use Rattle.machine.proofs.CheckLaws.{due-most, queue-lacked, queue-full, queue-rest}
+use Rattle.machine.proofs.fit.MisfitLaws.{due-most, queue-misfits-lacked, queue-misfits-full}
+use Rattle.machine.proofs.fit.MisfitLaws.{queue-misfits-rest}
 use borrow.Author.Needs.{needs}
 use Rattle.machine.proofs.fit.queue_misfits.Statement.{statement}
 use Rattle.machine.proofs.fit.queue_misfits.Tie as tie
@@ -20,7 +21,7 @@ queues-of-requires c κs = search needs
 returns : tie.Need-returns
 returns c =
     let e = c .before in
-    queue-lacked _ _ _ _ (e .before .before .queues-of .ensures) (e .if1 .taken) (c .if2 .taken)
+    queue-misfits-lacked _ _ _ _ (e .before .before .queues-of .ensures) (e .if1 .taken) (c .if2 .taken)
 
 cast-if3 : tie.Need-cast-if3
 cast-if3 c = search needs
@@ -36,7 +37,7 @@ returns-2 : tie.Need-returns-2
 returns-2 c =
     let o = c .before .before .before .before .before .before in
     let many = c .before .before .before .queues-of .ensures in
-    queue-full _ _ _ _ many (c .before .if1 .came) (λ w. w .1 .left) (λ w. w .left) _ (o .pre .1)
+    queue-misfits-full _ _ _ _ many (c .before .if1 .came) (λ w. w .1 .left) (λ w. w .left) _ (o .pre .1)
     (c .if3 .taken)
 
 has-foreign-requires : tie.Need-has-foreign-requires
@@ -47,7 +48,7 @@ returns-3 c =
     let j = c .before .before .before .before .before in
     let o = j .before .before .before .before .before in
     let many = j .before .before .queues-of .ensures in
-    queue-rest _ _ _ _ many (j .if1 .came) (λ w. w .1 .left) (λ w. w .left) _ (o .pre .1)
+    queue-misfits-rest _ _ _ _ many (j .if1 .came) (λ w. w .1 .left) (λ w. w .left) _ (o .pre .1)
     (c .before .before .before .before .if3 .left) _ (c .has-foreign .ensures)
 
 pub queue-misfits-spec : {M : Type 1} → statement M

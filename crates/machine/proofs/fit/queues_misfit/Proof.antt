@@ -5,8 +5,8 @@ use native.Mathlib.Omega.{arith}
 use Rattle.cases.specs.Sizes.{mostLocations}
 use Rattle.cases.proofs.ChoiceLaws.{told}
 use Rattle.machine.specs.Fit.{due, queueMisfits}
-use Rattle.machine.proofs.AnyLaws.{AskedSoFar, any-start, any-next, any-here, any-end}
-use Rattle.machine.proofs.CheckLaws.{due-most}
+use Rattle.machine.proofs.lists.AnyLaws.{AskedSoFar, any-start, any-next, any-here, any-end}
+use Rattle.machine.proofs.fit.MisfitLaws.{due-most}
 use borrow.Author.Needs.{needs}
 use Rattle.machine.proofs.fit.queues_misfit.Statement.{statement}
 use Rattle.machine.proofs.fit.queues_misfit.Tie as tie

@@ -4,8 +4,8 @@ use mir.Syntax.{w8}
 use mir.Val.{Fits}
 use Rattle.cases.specs.Checks.{countAt}
 use Rattle.machine.specs.View.{bufferLen}
-use Rattle.machine.proofs.CheckLaws.{unissued-most}
-use Rattle.machine.proofs.CheckLaws.{thread-over, thread-lacked, thread-full, thread-rest}
+use Rattle.machine.proofs.fit.MisfitLaws.{unissued-most, thread-misfits-over, thread-misfits-lacked}
+use Rattle.machine.proofs.fit.MisfitLaws.{thread-misfits-full, thread-misfits-rest}
 use borrow.Author.Needs.{needs}
 use Rattle.machine.proofs.fit.thread_misfits.Statement.{statement}
 use Rattle.machine.proofs.fit.thread_misfits.Tie as tie
@@ -23,10 +23,11 @@ element-copy-out-if1-2 : tie.Need-element-copy-out-if1-2
 element-copy-out-if1-2 c = search needs
 
 returns : tie.Need-returns
-returns c = thread-over _ _ _ (c .if1 .taken)
+returns c = thread-misfits-over _ _ _ (c .if1 .taken)
 
 returns-2 : tie.Need-returns-2
-returns-2 c = thread-lacked _ _ _ (c .before .before .before .if1 .left) (c .before .if2 .taken) (c .if3 .taken)
+returns-2 c =
+    thread-misfits-lacked _ _ _ (c .before .before .before .if1 .left) (c .before .if2 .taken) (c .if3 .taken)
 
 cast-if4 : tie.Need-cast-if4
 cast-if4 c = search needs
@@ -46,7 +47,7 @@ add-if4 c =
 returns-3 : tie.Need-returns-3
 returns-3 c =
     let o = c .before .before in
-    thread-full _ _ _ (o .before .before .if1 .left) (o .if2 .came) (λ w. w .1 .left) (λ w. w .left) _
+    thread-misfits-full _ _ _ (o .before .before .if1 .left) (o .if2 .came) (λ w. w .1 .left) (λ w. w .left) _
     (c .before .unissued-of .ensures) (c .if4 .taken)
 
 has-stray-requires : tie.Need-has-stray-requires
@@ -56,7 +57,7 @@ returns-4 : tie.Need-returns-4
 returns-4 c =
     let o = c .before .before .before .before in
     let j = o .before .before in
-    thread-rest _ _ _ (j .before .before .if1 .left) (j .if2 .came) (λ w. w .1 .left) (λ w. w .left) _
+    thread-misfits-rest _ _ _ (j .before .before .if1 .left) (j .if2 .came) (λ w. w .1 .left) (λ w. w .left) _
     (o .before .unissued-of .ensures) (o .if4 .left) _ (c .has-stray .ensures)
 
 pub thread-misfits-spec : {M : Type 1} → statement M

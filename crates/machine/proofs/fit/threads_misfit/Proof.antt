@@ -4,7 +4,7 @@ use native.Mathlib.Omega.{arith}
 use Rattle.cases.specs.Sizes.{mostThreads}
 use Rattle.cases.proofs.ChoiceLaws.{told}
 use Rattle.machine.specs.Fit.{threadMisfits}
-use Rattle.machine.proofs.AnyLaws.{AskedSoFar, any-start, any-next, any-here, any-end}
+use Rattle.machine.proofs.lists.AnyLaws.{AskedSoFar, any-start, any-next, any-here, any-end}
 use borrow.Author.Needs.{needs}
 use Rattle.machine.proofs.fit.threads_misfit.Statement.{statement}
 use Rattle.machine.proofs.fit.threads_misfit.Tie as tie

@@ -4,7 +4,7 @@ use lib.ListN.{length}
 use Rattle.cases.specs.Sizes.{allCode}
 use Rattle.machine.specs.Rules.{await}
 use Rattle.cases.proofs.ArrayLaws.{unmapped}
-use Rattle.machine.proofs.ChangeLaws.{await-is}
+use Rattle.machine.proofs.change.ChangeLaws.{await-is}
 use borrow.Author.Needs.{needs}
 use Rattle.machine.proofs.issue.join_buffer.Statement.{statement}
 use Rattle.machine.proofs.issue.join_buffer.Tie as tie

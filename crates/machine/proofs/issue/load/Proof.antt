@@ -1,7 +1,7 @@
 -- `load` meets its contract. Assumes nothing.
 use borrow.Author.Needs.{needs}
 use Rattle.machine.specs.View.{withRegister}
-use Rattle.machine.proofs.IssueLaws.{load-is}
+use Rattle.machine.proofs.steps.IssueLaws.{load-is}
 use Rattle.machine.proofs.issue.load.Statement.{statement}
 use Rattle.machine.proofs.issue.load.Tie as tie
 

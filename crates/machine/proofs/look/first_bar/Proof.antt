@@ -6,7 +6,7 @@ use lib.ListN.{length}
 use Rattle.cases.specs.Sizes.{allCode}
 use Rattle.cases.proofs.ChoiceLaws.{told}
 use Rattle.cases.proofs.ArrayLaws.{unmapped}
-use Rattle.machine.proofs.LookLaws.{BarSoFar, bar-start, bar-next, bar-here, bar-end}
+use Rattle.machine.proofs.look.LookLoopLaws.{BarSoFar, bar-start, bar-next, bar-here, bar-end}
 use borrow.Author.Needs.{needs}
 use Rattle.machine.proofs.look.first_bar.Statement.{statement}
 use Rattle.machine.proofs.look.first_bar.Tie as tie

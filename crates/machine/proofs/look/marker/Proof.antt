@@ -3,22 +3,23 @@ use Prim.Native.Nat.{_-_}
 use mathlib.Core.Path.{refl}
 use native.Mathlib.Omega.{arith}
 use Rattle.cases.specs.Sizes.{mostLocations}
-use Rattle.machine.proofs.MarkerLaws.{MarksSoFar, marks-start, marks-next, marker-here}
-use Rattle.machine.proofs.MarkerLaws.{QueuesSoFar, queues-start, queues-next, marker-end}
+use Rattle.machine.proofs.look.MarkerLoopLaws.{MarkerMarksSoFar, marker-marks-start, marker-marks-next}
+use Rattle.machine.proofs.look.MarkerLoopLaws.{marker-here, MarkerQueuesSoFar, marker-queues-start}
+use Rattle.machine.proofs.look.MarkerLoopLaws.{marker-queues-next, marker-end}
 use borrow.Author.Needs.{needs}
 use Rattle.machine.proofs.look.marker.Statement.{statement}
 use Rattle.machine.proofs.look.marker.Tie as tie
 
 -- nothing is found yet; the marks of queue q from i on, and the queues behind it, say what all queues say
 abbrev Inv-entries : tie.InvT-entries
-Inv-entries marks lengths mark found₀ q n i₀ found i = MarksSoFar marks lengths mark q n i found
+Inv-entries marks lengths mark found₀ q n i₀ found i = MarkerMarksSoFar marks lengths mark q n i found
 
 abbrev μ-entries : tie.MeasureT-entries
 μ-entries marks lengths mark found₀ q n i₀ found i = n - i
 
 -- nothing is found yet, and the queues from q on say what all queues say
 abbrev Inv-queues : tie.InvT-queues
-Inv-queues marks lengths mark found₀ q₀ found q = QueuesSoFar marks lengths mark q found
+Inv-queues marks lengths mark found₀ q₀ found q = MarkerQueuesSoFar marks lengths mark q found
 
 abbrev μ-queues : tie.MeasureT-queues
 μ-queues marks lengths mark found₀ q₀ found q = mostLocations - q
@@ -27,7 +28,7 @@ add-mark : tie.Need-add-mark Inv-entries μ-entries Inv-queues μ-queues
 add-mark c = search needs
 
 queues-holds : tie.Need-queues-holds Inv-entries μ-entries Inv-queues μ-queues
-queues-holds c = queues-start _ _ _ (c .before .pre .2) (c .before .pre .1)
+queues-holds c = marker-queues-start _ _ _ (c .before .pre .2) (c .before .pre .1)
 
 cast-queues : tie.Need-cast-queues Inv-entries μ-entries Inv-queues μ-queues
 cast-queues c = search needs
@@ -39,7 +40,7 @@ element-copy-out-n : tie.Need-element-copy-out-n Inv-entries μ-entries Inv-queu
 element-copy-out-n c = search needs
 
 entries-holds : tie.Need-entries-holds Inv-entries μ-entries Inv-queues μ-queues
-entries-holds c = marks-start (c .before .before .queues .inv) (omega arith)
+entries-holds c = marker-marks-start (c .before .before .queues .inv) (omega arith)
 
 cast-if1 : tie.Need-cast-if1 Inv-entries μ-entries Inv-queues μ-queues
 cast-if1 c = search needs
@@ -65,7 +66,7 @@ entries-less c = search needs
 entries-again : tie.Need-entries-again Inv-entries μ-entries Inv-queues μ-queues
 entries-again c =
     let e = c .before .before .before .entries in
-    marks-next (e .inv) (omega arith) (c .if1 .left)
+    marker-marks-next (e .inv) (omega arith) (c .if1 .left)
 
 add-q : tie.Need-add-q Inv-entries μ-entries Inv-queues μ-queues
 add-q c = search needs
@@ -74,7 +75,7 @@ queues-less : tie.Need-queues-less Inv-entries μ-entries Inv-queues μ-queues
 queues-less c = search needs
 
 queues-again : tie.Need-queues-again Inv-entries μ-entries Inv-queues μ-queues
-queues-again c = queues-next (c .before .entries .inv) (omega arith)
+queues-again c = marker-queues-next (c .before .entries .inv) (omega arith)
 
 returns : tie.Need-returns Inv-entries μ-entries Inv-queues μ-queues
 returns c = marker-end (c .before .queues .inv) _ refl (omega arith)

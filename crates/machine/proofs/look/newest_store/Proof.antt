@@ -5,7 +5,7 @@ use native.Mathlib.Omega.{arith}
 use lib.ListN.{length}
 use Rattle.cases.specs.Sizes.{allCode}
 use Rattle.cases.proofs.ArrayLaws.{unmapped}
-use Rattle.machine.proofs.LookLaws.{StoreSoFar, store-start, store-next, store-end}
+use Rattle.machine.proofs.look.LookLoopLaws.{StoreSoFar, store-start, store-next, store-end}
 use borrow.Author.Needs.{needs}
 use Rattle.machine.proofs.look.newest_store.Statement.{statement}
 use Rattle.machine.proofs.look.newest_store.Tie as tie

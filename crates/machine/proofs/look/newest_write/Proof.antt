@@ -1,7 +1,7 @@
 -- `newest_write` meets its contract. Assumes nothing.
 use Prim.Native.Nat.{_-_}
 use native.Mathlib.Omega.{arith}
-use Rattle.machine.proofs.LookLaws.{NewestSoFar, newest-start, newest-next, newest-end}
+use Rattle.machine.proofs.look.LookLoopLaws.{NewestSoFar, newest-start, newest-next, newest-end}
 use borrow.Author.Needs.{needs}
 use Rattle.machine.proofs.look.newest_write.Statement.{statement}
 use Rattle.machine.proofs.look.newest_write.Tie as tie

@@ -2,7 +2,7 @@
 use native.Mathlib.Omega.{arith}
 use Rattle.machine.specs.Rules.{effectRule}
 use Rattle.cases.proofs.ChoiceLaws.{choices}
-use Rattle.machine.proofs.MoveLaws.{flush-low, flush-held, flush-free}
+use Rattle.machine.proofs.moves.MoveLaws.{move-flush-low, move-flush-held, move-flush-free}
 use borrow.Author.Needs.{needs}
 use Rattle.machine.proofs.moves.effect_rule.Statement.{statement}
 use Rattle.machine.proofs.moves.effect_rule.Tie as tie
@@ -23,7 +23,7 @@ element-copy-out-if1 : tie.Need-element-copy-out-if1
 element-copy-out-if1 c =
     let a = c .before .before .before .before .before in
     let e = c .before .before .before .e .given .1 in
-    flush-low _ (a .pre .0) (a .pre .2) _ e _ (c .before .queue-of .ensures)
+    move-flush-low _ (a .pre .0) (a .pre .2) _ e _ (c .before .queue-of .ensures)
 
 enum-told-2 : tie.Need-enum-told-2
 enum-told-2 c = search needs
@@ -41,12 +41,12 @@ returns c = rw (c .enum-told .given .1)
 returns-2 : tie.Need-returns-2
 returns-2 c =
     let e = c .before .before .before in
-    flush-held _ _ _ _ _ (e .before .before .e .given .1) _ (e .queue-of .ensures) (omega arith)
+    move-flush-held _ _ _ _ _ (e .before .before .e .given .1) _ (e .queue-of .ensures) (omega arith)
 
 returns-3 : tie.Need-returns-3
 returns-3 c =
     let e = c .before .before .before in
-    flush-free _ _ _ _ _ (e .before .before .e .given .1) _ (e .queue-of .ensures) (omega arith)
+    move-flush-free _ _ _ _ _ (e .before .before .e .given .1) _ (e .queue-of .ensures) (omega arith)
 
 returns-4 : tie.Need-returns-4
 unfolding effectRule

@@ -3,8 +3,8 @@ use mathlib.Core.Path.{_≡_}
 use lib.ListN.{length}
 use Rattle.cases.specs.Sizes.{allCode}
 use Rattle.cases.proofs.ArrayLaws.{unmapped}
-use Rattle.machine.proofs.ChangeLaws.{take-out-is}
-use Rattle.machine.proofs.MoveLaws.{entry-named, roomy-buffer, move-taken}
+use Rattle.machine.proofs.change.ChangeLaws.{take-out-is}
+use Rattle.machine.proofs.moves.MoveLaws.{move-entry-named, roomy-buffer, move-taken}
 use borrow.Author.Needs.{needs}
 use Rattle.machine.proofs.moves.move_entry.Statement.{statement}
 use Rattle.machine.proofs.moves.move_entry.Tie as tie
@@ -52,7 +52,7 @@ sized o = search unmapped
 take-effect-requires : tie.Need-take-effect-requires
 take-effect-requires c κs =
     let o = c .before .before .before .before .before in
-    let named = entry-named _ _ _ _ (o .pre .2) _ (o .pre .4) in
+    let named = move-entry-named _ _ _ _ (o .pre .2) _ (o .pre .4) in
     let left = take-out-is _ _ (sized o) (o .pre .1) _ _ (o .pre .2) (o .pre .3) (c .close-entries .ensures) in
     (o .pre .0, o .pre .1, named, roomy-buffer _ _ _ _ left (o .pre .5))
 

@@ -1,7 +1,7 @@
 -- `move_rule` meets its contract. Assumes nothing.
 use Rattle.machine.specs.Rules.{moveRule}
 use Rattle.cases.proofs.ChoiceLaws.{choices}
-use Rattle.machine.proofs.MoveLaws.{first-named, move-first, move-behind}
+use Rattle.machine.proofs.moves.MoveLaws.{move-first-named, move-first, move-behind}
 use borrow.Author.Needs.{needs}
 use Rattle.machine.proofs.moves.move_rule.Statement.{statement}
 use Rattle.machine.proofs.moves.move_rule.Tie as tie
@@ -31,7 +31,7 @@ array-copy-out-w c = search needs
 effect-rule-requires : tie.Need-effect-rule-requires
 effect-rule-requires c κs =
     let a = c .before .before .before .before .before in
-    let named = first-named _ _ _ _ (c .before .before .if1 .left) (c .if2 .taken) _ (a .pre .3) in
+    let named = move-first-named _ _ _ _ (c .before .before .if1 .left) (c .if2 .taken) _ (a .pre .3) in
     (a .pre .0, a .pre .1, named, a .pre .4, a .pre .5)
 
 returns-2 : tie.Need-returns-2

@@ -3,8 +3,8 @@ use mathlib.Core.Path.{_≡_}
 use lib.ListN.{length}
 use Rattle.machine.specs.Sizes.{allSlots}
 use Rattle.machine.specs.View.{withWord}
-use Rattle.machine.proofs.ChangeLaws.{dequeue-is}
-use Rattle.machine.proofs.MoveLaws.{home-there, persist-some}
+use Rattle.machine.proofs.change.ChangeLaws.{dequeue-is}
+use Rattle.machine.proofs.moves.MoveLaws.{home-there, persist-some}
 use borrow.Author.Needs.{needs}
 use Rattle.machine.proofs.moves.persist.Statement.{statement}
 use Rattle.machine.proofs.moves.persist.Tie as tie

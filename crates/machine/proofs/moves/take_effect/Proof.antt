@@ -1,6 +1,6 @@
 -- `take_effect` meets its contract. Assumes nothing.
 use Rattle.machine.specs.Rules.{effectOf}
-use Rattle.machine.proofs.MoveLaws.{store-named, flush-opt-named, roomy-is}
+use Rattle.machine.proofs.moves.MoveLaws.{move-store-named, move-flush-opt-named, roomy-is}
 use borrow.Author.Needs.{needs}
 use Rattle.machine.proofs.moves.take_effect.Statement.{statement}
 use Rattle.machine.proofs.moves.take_effect.Tie as tie
@@ -14,7 +14,7 @@ queue-of-requires c κs = search needs
 enqueue-requires : tie.Need-enqueue-requires
 enqueue-requires c κs =
     let a = c .before .before .before .before in
-    let named = store-named (a .pre .2) _ (c .before .before .e .given .1) in
+    let named = move-store-named (a .pre .2) _ (c .before .before .e .given .1) in
     roomy-is _ (a .pre .0) _ (a .pre .3) _ named _ (c .queue-of .ensures)
 
 enum-told : tie.Need-enum-told
@@ -33,7 +33,7 @@ enqueue-requires-2 : tie.Need-enqueue-requires-2
 enqueue-requires-2 c κs =
     let q = c .before in
     let a = q .before .before .before .before in
-    let named = flush-opt-named (a .pre .2) _ (q .before .before .e2 .given .1) in
+    let named = move-flush-opt-named (a .pre .2) _ (q .before .before .e2 .given .1) in
     roomy-is _ (a .pre .0) _ (a .pre .3) _ named _ (q .queue-of2 .ensures)
 
 enum-told-2 : tie.Need-enum-told-2

@@ -1,6 +1,6 @@
 -- `offer` meets its contract. Assumes nothing.
 use mathlib.Core.Path.{sym}
-use Rattle.machine.proofs.OfferedLaws.{offered-none, offered-some}
+use Rattle.machine.proofs.next.OfferedLaws.{offered-none, offered-some}
 use borrow.Author.Needs.{needs}
 use Rattle.machine.proofs.next.offer.Statement.{statement}
 use Rattle.machine.proofs.next.offer.Tie as tie

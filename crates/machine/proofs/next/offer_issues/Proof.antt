@@ -10,8 +10,8 @@ use Rattle.machine.specs.Parts.{lent}
 use Rattle.machine.specs.Rules.{ruleIn}
 use Rattle.machine.specs.Next.{issueStep, stepsFrom, rankOf}
 use Rattle.machine.specs.Offer.{nextWith}
-use Rattle.machine.proofs.OfferLaws.{OfferedSoFar, offers-start, offers-low, offer-next}
-use Rattle.machine.proofs.OfferLaws.{offer-end, issue-none, issue-some}
+use Rattle.machine.proofs.next.OfferLoopLaws.{OfferedSoFar, offers-start, offers-low, offer-next}
+use Rattle.machine.proofs.next.OfferLoopLaws.{offer-end, offer-issue-none, offer-issue-some}
 use borrow.Author.Needs.{needs}
 use Rattle.machine.proofs.next.offer_issues.Statement.{statement}
 use Rattle.machine.proofs.next.offer_issues.Tie as tie
@@ -90,8 +90,8 @@ loop-again c =
     let l = c .before .before .before .before .before .before .loop in
     let e =
     ⊎-elim
-    (λ w. w .3 ∙ issue-some _ _ _ _ (w .0 .taken) (w .2 .ensures))
-    (λ w. w .1 ∙ issue-none _ _ _ (w .0 .left))
+    (λ w. w .3 ∙ offer-issue-some _ _ _ _ (w .0 .taken) (w .2 .ensures))
+    (λ w. w .1 ∙ offer-issue-none _ _ _ (w .0 .left))
     (c .before .before .if1 .came) in
     (l .inv .0, offer-next issueStep (l .inv .1) (omega arith) _ e _ (c .offer .ensures))
 

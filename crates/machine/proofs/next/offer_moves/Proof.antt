@@ -7,7 +7,8 @@ use Rattle.machine.specs.Parts.{lent}
 use Rattle.machine.specs.Rules.{ruleIn}
 use Rattle.machine.specs.Next.{movesFrom}
 use Rattle.machine.specs.Offer.{nextWith}
-use Rattle.machine.proofs.OfferLaws.{OfferedSoFar, offers-start, offers-room, thread-next, thread-end}
+use Rattle.machine.proofs.next.OfferLoopLaws.{OfferedSoFar, offers-start, offers-room, offer-thread-next}
+use Rattle.machine.proofs.next.OfferLoopLaws.{offer-thread-end}
 use borrow.Author.Needs.{needs}
 use Rattle.machine.proofs.next.offer_moves.Statement.{statement}
 use Rattle.cases.proofs.Promises.{thread-low}
@@ -30,7 +31,8 @@ loop-holds c =
 offer-moves-of-requires : tie.Need-offer-moves-of-requires Inv-loop μ-loop
 offer-moves-of-requires c κs =
     let g = c .before .before .before .before .pre in
-    (g .0, thread-low (g .0) (omega arith), g .1, g .2, g .3, offers-room (c .before .before .before .loop .inv) (omega arith))
+    let room = offers-room (c .before .before .before .loop .inv) (omega arith) in
+    (g .0, thread-low (g .0) (omega arith), g .1, g .2, g .3, room)
 
 add-t : tie.Need-add-t Inv-loop μ-loop
 add-t c = search needs
@@ -41,10 +43,10 @@ loop-less c = search needs
 loop-again : tie.Need-loop-again Inv-loop μ-loop
 loop-again c =
     let l = c .before .before .before .before .loop in
-    thread-next (l .inv) (omega arith) _ (c .offer-moves-of .ensures)
+    offer-thread-next (l .inv) (omega arith) _ (c .offer-moves-of .ensures)
 
 returns : tie.Need-returns Inv-loop μ-loop
-returns c = thread-end (c .before .before .loop .inv) (omega arith)
+returns c = offer-thread-end (c .before .before .loop .inv) (omega arith)
 
 pub offer-moves-spec : {M : Type 1} → statement M
 offer-moves-spec =

@@ -8,8 +8,8 @@ use Rattle.machine.specs.Parts.{lent}
 use Rattle.machine.specs.Rules.{ruleIn}
 use Rattle.machine.specs.Next.{moveStep, stepsFrom, rankOf}
 use Rattle.machine.specs.Offer.{nextWith}
-use Rattle.machine.proofs.OfferLaws.{OfferedSoFar, offers-start, offers-low, movable-at}
-use Rattle.machine.proofs.OfferLaws.{offer-next, position-end}
+use Rattle.machine.proofs.next.OfferLoopLaws.{OfferedSoFar, offers-start, offers-low, movable-at}
+use Rattle.machine.proofs.next.OfferLoopLaws.{offer-next, offer-position-end}
 use borrow.Author.Needs.{needs}
 use Rattle.machine.proofs.next.offer_moves_of.Statement.{statement}
 use Rattle.machine.proofs.next.offer_moves_of.Tie as tie
@@ -60,7 +60,7 @@ loop-again c =
     (l .inv .0, offer-next (moveStep _) (l .inv .1) (omega arith) _ e _ (c .offer .ensures))
 
 returns : tie.Need-returns Inv-loop μ-loop
-returns c = position-end _ _ _ (c .before .loop .inv .1) (omega arith)
+returns c = offer-position-end _ _ _ (c .before .loop .inv .1) (omega arith)
 
 pub offer-moves-of-spec : {M : Type 1} → statement M
 offer-moves-of-spec =

@@ -9,8 +9,9 @@ use Rattle.machine.specs.Parts.{lent}
 use Rattle.machine.specs.Rules.{ruleIn}
 use Rattle.machine.specs.Next.{persistStep, stepsFrom, rankOf}
 use Rattle.machine.specs.Offer.{nextWith}
-use Rattle.machine.proofs.QueueOfLaws.{few-queues}
-use Rattle.machine.proofs.OfferLaws.{OfferedSoFar, offers-start, offers-low, offer-next, offer-end}
+use Rattle.machine.proofs.view.QueueOfLaws.{few-queues}
+use Rattle.machine.proofs.next.OfferLoopLaws.{OfferedSoFar, offers-start, offers-low, offer-next}
+use Rattle.machine.proofs.next.OfferLoopLaws.{offer-end}
 use borrow.Author.Needs.{needs}
 use Rattle.machine.proofs.next.offer_persists.Statement.{statement}
 use Rattle.machine.proofs.next.offer_persists.Tie as tie

@@ -2,7 +2,7 @@
 use borrow.Author.Needs.{needs}
 use Rattle.cases.proofs.ChoiceLaws.{choices}
 use Rattle.machine.specs.Judge.{judgeBytes}
-use Rattle.machine.proofs.RunLaws.{read-case}
+use Rattle.machine.proofs.runs.JudgeLoopLaws.{read-case}
 use Rattle.machine.proofs.runs.judge_bytes.Statement.{statement}
 use Rattle.machine.proofs.runs.judge_bytes.Tie as tie
 

@@ -5,8 +5,9 @@ use borrow.Author.Needs.{needs}
 use native.Mathlib.Omega.{arith}
 use Rattle.machine.specs.Rules.{ruleOf}
 use Rattle.machine.specs.Judge.{judgeRun, judged}
-use Rattle.machine.proofs.ReadyLaws.{rule-ready}
-use Rattle.machine.proofs.RunLaws.{JudgedSoFar, judging-start, judging-next, judging-here, judging-end}
+use Rattle.machine.proofs.rules.ReadyLaws.{rule-ready}
+use Rattle.machine.proofs.runs.JudgeLoopLaws.{JudgedSoFar, judging-start, judging-next, judging-here}
+use Rattle.machine.proofs.runs.JudgeLoopLaws.{judging-end}
 use Rattle.machine.proofs.runs.judge_run.Statement.{statement}
 use Rattle.machine.proofs.runs.judge_run.Tie as tie
 

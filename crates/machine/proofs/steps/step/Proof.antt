@@ -4,7 +4,7 @@ use Rattle.cases.proofs.ChoiceLaws.{choices, told, told-true}
 use Rattle.machine.specs.Fit.{Sized}
 use Rattle.machine.specs.Judge as judge
 use Rattle.cases.proofs.ArrayLaws.{unmapped}
-use Rattle.machine.proofs.FitLaws.{readable-fits}
+use Rattle.machine.proofs.fit.FitTestLaws.{readable-fits}
 use Rattle.machine.proofs.steps.step.Statement.{statement}
 use Rattle.machine.proofs.steps.step.Tie as tie
 

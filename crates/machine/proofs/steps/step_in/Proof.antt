@@ -4,8 +4,8 @@ use borrow.Author.Needs.{needs}
 use Rattle.cases.proofs.ChoiceLaws.{choices}
 use Rattle.machine.specs.Rules.{ruleOf}
 use Rattle.machine.specs.Judge.{steppedOf, told}
-use Rattle.machine.proofs.JudgeLaws.{stepped-legal}
-use Rattle.machine.proofs.ReadyLaws.{rule-ready}
+use Rattle.machine.proofs.runs.JudgeLaws.{stepped-legal}
+use Rattle.machine.proofs.rules.ReadyLaws.{rule-ready}
 use Rattle.machine.proofs.steps.step_in.Statement.{statement}
 use Rattle.machine.proofs.steps.step_in.Tie as tie
 

@@ -2,7 +2,7 @@
 use native.Mathlib.Omega.{arith}
 use Rattle.cases.proofs.ChoiceLaws.{choices}
 use Rattle.machine.specs.Rules.{nextOf}
-use Rattle.machine.proofs.ReadyLaws.{issue-ready, move-ready, persist-ready}
+use Rattle.machine.proofs.rules.ReadyLaws.{issue-ready, move-ready, persist-ready}
 use Rattle.machine.proofs.steps.take_step.Statement.{statement}
 use Rattle.machine.proofs.steps.take_step.Tie as tie
 

@@ -1,8 +1,8 @@
 -- `full_length` meets its contract. Assumes nothing.
 use Rattle.machine.specs.Judge.{fullOf}
 use Rattle.cases.proofs.ChoiceLaws.{choices, told-true}
-use Rattle.machine.proofs.FitLaws.{readable-start}
-use Rattle.machine.proofs.WeighLaws.{full-told}
+use Rattle.machine.proofs.fit.FitTestLaws.{readable-start}
+use Rattle.machine.proofs.work.WeighLaws.{full-told}
 use borrow.Author.Needs.{needs}
 use Rattle.machine.proofs.work.full_length.Statement.{statement}
 use Rattle.machine.proofs.work.full_length.Tie as tie

@@ -6,7 +6,7 @@ use mir.Syntax.{w8}
 use mir.Val.{Fits}
 use Rattle.cases.specs.Sizes.{mostLocations}
 use Rattle.machine.specs.View.{queueLen}
-use Rattle.machine.proofs.CheckLaws.{SummedSoFar, sum-start, sum-next, sum-end}
+use Rattle.machine.proofs.lists.SumLaws.{SummedSoFar, sum-start, sum-next, sum-end}
 use borrow.Author.Needs.{needs}
 use Rattle.machine.proofs.work.queues_work.Statement.{statement}
 use Rattle.machine.proofs.work.queues_work.Tie as tie

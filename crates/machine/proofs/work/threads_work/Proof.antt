@@ -3,8 +3,8 @@ use Prim.Native.Nat.{_-_, _*_}
 use native.Mathlib.Omega.{arith}
 use Rattle.cases.specs.Sizes.{mostThreads, mostInstructions}
 use Rattle.machine.specs.Work.{threadWork}
-use Rattle.machine.proofs.KeepLaws.{buffer-within}
-use Rattle.machine.proofs.CheckLaws.{SummedSoFar, sum-start, sum-next, sum-end}
+use Rattle.machine.proofs.fit.FitLaws.{fits-buffer-within}
+use Rattle.machine.proofs.lists.SumLaws.{SummedSoFar, sum-start, sum-next, sum-end}
 use borrow.Author.Needs.{needs}
 use Rattle.machine.proofs.work.threads_work.Statement.{statement}
 use Rattle.machine.proofs.work.threads_work.Tie as tie
@@ -31,7 +31,8 @@ weigh-code-requires c κs =
 weigh-buffer-requires : tie.Need-weigh-buffer-requires Inv-loop μ-loop
 weigh-buffer-requires c κs =
     let o = c .before .before .before .before .before .before in
-    (omega arith, buffer-within _ _ (o .pre) (c .before .before .before .before .before .loop .t) (omega arith))
+    let within = fits-buffer-within _ _ (o .pre) (c .before .before .before .before .before .loop .t) in
+    (omega arith, within (omega arith))
 
 add-total : tie.Need-add-total Inv-loop μ-loop
 add-total c =

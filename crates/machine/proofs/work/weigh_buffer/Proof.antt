@@ -7,7 +7,7 @@ use Rattle.cases.specs.Sizes.{mostInstructions, allCode}
 use Rattle.machine.specs.View.{bufferIn, blankWaiting}
 use Rattle.machine.specs.Work.{entryWeight}
 use Rattle.cases.proofs.ArrayLaws.{unmapped}
-use Rattle.machine.proofs.WeighLaws.{WeighedSoFar, weigh-start, weigh-next, weigh-end}
+use Rattle.machine.proofs.work.WeighLaws.{WeighedSoFar, weigh-start, weigh-next, weigh-end}
 use borrow.Author.Needs.{needs}
 use Rattle.machine.proofs.work.weigh_buffer.Statement.{statement}
 use Rattle.machine.proofs.work.weigh_buffer.Tie as tie

@@ -8,7 +8,7 @@ use Rattle.cases.specs.Draft.{noInstruction}
 use Rattle.machine.specs.Fit.{unissued}
 use Rattle.machine.specs.Work.{codeWeight, unissuedCode}
 use Rattle.cases.proofs.ArrayLaws.{unmapped}
-use Rattle.machine.proofs.WeighLaws.{WeighedSoFar, weigh-start, weigh-next, weigh-end}
+use Rattle.machine.proofs.work.WeighLaws.{WeighedSoFar, weigh-start, weigh-next, weigh-end}
 use borrow.Author.Needs.{needs}
 use Rattle.machine.proofs.work.weigh_code.Statement.{statement}
 use Rattle.machine.proofs.work.weigh_code.Tie as tie

@@ -3,8 +3,8 @@ use Rattle.machine.specs.Fit.{Sized}
 use Rattle.machine.specs.Judge.{workOf}
 use Rattle.cases.proofs.ChoiceLaws.{choices, told, told-true}
 use Rattle.cases.proofs.ArrayLaws.{unmapped}
-use Rattle.machine.proofs.FitLaws.{readable-fits}
-use Rattle.machine.proofs.WeighLaws.{work-told}
+use Rattle.machine.proofs.fit.FitTestLaws.{readable-fits}
+use Rattle.machine.proofs.work.WeighLaws.{work-told}
 use borrow.Author.Needs.{needs}
 use Rattle.machine.proofs.work.work_left.Statement.{statement}
 use Rattle.machine.proofs.work.work_left.Tie as tie

@@ -1,7 +1,7 @@
 -- `ask` meets its contract. Assumes nothing.
 use native.Mathlib.Omega.{arith}
-use Rattle.search.proofs.AskLaws.{begun-fits, begun-few, answer-short, answer-found, answer-finished}
-use Rattle.search.proofs.AskLaws.{answer-stopped}
+use Rattle.search.proofs.ask.AskLaws.{ask-start-fits, ask-start-few, ask-short, ask-found, ask-finished}
+use Rattle.search.proofs.ask.AskLaws.{ask-stopped}
 use borrow.Author.Needs.{needs}
 use Rattle.search.proofs.ask.ask.Statement.{statement}
 use Rattle.search.proofs.ask.ask.Tie as tie
@@ -10,11 +10,11 @@ start-of-requires : tie.Need-start-of-requires
 start-of-requires c κs = search needs
 
 work-in-requires : tie.Need-work-in-requires
-work-in-requires c κs = begun-fits _ (c .before .before .pre) _ (c .start-of .ensures)
+work-in-requires c κs = ask-start-fits _ (c .before .before .pre) _ (c .start-of .ensures)
 
 mul-if1 : tie.Need-mul-if1
 mul-if1 c =
-    let few = begun-few _ (c .before .before .before .pre) _ (c .before .start-of .ensures) in
+    let few = ask-start-few _ (c .before .before .before .pre) _ (c .before .start-of .ensures) in
     let w = c .work-in .ensures in
     search needs
 
@@ -22,7 +22,7 @@ returns : tie.Need-returns
 returns c =
     let w = c .before in
     let s = w .before in
-    answer-short _ (s .before .before .pre) _ _ _ (s .start-of .ensures) _ (w .work-in .ensures) _
+    ask-short _ (s .before .before .pre) _ _ _ (s .start-of .ensures) _ (w .work-in .ensures) _
     (c .if1 .taken)
 
 walk-requires : tie.Need-walk-requires
@@ -30,10 +30,10 @@ walk-requires c κs =
     let w = c .before .before in
     let s = w .before in
     let g = s .before .before .pre in
-    let few = begun-few _ g _ (s .start-of .ensures) in
+    let few = ask-start-few _ g _ (s .start-of .ensures) in
     let e = w .work-in .ensures in
     let left = c .before .if1 .left in
-    (begun-fits _ g _ (s .start-of .ensures), omega arith, omega arith)
+    (ask-start-fits _ g _ (s .start-of .ensures), omega arith, omega arith)
 
 enum-known-count : tie.Need-enum-known-count
 enum-known-count c = search needs
@@ -52,7 +52,7 @@ returns-2 c =
     let i = c .before .before .before .before .before .before .before in
     let w = i .before in
     let s = w .before in
-    answer-found _ (s .before .before .pre) _ _ _ (s .start-of .ensures) _ (w .work-in .ensures) _
+    ask-found _ (s .before .before .pre) _ _ _ (s .start-of .ensures) _ (w .work-in .ensures) _
     (i .if1 .left) _ _ (c .before .before .before .before .before .walk .ensures) _ (c .before .count .given .1)
 
 same-length-2 : tie.Need-same-length-2
@@ -63,7 +63,7 @@ returns-3 c =
     let i = c .before .before .before .before .before .before in
     let w = i .before in
     let s = w .before in
-    answer-finished _ (s .before .before .pre) _ _ _ (s .start-of .ensures) _ (w .work-in .ensures) _
+    ask-finished _ (s .before .before .pre) _ _ _ (s .start-of .ensures) _ (w .work-in .ensures) _
     (i .if1 .left) _ _ (c .before .before .before .before .walk .ensures) _ (c .enum-told .given .1)
 
 same-length-3 : tie.Need-same-length-3
@@ -74,7 +74,7 @@ returns-4 c =
     let i = c .before .before .before .before .before .before in
     let w = i .before in
     let s = w .before in
-    answer-stopped _ (s .before .before .pre) _ _ _ (s .start-of .ensures) _ (w .work-in .ensures) _
+    ask-stopped _ (s .before .before .pre) _ _ _ (s .start-of .ensures) _ (w .work-in .ensures) _
     (i .if1 .left) _ _ (c .before .before .before .before .walk .ensures) (c .enum-told2 .given .1)
 
 pub ask-spec : {M : Type 1} → statement M

@@ -1,7 +1,7 @@
 -- `put_step` meets its contract. Assumes nothing.
 use native.Mathlib.Omega.{arith}
 use lib.ListN.{length-set}
-use Rattle.search.proofs.StoreLaws.{put-record}
+use Rattle.search.proofs.shown.StoreLaws.{put-record}
 use borrow.Author.Needs.{needs}
 use Rattle.search.proofs.shown.put_step.Statement.{statement}
 use Rattle.search.proofs.shown.put_step.Tie as tie

@@ -10,10 +10,10 @@ use Rattle.machine.specs.Ptso.{ptso}
 use Rattle.search.specs.Walk.{machineOf}
 use Rattle.search.specs.Question.{reaches}
 use Rattle.machine.proofs.Promises.{next-asks}
-use Rattle.search.proofs.LoopLaws.{left-used-up, left-here, walking-end}
-use Rattle.search.proofs.PtsoLaws.{Walks, reaches-lent, walks-start, walks-legal}
-use Rattle.search.proofs.TurnLaws.{turn-listed, turn-fits, turn-work, turn-length, turn-put}
-use Rattle.search.proofs.TurnLaws.{turn-room, turn-found, turn-stopped, turn-finished}
+use Rattle.search.proofs.walk.WalkLoopLaws.{left-used-up, left-here, walking-end}
+use Rattle.search.proofs.walk.WalkPtsoLaws.{Walks, reaches-lent, walks-start, walks-legal}
+use Rattle.search.proofs.walk.WalkTurnLaws.{turn-listed, turn-fits, turn-work, turn-length, turn-put}
+use Rattle.search.proofs.walk.WalkTurnLaws.{turn-room, turn-found, turn-stopped, turn-finished}
 use borrow.Author.Needs.{needs}
 use borrow.Fn.Kinds.{In}
 use borrow.Fn.PlainCycle.{Measures, is, falls, and}

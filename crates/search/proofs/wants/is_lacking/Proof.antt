@@ -3,7 +3,7 @@ use Prim.Native.Nat.{_-_}
 use native.Mathlib.Omega.{arith}
 use borrow.Author.Tests.{lt-ltb, le-ltb}
 use Rattle.cases.specs.Sizes.{mostThreads}
-use Rattle.machine.proofs.AnyLaws.{AskedSoFar, any-start, any-next, any-here, any-end}
+use Rattle.machine.proofs.lists.AnyLaws.{AskedSoFar, any-start, any-next, any-here, any-end}
 use Rattle.search.specs.Question.{lacksAt}
 use borrow.Author.Needs.{needs}
 use Rattle.search.proofs.wants.is_lacking.Statement.{statement}

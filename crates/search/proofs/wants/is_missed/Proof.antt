@@ -3,7 +3,7 @@ use Prim.Native.Nat.{_-_}
 use mathlib.Core.Path.{sym, _∙_}
 use native.Mathlib.Omega.{arith}
 use Rattle.cases.specs.Sizes.{mostLocations}
-use Rattle.machine.proofs.AnyLaws.{AskedSoFar, any-start, any-next, any-here, any-end}
+use Rattle.machine.proofs.lists.AnyLaws.{AskedSoFar, any-start, any-next, any-here, any-end}
 use Rattle.search.specs.Question.{missesAt}
 use borrow.Author.Needs.{needs}
 use Rattle.search.proofs.wants.is_missed.Statement.{statement}

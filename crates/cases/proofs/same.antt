@@ -1,0 +1,3 @@
+-- Cases that are the same (specs/Writing).
+-- same, SameSoFar: the loops; case-is, case-self
+pub mod SameLaws

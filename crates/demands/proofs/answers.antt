@@ -1,0 +1,7 @@
+-- What is answered.
+-- judge, question, asking: the numbers
+pub mod TableLaws
+-- reached, unreachable, undecided: what the question says of bytes
+pub mod AskedLaws
+-- legal: a run that the judge passes
+pub mod JudgedLaws

@@ -1,0 +1,92 @@
+-- Location l's writes: those that wait in a store buffer, and those that a thread has still to fix. Assumes
+-- nothing.
+use Prim.Native.Nat.{ℕ, zero, suc, _≤_, _<_}
+use mathlib.Core.Path.{_≡_, refl, sym, ap, _∙_}
+use mathlib.Core.Logic.{_⊎_, inl, inr}
+use mathlib.Core.List.{List, [], _∷_, _++_, append-nil, append-assoc}
+use native.Mathlib.Omega.{arith}
+use native.Mathlib.Numerals.{add-one}
+use lib.Dec.{eqb}
+use lib.ListN.{length}
+use Rattle.cases.specs.declared.case.Location.{Location}
+use Rattle.cases.specs.declared.case.Register.{Register}
+use Rattle.cases.specs.declared.case.Program.{Program}
+use Rattle.cases.specs.Choice.{pick, both, either}
+use Rattle.cases.specs.Operations.{lastOperation, firstOperation, exchange}
+use Rattle.machine.specs.declared.cells.State.{State}
+use Rattle.machine.specs.declared.cells.Waiting.{Waiting}
+use Rattle.machine.specs.View.{without, registerIn}
+use Rattle.machine.specs.Rules.{instructionAt, entryAt, entryOf, isBarrier}
+use Rattle.machine.specs.Joins.{joins, onlyIf, storeOf, swapOf}
+use Rattle.machine.proofs.OperationLaws.{each-operation, of}
+use Rattle.demands.specs.Writes.{isWrite, writes, fixedBy}
+
+unfoldable pub storesOf : ℕ → List Waiting → List ℕ
+storesOf l [] = []
+storesOf l (w ∷ b) = storeOf l (w .entry) ++ storesOf l b
+
+-- the n instructions of thread t from the i-th on, where instruction j fixes the word f j
+unfoldable pub fixesFrom : Program → ℕ → ℕ → (ℕ → ℕ) → ℕ → ℕ → List ℕ
+fixesFrom p t l f i zero = []
+fixesFrom p t l f i (suc n) = onlyIf (writes (instructionAt p t i) l) (f i) ++ fixesFrom p t l f (suc i) n
+
+-- one behind another
+pub stores-append : (l : ℕ) (b c : List Waiting) → storesOf l (b ++ c) ≡ storesOf l b ++ storesOf l c
+unfolding storesOf
+stores-append l [] c = refl
+stores-append l (w ∷ b) c =
+    rw (stores-append l b c) (sym (append-assoc (storeOf l (w .entry)) (storesOf l b) (storesOf l c)))
+
+-- an entry taken out that is the first, or no store to l
+pub stores-without : (l : ℕ) (b : List Waiting) (i : ℕ) → i < length b
+    → (i ≡ 0) ⊎ (storeOf l (entryAt b i) ≡ [])
+    → storesOf l b ≡ storeOf l (entryAt b i) ++ storesOf l (without i b)
+unfolding storesOf without
+stores-without l [] i h o = absurd (omega arith)
+stores-without l (w ∷ b) zero h o = refl
+stores-without l (w ∷ b) (suc i) h (inl e) = absurd (omega arith)
+stores-without l (w ∷ b) (suc i) h (inr e) =
+    let r = stores-without l b i (omega arith) (inr e) in
+    rw (add-one, e) (ap (λ x. storeOf l (w .entry) ++ x) (rw (e, add-one) at r))
+
+-- words that are the same to the last
+pub fixes-same : (p : Program) (t l : ℕ) (f g : ℕ → ℕ) (i n : ℕ) → ((j : ℕ) → i ≤ j → f j ≡ g j)
+    → fixesFrom p t l f i n ≡ fixesFrom p t l g i n
+unfolding fixesFrom
+fixes-same p t l f g i zero h = refl
+fixes-same p t l f g i (suc n) h =
+    rw (h i (omega arith), fixes-same p t l f g (suc i) n (λ j k. h j (omega arith)))
+
+-- What an instruction fixes goes into its thread's buffer or straight into the queue
+module _ (s : State) (t l : ℕ) (m : Location) (r : Register) (w : ℕ) where
+  abbrev Splits : ℕ → Type 0
+  Splits op = onlyIf (writes (of op m r w) l) (fixedBy s t (of op m r w))
+      ≡ storesOf l (joins (s .registers) t (of op m r w)) ++ swapOf l (of op m r w)
+
+  stored : (v : ℕ) → onlyIf (eqb (m .0) l) v ≡ (onlyIf (eqb (m .0) l) v ++ []) ++ []
+  stored v = sym (append-nil (onlyIf (eqb (m .0) l) v ++ []) ∙ append-nil (onlyIf (eqb (m .0) l) v))
+
+  pub stores-split : (op : ℕ) → firstOperation ≤ op → op ≤ lastOperation → Splits op
+  unfolding writes isWrite both either fixedBy joins isBarrier swapOf entryOf storesOf storeOf onlyIf pick
+  stores-split =
+      each-operation Splits
+      (stored w)
+      (stored (registerIn (s .registers) t (r .0)))
+      refl
+      refl
+      refl
+      refl
+      refl
+      refl
+
+  -- an exchange puts nothing into the buffer, every other instruction nothing straight on its way
+  abbrev Apart : ℕ → Type 0
+  Apart op =
+      ((op ≡ exchange) × (joins (s .registers) t (of op m r w) ≡ []))
+      ⊎ (swapOf l (of op m r w) ≡ [])
+
+  pub stores-apart : (op : ℕ) → firstOperation ≤ op → op ≤ lastOperation → Apart op
+  unfolding joins isBarrier swapOf onlyIf both either pick
+  stores-apart =
+      each-operation Apart (inr refl) (inr refl) (inr refl) (inl (refl, refl)) (inr refl) (inr refl) (inr refl)
+      (inr refl)

@@ -1,0 +1,7 @@
+-- The looks (specs/Look).
+-- the loops of newest, store and bar; NewestSoFar, StoreSoFar, BarSoFar
+pub mod LookLoopLaws
+-- the two loops of marker; MarkerQueuesSoFar, MarkerMarksSoFar
+pub mod MarkerLoopLaws
+-- marker: what the look for a thread's marker answers
+pub mod MarkerLaws

@@ -1,0 +1,7 @@
+-- The question (specs/Question).
+-- reaches, is-reaches: what it is to reach it
+pub mod ReachLaws
+-- ask, reached: the code
+pub mod AskLaws
+-- question: what is answered; walk, shown, only, steps
+pub mod QuestionLaws

@@ -1,0 +1,13 @@
+-- The walk (specs/Walk), and its code.
+-- walk, runs: what it lists; on, under, starting
+pub mod WalkLaws
+-- order, before, walk-in-order: in which order
+pub mod WalkOrderLaws
+-- walk of a model, walkable, thinned; leads
+pub mod WalkModelLaws
+-- walking, Walking, Lists: the code's loop; left, Left, restOf
+pub mod WalkLoopLaws
+-- turn: a turn of the loop
+pub mod WalkTurnLaws
+-- walks, Walks, reaches: over the machine of document 01
+pub mod WalkPtsoLaws
