@@ -14,7 +14,7 @@ use Rattle.machine.specs.declared.cells.Waiting.{Waiting}
 use Rattle.machine.specs.Sizes.{room}
 use Rattle.machine.specs.View.{Slot, marksOf, marksIn, queue, queueLen, withQueue, buffer, bufferLen}
 use Rattle.machine.specs.View.{withBuffer, withWord, withRegister}
-use Rattle.machine.specs.Fit.{sumTo, unissued, due, Fits, AllOf, Borne, NamedBy}
+use Rattle.machine.specs.Fit.{Sized, sumTo, unissued, due, Fits, AllOf, Borne, NamedBy}
 use Rattle.machine.proofs.lists.SumLaws.{sum-change}
 use Rattle.machine.proofs.view.QueueOfLaws.{few-queues}
 use Rattle.machine.proofs.view.QueueLaws.{queue-length, queueLen-same, queueLen-other, queue-marks-same}
@@ -146,31 +146,39 @@ module _ (p : Program) (s : State) (f : Fits p s) where
             rw (buffer-other s (f .sized) t in-threads within b fewer k e (fits-buffer-within k h))
             (f .named k h)
 
-  -- a word, a register
-  pub fits-word : (l w : ℕ) → Fits p (withWord s l w)
-  fits-word l w =
+  -- other words and registers: nothing of the fit is about them but how long they are
+  abbrev stored : List ℕ → List ℕ → State
+  stored words registers =
       record {
-        program = f .program;
-        sized = sized-word s (f .sized) l w;
-        few-issued = unfold withWord in f .few-issued;
-        few-waiting = unfold withWord unissued in f .few-waiting;
-        few-queued = unfold withWord due unissued in f .few-queued;
-        no-buffer = unfold withWord in f .no-buffer;
-        no-queue = unfold withWord in f .no-queue;
-        named = unfold withWord in f .named;
-        borne = unfold withWord in f .borne;
+        words = words;
+        held = s .held;
+        marks = s .marks;
+        lengths = s .lengths;
+        buffers = s .buffers;
+        waiting = s .waiting;
+        registers = registers;
+        issued = s .issued;
       }
 
-  pub fits-register : (t r w : ℕ) → Fits p (withRegister s t r w)
-  fits-register t r w =
+  fits-stored : (words registers : List ℕ) → Sized (stored words registers) → Fits p (stored words registers)
+  unfolding due unissued
+  fits-stored words registers z =
       record {
         program = f .program;
-        sized = sized-register s (f .sized) t r w;
-        few-issued = unfold withRegister in f .few-issued;
-        few-waiting = unfold withRegister unissued in f .few-waiting;
-        few-queued = unfold withRegister due unissued in f .few-queued;
-        no-buffer = unfold withRegister in f .no-buffer;
-        no-queue = unfold withRegister in f .no-queue;
-        named = unfold withRegister in f .named;
-        borne = unfold withRegister in f .borne;
+        sized = z;
+        few-issued = f .few-issued;
+        few-waiting = f .few-waiting;
+        few-queued = f .few-queued;
+        no-buffer = f .no-buffer;
+        no-queue = f .no-queue;
+        named = f .named;
+        borne = f .borne;
       }
+
+  pub fits-word : (l w : ℕ) → Fits p (withWord s l w)
+  unfolding withWord
+  fits-word l w = fits-stored _ _ (sized-word s (f .sized) l w)
+
+  pub fits-register : (t r w : ℕ) → Fits p (withRegister s t r w)
+  unfolding withRegister
+  fits-register t r w = fits-stored _ _ (sized-register s (f .sized) t r w)
