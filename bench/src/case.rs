@@ -1,5 +1,5 @@
-//! A case to measure: a program with its question, as data for the plain walks and as bytes for the library
-//! (document 01, "Records of a case").
+//! A case to measure: a program with its question or its run, as data for the plain sides and as bytes for the
+//! library (document 01, "Records of a case").
 
 use Operation::*;
 
@@ -21,6 +21,7 @@ pub struct Case {
     pub threads: Vec<Vec<Operation>>,
     pub wants: Vec<(u8, u32)>,
     pub passed: Vec<(u8, u8)>,
+    pub steps: Vec<Step>,
     pub budget: u32,
 }
 
@@ -72,6 +73,12 @@ impl Operation {
 }
 
 impl Case {
+    /// A program that nothing is asked of.
+    pub fn of(name: &'static str, locations: u8, threads: Vec<Vec<Operation>>) -> Case {
+        let (wants, passed, steps) = (Vec::new(), Vec::new(), Vec::new());
+        Case { name, locations, threads, wants, passed, steps, budget: 0 }
+    }
+
     /// The full length: no run is longer.
     pub fn full_length(&self) -> usize {
         self.threads.iter().flatten().map(|operation| operation.weight()).sum()
@@ -93,6 +100,7 @@ impl Case {
         for (thread, least) in &self.passed {
             file.extend([2, 0, 5, 0, *thread, *least]);
         }
+        file.extend(self.steps.iter().flat_map(|step| step.record()));
         file
     }
 }

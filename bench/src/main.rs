@@ -1,11 +1,16 @@
-//! Times the proved library's question against two plain Rust searches over the same machine, in one process.
-//! All three must agree on the answers, the steps and the number of runs, else nothing is measured.
+//! Times the proved library's question and judge, in two builds, against plain Rust over the same machine, in one
+//! process. All sides must agree on the answers, the steps and the number of runs, else nothing is measured.
+//!
+//! Without arguments it prints the tables; `names` lists the judged runs that look, `once I` judges the Ith of them
+//! once by each build, for a counter of instructions.
 
 mod agree;
 mod case;
 mod library;
+mod looks;
 mod machine;
 mod measure;
+mod replay;
 mod rows;
 mod table;
 mod walk;
@@ -15,13 +20,23 @@ use measure::Times;
 use rows::Arrays;
 use walk::Answer;
 
-const COLUMNS: [&str; 10] =
-    ["threads", "length", "answer", "runs", "library", "vectors", "arrays", "/vectors", "/arrays", "/faster"];
+const QUESTION: [&str; 4] = ["threads", "length", "answer", "runs"];
+const JUDGE: [&str; 2] = ["threads", "steps"];
+const SIDES: [&str; 8] =
+    ["library", "before", "vectors", "arrays", "/before", "/vectors", "/arrays", "/faster"];
 
 /// The program's entry as C's start-up code calls it: a C compiler links this archive with the library's.
 #[no_mangle]
 pub extern "C" fn main() -> i32 {
-    match bench() {
+    let words: Vec<String> = std::env::args().skip(1).collect();
+    let words: Vec<&str> = words.iter().map(String::as_str).collect();
+    let done = match words[..] {
+        [] => questions().and_then(|()| judged()),
+        ["names"] => names(),
+        ["once", which] => once(which),
+        _ => Err(String::from("no such words")),
+    };
+    match done {
         Ok(()) => 0,
         Err(difference) => {
             println!("bench: {}", difference);
@@ -30,19 +45,19 @@ pub extern "C" fn main() -> i32 {
     }
 }
 
-fn bench() -> Result<(), String> {
+fn questions() -> Result<(), String> {
     let mut cases: Vec<(Case, Answer)> = table::cases().into_iter().map(answered).collect();
     cases.sort_by_key(|(_, answer)| answer.runs);
     for (case, answer) in &cases {
         agree::all_agree(case, answer).map_err(|difference| format!("{}: {}", case.name, difference))?;
     }
-    println!("bench: the library and both plain searches agree on {} cases", cases.len());
-    println!("{}", row("case", &COLUMNS.map(String::from)));
-    println!("{}", row("---", &COLUMNS.map(|_| String::from("---:"))));
+    println!("bench: all sides agree on {} questions; nanoseconds a run of the walk", cases.len());
+    print_head(&QUESTION);
     let mut worst: f64 = 0.0;
     for (case, answer) in &cases {
-        let times = measure::times(case, answer.runs);
-        println!("{}", row(case.name, &figures(case, answer, &times)));
+        let times = measure::question_times(case, answer.runs);
+        let counts = [case.threads.len(), case.full_length(), answer.number as usize, answer.runs as usize];
+        print_row(case.name, &counts, &times);
         worst = worst.max(times.library / times.faster());
     }
     println!("bench: at most {:.2} times the faster plain search", worst);
@@ -54,19 +69,53 @@ fn answered(case: Case) -> (Case, Answer) {
     (case, answer)
 }
 
-fn figures(case: &Case, answer: &Answer, times: &Times) -> [String; 10] {
-    let counts = [case.threads.len(), case.full_length(), answer.number as usize, answer.runs as usize];
-    let [threads, length, number, runs] = counts.map(|count| count.to_string());
-    let nanoseconds = [times.library, times.vectors, times.arrays].map(|time| format!("{:.0}", time));
-    let sides = [times.vectors, times.arrays, times.faster()];
-    let ratios = sides.map(|time| format!("{:.2}", times.library / time));
-    let [library, vectors, arrays] = nanoseconds;
-    let [to_vectors, to_arrays, to_faster] = ratios;
-    [threads, length, number, runs, library, vectors, arrays, to_vectors, to_arrays, to_faster]
+fn judged() -> Result<(), String> {
+    let runs = looks::runs();
+    for case in runs.iter().flat_map(|run| [&run.full, &run.empty]) {
+        agree::all_pass(case).map_err(|difference| format!("{}: {}", case.name, difference))?;
+    }
+    println!("bench: all sides agree on {} judged runs; nanoseconds a step", 2 * runs.len());
+    print_head(&JUDGE);
+    for case in runs.iter().map(|run| &run.full) {
+        let times = measure::judge_times(case);
+        print_row(case.name, &[case.threads.len(), case.steps.len()], &times);
+    }
+    Ok(())
 }
 
-/// A row of the table, as docs/BENCHMARKS.md takes it.
+/// A line for each run: how many of its steps look, and its name.
+fn names() -> Result<(), String> {
+    for run in looks::runs() {
+        println!("{} {}", run.looks, run.full.name);
+    }
+    Ok(())
+}
+
+/// The runs count from 0, each before the one beside it.
+fn once(which: &str) -> Result<(), String> {
+    let cases: Vec<Case> = looks::runs().into_iter().flat_map(|run| [run.full, run.empty]).collect();
+    let case = which.parse().ok().and_then(|which: usize| cases.get(which)).ok_or("there is no such run")?;
+    agree::all_pass(case)
+}
+
+fn print_head(counts: &[&str]) {
+    let columns = [counts, &SIDES].concat();
+    let heads: Vec<String> = columns.iter().map(|column| column.to_string()).collect();
+    let lines: Vec<String> = columns.iter().map(|_| String::from("---:")).collect();
+    println!("{}\n{}", row("case", &heads), row("---", &lines));
+}
+
+fn print_row(name: &str, counts: &[usize], times: &Times) {
+    let counts = counts.iter().map(|count| count.to_string());
+    let sides = [times.library, times.before, times.vectors, times.arrays].map(|time| format!("{:.0}", time));
+    let others = [times.before, times.vectors, times.arrays, times.faster()];
+    let ratios = others.map(|time| format!("{:.2}", times.library / time));
+    let cells: Vec<String> = counts.chain(sides).chain(ratios).collect();
+    println!("{}", row(name, &cells));
+}
+
+/// A row of a table, as docs/BENCHMARKS.md takes it.
 fn row(name: &str, cells: &[String]) -> String {
     let aligned: Vec<String> = cells.iter().map(|cell| format!("{:>8}", cell)).collect();
-    format!("| {:<20} | {} |", name, aligned.join(" | "))
+    format!("| {:<25} | {} |", name, aligned.join(" | "))
 }

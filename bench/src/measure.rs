@@ -1,15 +1,16 @@
-//! How long each side takes for a case, in nanoseconds of processor time a run of the walk.
+//! How long each side takes for a case, in nanoseconds of processor time.
 
 use crate::case::Case;
-use crate::library;
+use crate::library::{self, BEFORE, NOW};
+use crate::replay;
 use crate::rows::{Arrays, Vectors};
 use crate::walk;
 
 /// Each side is timed so often, the sides in turn; the median counts.
 const ROUNDS: usize = 5;
 
-/// A sample repeats a small case until it has about so many runs.
-const RUNS_A_SAMPLE: u32 = 20_000;
+/// A sample repeats a small case until it has about so many runs of the walk, or so many steps of a judged run.
+const A_SAMPLE: u32 = 20_000;
 
 /// C's timespec on 64-bit Linux, and the clock of the process's own processor time.
 #[repr(C)]
@@ -34,41 +35,71 @@ fn processor_time() -> i64 {
     time.seconds * 1_000_000_000 + time.nanoseconds
 }
 
+/// The library's times have the reading of the file in them; the plain sides are given the case as data.
 pub struct Times {
     pub library: f64,
+    pub before: f64,
     pub vectors: f64,
     pub arrays: f64,
 }
 
 impl Times {
-    /// The time of the faster plain search.
+    /// The time of the faster plain side.
     pub fn faster(&self) -> f64 {
         self.vectors.min(self.arrays)
     }
 }
 
-/// The library's time has the reading of the file in it; the plain searches are given the case as data.
-pub fn times(case: &Case, runs: u32) -> Times {
+/// Of a question, for a run of the walk.
+pub fn question_times(case: &Case, runs: u32) -> Times {
     let file = case.bytes();
     let mut lent = vec![0; library::room(case.full_length())];
-    let mut samples = [Vec::new(), Vec::new(), Vec::new()];
+    let mut lent_before = lent.clone();
+    in_turn(
+        runs,
+        [
+            &mut || NOW.question(&file, &mut lent, case.budget),
+            &mut || BEFORE.question(&file, &mut lent_before, case.budget),
+            &mut || walk::question::<Vectors>(case).runs,
+            &mut || walk::question::<Arrays>(case).runs,
+        ],
+    )
+}
+
+/// Of a judged run, for a step.
+pub fn judge_times(case: &Case) -> Times {
+    let file = case.bytes();
+    in_turn(
+        case.steps.len() as u32,
+        [
+            &mut || NOW.judge(&file),
+            &mut || BEFORE.judge(&file),
+            &mut || replay::legal_steps::<Vectors>(case),
+            &mut || replay::legal_steps::<Arrays>(case),
+        ],
+    )
+}
+
+/// Each side's median, divided by what a call has of runs or of steps.
+fn in_turn(units: u32, mut sides: [&mut dyn FnMut() -> u32; 4]) -> Times {
+    let mut samples = [const { Vec::new() }; 4];
     for _ in 0..ROUNDS {
-        samples[0].push(sample(runs, || library::question(&file, &mut lent, case.budget)));
-        samples[1].push(sample(runs, || walk::question::<Vectors>(case).runs));
-        samples[2].push(sample(runs, || walk::question::<Arrays>(case).runs));
+        for (side, kept) in sides.iter_mut().zip(&mut samples) {
+            kept.push(sample(units, side));
+        }
     }
-    let [library, vectors, arrays] = samples.map(median);
-    Times { library, vectors, arrays }
+    let [library, before, vectors, arrays] = samples.map(median);
+    Times { library, before, vectors, arrays }
 }
 
 /// The answers are summed and the sum is looked at, so that the compiler can leave none out.
-fn sample(runs: u32, mut ask: impl FnMut() -> u32) -> f64 {
-    let repeats = (RUNS_A_SAMPLE / runs).max(1);
+fn sample(units: u32, ask: &mut dyn FnMut() -> u32) -> f64 {
+    let repeats = (A_SAMPLE / units).max(1);
     let began = processor_time();
     let sum: u64 = (0..repeats).map(|_| u64::from(ask())).sum();
     let spent = processor_time() - began;
     assert!(sum > 0, "every answer is above 0");
-    spent as f64 / (f64::from(repeats) * f64::from(runs))
+    spent as f64 / (f64::from(repeats) * f64::from(units))
 }
 
 fn median(mut samples: Vec<f64>) -> f64 {

@@ -14,7 +14,7 @@ type Wants<'a> = &'a [(u8, u32)];
 
 fn case(name: &'static str, locations: u8, threads: &[&[Operation]], wants: Wants) -> Case {
     let threads = threads.iter().map(|instructions| instructions.to_vec()).collect();
-    Case { name, locations, threads, wants: wants.to_vec(), passed: Vec::new(), budget: BUDGET }
+    Case { wants: wants.to_vec(), budget: BUDGET, ..Case::of(name, locations, threads) }
 }
 
 /// As many stores as a thread may have, of rising words.
