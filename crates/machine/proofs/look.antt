@@ -1,5 +1,5 @@
 -- The looks (specs/Look).
--- the loops of newest, store and bar; NewestSoFar, StoreSoFar, BarSoFar
+-- the loops of newest, store and bar, with silent for the end of the first two; SilentFrom, NewestSoFar, StoreSoFar, BarSoFar
 pub mod LookLoopLaws
 -- the two loops of marker; MarkerQueuesSoFar, MarkerMarksSoFar
 pub mod MarkerLoopLaws

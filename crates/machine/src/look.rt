@@ -19,7 +19,7 @@ ghost use Rattle.cases.specs.Sizes.{mostThreads, mostInstructions, mostLocation
 ghost use Rattle.machine.specs.Sizes.{room, allSlots};
 ghost use Rattle.machine.specs.View.{queueOf, homeOf, queueIn, bufferIn};
 ghost use Rattle.machine.specs.Fit.{Shallow};
-ghost use Rattle.machine.specs.Look.{wordOr, newestWrite, storedOr, newestStore, markerOf, marked, bars};
+ghost use Rattle.machine.specs.Look.{wordOr, newestWrite, newestStore, markerOf, marked, bars};
 ghost use Rattle.machine.specs.Look.{firstBar};
 
 // Where a marker stands: its queue and its position there.
@@ -63,27 +63,15 @@ pub(crate) fn newest_write<'a>(
         ≡ newestWrite (queueIn (now (held .entry)) (now (marks .entry)) (now (lengths .entry)) (q .0)) other ⌝ }
 {
     let base = (q.0 as usize) * ROOM;
-    let n = lengths[q.0 as usize] as usize;
-    let mut word = other;
-    let mut i = 0;
-    while i < n {
-        word = word_or(held[base + i], marks[base + i], word);
-        i += 1;
+    let mut i = lengths[q.0 as usize] as usize;
+    while 0 < i {
+        let at = base + i - 1;
+        if marks[at] == 0 {
+            return held[at];
+        }
+        i -= 1;
     }
-    word
-}
-
-// A store's word where it is to the location; else the word before.
-fn stored_or(w: Waiting, l: Location, before: u32) -> u32
-    ensures { λ r. ⌜ r ≡ storedOr (l .0) (w .entry) before ⌝ }
-{
-    let e = w.entry;
-    match e {
-        Entry::Store(x) => { if x.location.0 == l.0 { x.word } else { before } }
-        Entry::Flush(_) => before,
-        Entry::FlushOpt(_) => before,
-        Entry::Sfence => before,
-    }
+    other
 }
 
 // The newest store to a location in a thread's buffer, else the word given.
@@ -99,15 +87,18 @@ pub(crate) fn newest_store<'a>(
 {
     let b = buffers;
     let base = (t.0 as usize) * INSTRUCTIONS;
-    let n = waiting[t.0 as usize] as usize;
-    let mut word = other;
-    let mut i = 0;
-    while i < n {
-        let w = b[base + i];
-        word = stored_or(w, l, word);
-        i += 1;
+    let mut j = waiting[t.0 as usize] as usize;
+    while 0 < j {
+        let w = b[base + j - 1];
+        let e = w.entry;
+        if let Entry::Store(x) = e {
+            if x.location.0 == l.0 {
+                return x.word;
+            }
+        }
+        j -= 1;
     }
-    word
+    other
 }
 
 // The first marker of a thread, by queue and then by position.
