@@ -43,7 +43,7 @@ pub fn all_agree(case: &Case, answer: &Answer) -> Result<(), String> {
     libraries_say(case, short.runs, &short)
 }
 
-fn libraries_say(case: &Case, budget: u32, answer: &Answer) -> Result<(), String> {
+pub fn libraries_say(case: &Case, budget: u32, answer: &Answer) -> Result<(), String> {
     says(&NOW, case, budget, answer)?;
     says(&BEFORE, case, budget, answer).map_err(|difference| format!("before: {}", difference))
 }

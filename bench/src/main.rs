@@ -1,8 +1,8 @@
 //! Times the proved library's question and judge, in two builds, against plain Rust over the same machine, in one
 //! process. All sides must agree on the answers, the steps and the number of runs, else nothing is measured.
 //!
-//! Without arguments it prints the tables; `names` lists the judged runs that look, `once I` judges the Ith of them
-//! once by each build, for a counter of instructions.
+//! Without arguments it prints the tables. For a counter of instructions `names` lists the questions and the judged
+//! runs, and `question I` and `judge I` have each build answer the Ith once.
 
 mod agree;
 mod case;
@@ -33,7 +33,8 @@ pub extern "C" fn main() -> i32 {
     let done = match words[..] {
         [] => questions().and_then(|()| judged()),
         ["names"] => names(),
-        ["once", which] => once(which),
+        ["question", which] => ask_once(which),
+        ["judge", which] => judge_once(which),
         _ => Err(String::from("no such words")),
     };
     match done {
@@ -46,8 +47,7 @@ pub extern "C" fn main() -> i32 {
 }
 
 fn questions() -> Result<(), String> {
-    let mut cases: Vec<(Case, Answer)> = table::cases().into_iter().map(answered).collect();
-    cases.sort_by_key(|(_, answer)| answer.runs);
+    let cases = answered();
     for (case, answer) in &cases {
         agree::all_agree(case, answer).map_err(|difference| format!("{}: {}", case.name, difference))?;
     }
@@ -64,9 +64,15 @@ fn questions() -> Result<(), String> {
     Ok(())
 }
 
-fn answered(case: Case) -> (Case, Answer) {
-    let answer = walk::question::<Arrays>(&case);
-    (case, answer)
+/// The questions and what a plain search says of them, by the number of its runs.
+fn answered() -> Vec<(Case, Answer)> {
+    let answer = |case| {
+        let answer = walk::question::<Arrays>(&case);
+        (case, answer)
+    };
+    let mut cases: Vec<(Case, Answer)> = table::cases().into_iter().map(answer).collect();
+    cases.sort_by_key(|(_, answer)| answer.runs);
+    cases
 }
 
 fn judged() -> Result<(), String> {
@@ -83,19 +89,31 @@ fn judged() -> Result<(), String> {
     Ok(())
 }
 
-/// A line for each run: how many of its steps look, and its name.
+/// A line for each: of a question how many runs of the walk decide it, of a judged run how many of its steps look.
 fn names() -> Result<(), String> {
+    for (case, answer) in answered() {
+        println!("question {} {}", answer.runs, case.name);
+    }
     for run in looks::runs() {
-        println!("{} {}", run.looks, run.full.name);
+        println!("judge {} {}", run.looks, run.full.name);
     }
     Ok(())
 }
 
+fn ask_once(which: &str) -> Result<(), String> {
+    let (case, answer) = numbered(answered(), which)?;
+    agree::libraries_say(&case, case.budget, &answer)
+}
+
 /// The runs count from 0, each before the one beside it.
-fn once(which: &str) -> Result<(), String> {
-    let cases: Vec<Case> = looks::runs().into_iter().flat_map(|run| [run.full, run.empty]).collect();
-    let case = which.parse().ok().and_then(|which: usize| cases.get(which)).ok_or("there is no such run")?;
-    agree::all_pass(case)
+fn judge_once(which: &str) -> Result<(), String> {
+    let runs = looks::runs().into_iter().flat_map(|run| [run.full, run.empty]).collect();
+    agree::all_pass(&numbered(runs, which)?)
+}
+
+fn numbered<T>(things: Vec<T>, which: &str) -> Result<T, String> {
+    let which = which.parse().map_err(|_| format!("{} is no number", which))?;
+    things.into_iter().nth(which).ok_or(format!("there is no number {}", which))
 }
 
 fn print_head(counts: &[&str]) {

@@ -49,7 +49,7 @@ pub(crate) fn word_or(word: u32, mark: u8, before: u32) -> u32
     if mark == 0 { word } else { before }
 }
 
-// The newest write of a queue, else the word given.
+// The newest write of a queue, else the word given: the first one found from its end.
 pub(crate) fn newest_write<'a>(
     held: &'a [u32; SLOTS],
     marks: &'a [u8; SLOTS],
@@ -69,12 +69,13 @@ pub(crate) fn newest_write<'a>(
         if marks[at] == 0 {
             return held[at];
         }
+        // Last, not first: counted down before the test, the compiled loop is half as long again.
         i -= 1;
     }
     other
 }
 
-// The newest store to a location in a thread's buffer, else the word given.
+// The newest store to a location in a thread's buffer, else the word given: the first one found from its end.
 pub(crate) fn newest_store<'a>(
     buffers: [Waiting; CODE],
     waiting: &'a [u8; THREADS],
