@@ -7,9 +7,9 @@
 mod agree;
 mod case;
 mod library;
-mod looks;
 mod machine;
 mod measure;
+mod pairs;
 mod replay;
 mod rows;
 mod table;
@@ -76,26 +76,26 @@ fn answered() -> Vec<(Case, Answer)> {
 }
 
 fn judged() -> Result<(), String> {
-    let runs = looks::runs();
-    for case in runs.iter().flat_map(|run| [&run.full, &run.empty]) {
+    let pairs = pairs::pairs();
+    for case in pairs.iter().flat_map(|pair| [&pair.run, &pair.beside]) {
         agree::all_pass(case).map_err(|difference| format!("{}: {}", case.name, difference))?;
     }
-    println!("bench: all sides agree on {} judged runs; nanoseconds a step", 2 * runs.len());
+    println!("bench: all sides agree on {} judged runs; nanoseconds a step", 2 * pairs.len());
     print_head(&JUDGE);
-    for case in runs.iter().map(|run| &run.full) {
+    for case in pairs.iter().map(|pair| &pair.run) {
         let times = measure::judge_times(case);
         print_row(case.name, &[case.threads.len(), case.steps.len()], &times);
     }
     Ok(())
 }
 
-/// A line for each: of a question how many runs of the walk decide it, of a judged run how many of its steps look.
+/// A line for each: of a question how many runs of the walk decide it, of a judged run how many of its steps count.
 fn names() -> Result<(), String> {
     for (case, answer) in answered() {
         println!("question {} {}", answer.runs, case.name);
     }
-    for run in looks::runs() {
-        println!("judge {} {}", run.looks, run.full.name);
+    for pair in pairs::pairs() {
+        println!("judge {} {}", pair.counted, pair.run.name);
     }
     Ok(())
 }
@@ -107,7 +107,7 @@ fn ask_once(which: &str) -> Result<(), String> {
 
 /// The runs count from 0, each before the one beside it.
 fn judge_once(which: &str) -> Result<(), String> {
-    let runs = looks::runs().into_iter().flat_map(|run| [run.full, run.empty]).collect();
+    let runs = pairs::pairs().into_iter().flat_map(|pair| [pair.run, pair.beside]).collect();
     agree::all_pass(&numbered(runs, which)?)
 }
 

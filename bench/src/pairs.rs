@@ -1,0 +1,89 @@
+//! Pairs of judged runs that differ in what some of their steps do, so that the difference is what it costs. The looks
+//! are loads and exchanges that go through full buffers and queues, beside as many that find nothing to go through.
+//! A load is an instruction too: the fullest buffer that one can look through has seven entries, the fullest queue
+//! thirty-one.
+
+use crate::case::{Case, Operation, Operation::*, Step, Step::*};
+
+const X: u8 = 0;
+const Y: u8 = 1;
+
+/// A run, how many of its steps are counted, and the run beside it.
+pub struct Pair {
+    pub counted: u32,
+    pub run: Case,
+    pub beside: Case,
+}
+
+fn run(name: &'static str, threads: Vec<Vec<Operation>>, steps: Vec<Step>) -> Case {
+    Case { steps, ..Case::of(name, 8, threads) }
+}
+
+/// Each thread's instructions in turn, with the steps that each takes.
+fn in_turn(threads: &[Vec<Operation>], steps: fn(u8) -> Vec<Step>) -> Vec<Step> {
+    let each =
+        |(thread, instructions): (usize, &Vec<Operation>)| steps(thread as u8).repeat(instructions.len());
+    threads.iter().enumerate().flat_map(each).collect()
+}
+
+fn issued(thread: u8) -> Vec<Step> {
+    vec![Issue(thread)]
+}
+
+fn queued(thread: u8) -> Vec<Step> {
+    vec![Issue(thread), Move(thread, 0)]
+}
+
+fn persisted(thread: u8) -> Vec<Step> {
+    vec![Issue(thread), Move(thread, 0), Persist(X)]
+}
+
+/// Every thread full of stores: their moves, or their persists, against the same without.
+fn stores(name: &'static str, with: fn(u8) -> Vec<Step>, without: fn(u8) -> Vec<Step>) -> Pair {
+    let [run, beside] = [with, without].map(|steps| {
+        let threads = vec![vec![StoreWord(X, 1); 8]; 4];
+        let steps = in_turn(&threads, steps);
+        run(name, threads, steps)
+    });
+    Pair { counted: 32, run, beside }
+}
+
+/// In each thread a load behind seven waiting stores; beside it the load comes first.
+fn behind_stores(name: &'static str, loaded: u8) -> Pair {
+    let (stores, load) = (vec![StoreWord(X, 1); 7], vec![Load(loaded, 0)]);
+    let [run, beside] = [[&stores, &load], [&load, &stores]].map(|[first, then]| {
+        let threads = vec![[&first[..], &then[..]].concat(); 4];
+        let steps = in_turn(&threads, issued);
+        run(name, threads, steps)
+    });
+    Pair { counted: 4, run, beside }
+}
+
+/// What three threads issue, and the fourth at first, goes to X's queue; then the fourth looks, there or, beside it,
+/// in empty queues.
+fn behind_queue(name: &'static str, entry: Operation, at_first: usize, looks: [Vec<Operation>; 2]) -> Pair {
+    let count = looks[0].len();
+    let [run, beside] = looks.map(|looks| {
+        let mut threads = vec![vec![entry; 8], vec![entry; 8], vec![entry; 8], vec![entry; at_first]];
+        let queue = in_turn(&threads, queued);
+        threads[3].extend(looks);
+        run(name, threads, [queue, vec![Issue(3); count]].concat())
+    });
+    Pair { counted: count as u32, run, beside }
+}
+
+pub fn pairs() -> Vec<Pair> {
+    let write = StoreWord(X, 1);
+    let loads = |count| [X, Y].map(|location| vec![Load(location, 0); count]);
+    let swap = |location| Exchange(location, 0, 1);
+    vec![
+        stores("move", queued, issued),
+        stores("persist", persisted, queued),
+        behind_stores("load behind 7 stores", X),
+        behind_stores("load past 7 stores", Y),
+        behind_queue("load behind 24 writes", write, 0, loads(8)),
+        behind_queue("load behind 31 writes", write, 7, loads(1)),
+        behind_queue("load past 24 markers", FlushOpt(X), 0, loads(8)),
+        behind_queue("swap behind 24 writes", write, 0, [vec![swap(X); 7], (1..8).map(swap).collect()]),
+    ]
+}
