@@ -47,7 +47,8 @@ pub extern "C" fn main() -> i32 {
 }
 
 fn questions() -> Result<(), String> {
-    let cases = answered();
+    let mut cases: Vec<(Case, Answer)> = table::cases().into_iter().map(answered).collect();
+    cases.sort_by_key(|(_, answer)| answer.runs);
     for (case, answer) in &cases {
         agree::all_agree(case, answer).map_err(|difference| format!("{}: {}", case.name, difference))?;
     }
@@ -64,15 +65,9 @@ fn questions() -> Result<(), String> {
     Ok(())
 }
 
-/// The questions and what a plain search says of them, by the number of its runs.
-fn answered() -> Vec<(Case, Answer)> {
-    let answer = |case| {
-        let answer = walk::question::<Arrays>(&case);
-        (case, answer)
-    };
-    let mut cases: Vec<(Case, Answer)> = table::cases().into_iter().map(answer).collect();
-    cases.sort_by_key(|(_, answer)| answer.runs);
-    cases
+fn answered(case: Case) -> (Case, Answer) {
+    let answer = walk::question::<Arrays>(&case);
+    (case, answer)
 }
 
 fn judged() -> Result<(), String> {
@@ -91,7 +86,7 @@ fn judged() -> Result<(), String> {
 
 /// A line for each: of a question how many runs of the walk decide it, of a judged run how many of its steps count.
 fn names() -> Result<(), String> {
-    for (case, answer) in answered() {
+    for (case, answer) in table::cases().into_iter().map(answered) {
         println!("question {} {}", answer.runs, case.name);
     }
     for pair in pairs::pairs() {
@@ -101,7 +96,7 @@ fn names() -> Result<(), String> {
 }
 
 fn ask_once(which: &str) -> Result<(), String> {
-    let (case, answer) = numbered(answered(), which)?;
+    let (case, answer) = answered(numbered(table::cases(), which)?);
     agree::libraries_say(&case, case.budget, &answer)
 }
 
