@@ -55,6 +55,15 @@ pub silent-end : {A : Type 0} {all : List A → ℕ → ℕ} {xs : List A} {n i 
     → (other : ℕ) → other ≡ all xs other
 silent-end {i = i} o h other = let e : i ≡ 0 = omega arith in sym (rw e at (o .silent other))
 
+-- of entries that stand in an array from base on, the one before position i
+entry-before : {A : Type 0} (get : ℕ → A) (xs : List A) (base n i : ℕ)
+    → ((k : ℕ) → k < n → drop k xs ≡ get (base + k) ∷ drop (k + 1) xs)
+    → i ≤ n → 0 < i → drop (i - 1) xs ≡ get ((base + i) - 1) ∷ drop i xs
+entry-before get xs base n i next h c =
+    let j : (i - 1) + 1 ≡ i = omega arith in
+    let a : base + (i - 1) ≡ (base + i) - 1 = omega arith in
+    rw (j, a) at (next (i - 1) (omega arith))
+
 -- newestWrite: of the n slots from base on
 abbrev pub NewestSoFar : List ℕ → List ℕ → ℕ → ℕ → ℕ → Type 0
 NewestSoFar held marks base n i = SilentFrom newestWrite (slots (part base n held) (part base n marks)) n i
@@ -74,9 +83,8 @@ module _ (held marks : List ℕ) (base n : ℕ) (h : base + n ≤ length held) (
         ≡ record { word = getD held ((base + i) - 1) 0; mark = getD marks ((base + i) - 1) 0 }
         ∷ drop i (slots (part base n held) (part base n marks))
     newest-before =
-        let j : (i - 1) + 1 ≡ i = omega arith in
-        let a : base + (i - 1) ≡ (base + i) - 1 = omega arith in
-        rw (j, a) at (slots-next held marks base n h k (i - 1) (omega (arith, o .within)))
+        entry-before (λ m. record { word = getD held m 0; mark = getD marks m 0 }) _ base n i
+        (slots-next held marks base n h k) (o .within) c
 
     pub newest-next : getD marks ((base + i) - 1) 0 ≢ 0 → NewestSoFar held marks base n (i - 1)
     unfolding wordOr
@@ -128,9 +136,8 @@ module _ (l : ℕ) (b : List Waiting) (base n : ℕ) (h : base + n ≤ length b)
   module _ {i : ℕ} (o : StoreSoFar l b base n i) (c : 0 < i) where
     store-before : drop (i - 1) (part base n b) ≡ getD b ((base + i) - 1) blankWaiting ∷ drop i (part base n b)
     store-before =
-        let j : (i - 1) + 1 ≡ i = omega arith in
-        let a : base + (i - 1) ≡ (base + i) - 1 = omega arith in
-        rw (j, a) at (part-next base n (i - 1) b blankWaiting (omega (arith, o .within)) h)
+        entry-before (λ m. getD b m blankWaiting) _ base n i
+        (λ m r. part-next base n m b blankWaiting r h) (o .within) c
 
     pub store-next : ((w : ℕ) → storedOr l (getD b ((base + i) - 1) blankWaiting .entry) w ≡ w)
         → StoreSoFar l b base n (i - 1)
