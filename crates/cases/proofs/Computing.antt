@@ -7,7 +7,7 @@ use Rattle.cases.specs.Record.{payloadOf, payloadBytes, recordBytes, byt
 use Rattle.cases.specs.Record.{asInstruction, asStep, recordOf, openNo, sizeOf}
 use Rattle.cases.specs.Checks.{kindRank, misplaced, disordered, outside, beyond, leftOver, headerOut}
 use Rattle.cases.specs.Checks.{usesRegister, usesWord, instructionOut, instructionLeft, passedOut}
-use Rattle.cases.specs.Checks.{queuesOf, stepOut, stepLeft, faultOf}
+use Rattle.cases.specs.Checks.{linesOf, stepOut, stepLeft, faultOf}
 use Rattle.cases.specs.Draft.{emptyCase, withSizes, withFirst, withInstruction, withWant, withPassed}
 use Rattle.cases.specs.Draft.{withStep, withProgram, withAsk, withRun, blankDraft, addOf}
 use Rattle.cases.specs.Reading.{refusedOf, endedOf, readFrom, readOf}
@@ -20,7 +20,7 @@ use Rattle.cases.specs.Writing.{sameCase, readsAs, readsBack}
 unfoldable pub reading-computes : ℕ
 unfolding pick both either refuse half wordAt payloadOf asHeader asWrite asInstruction asStep recordOf openNo
     sizeOf kindRank misplaced disordered outside beyond leftOver headerOut usesRegister usesWord instructionOut
-    instructionLeft passedOut queuesOf stepOut stepLeft faultOf emptyCase withSizes withFirst withInstruction
+    instructionLeft passedOut linesOf stepOut stepLeft faultOf emptyCase withSizes withFirst withInstruction
     withWant withPassed withStep withProgram withAsk withRun blankDraft addOf refusedOf endedOf readFrom readOf
 reading-computes = 0
 

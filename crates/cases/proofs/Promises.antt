@@ -19,7 +19,7 @@ use Rattle.cases.specs.Sizes.{mostThreads, mostLocations, mostSteps, lon
 use Rattle.cases.specs.Choice.{both}
 use Rattle.cases.specs.Bytes.{IsBytes, half}
 use Rattle.cases.specs.Record.{recordOf, openNo, sizeOf}
-use Rattle.cases.specs.Checks.{queuesOf, limitsOf, stepFault, faultOf}
+use Rattle.cases.specs.Checks.{linesOf, limitsOf, stepFault, faultOf}
 use Rattle.cases.specs.Draft.{noStep, emptyCase, runWith, withRun, blankDraft, addOf}
 use Rattle.cases.specs.Reading.{numberOf, offsetOf, refusedOf, readFrom, readOf, unreadOf}
 use Rattle.cases.specs.Seats.{encodeOf, stepsBytes}
@@ -134,8 +134,8 @@ read-ranged s h =
     rw (sym (d .3)) at (sound-ranged (d .0) (d .1) (d .2))
 
 -- a program with no more than the most locations has no more queues than that
-pub few-queues : (p : Program) → p .locations ≤ mostLocations → queuesOf p ≤ mostLocations
-few-queues = RecordFitLaws.few-queues
+pub few-lines : (p : Program) → p .locations ≤ mostLocations → linesOf p ≤ mostLocations
+few-lines = RecordFitLaws.few-lines
 
 -- a thread of a program that fits is one that there may be
 pub thread-low : {p : Program} → ProgramFits p → {t : ℕ} → t < p .threads → t < mostThreads

@@ -5,7 +5,7 @@ pub mod WithLaws
 pub mod CountLaws
 -- draft, seated: a record comes in turn and finds its seat: first, instruction, want, passed, step; rank
 pub mod DraftLaws
--- RecordFits, SeatFits: record, seat, instruction, step are in range, Grown; field, outside, few-queues
+-- RecordFits, SeatFits: record, seat, instruction, step are in range, Grown; field, outside, few-lines
 pub mod RecordFitLaws
 -- Sound, SoundSized, SoundFronts, SoundStands; added, Added
 pub mod SoundLaws

@@ -11,7 +11,7 @@
 --   usesLocation, usesRegister, usesWord
 --                    which fields an operation uses
 --   countAt p t      how many instructions thread t of the program p has
---   queuesOf p       how many queues the program p has
+--   linesOf p       how many queues the program p has
 --   Limits, limitsOf p
 --                    what a step may name, and what a step of the program p may
 --   faultOf d r      0, or the number of the first fault of record r behind the draft d
@@ -99,16 +99,16 @@ unfoldable pub passedOut : Program → Thread → ℕ → Bool
 passedOut p t n = either (leb (p .threads) (t .0)) (ltb (countAt p (t .0)) n)
 
 -- how many queues a program has: one for each location
-unfoldable pub queuesOf : Program → ℕ
-queuesOf p = p .locations
+unfoldable pub linesOf : Program → ℕ
+linesOf p = p .locations
 
 -- what a step may name: so many threads, so many queues
 pub record Limits : Type 0 where
   pub threads : ℕ
-  pub queues : ℕ
+  pub lines : ℕ
 
 abbrev pub limitsOf : Program → Limits
-limitsOf p = record { threads = p .threads; queues = queuesOf p }
+limitsOf p = record { threads = p .threads; lines = linesOf p }
 
 -- "Step codes: 0 issue (thread); 1 move (thread, position 0 to 7); 2 persist (location)." A persist names a
 -- queue, by its number.
@@ -117,7 +117,7 @@ stepOut limits k =
     either (ltb lastCode (k .code))
     (either (beyond (leb (k .code) move) (k .thread .0) (limits .threads))
     (either (beyond (eqb (k .code) move) (k .position) mostInstructions)
-    (beyond (eqb (k .code) persist) (k .location .0) (limits .queues))))
+    (beyond (eqb (k .code) persist) (k .location .0) (limits .lines))))
 
 unfoldable pub stepLeft : Step → Bool
 stepLeft k =

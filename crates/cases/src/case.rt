@@ -11,6 +11,9 @@ pub struct Location(pub u8);
 
 pub struct Register(pub u8);
 
+// A cache line's number, and its queue's.
+pub struct Line(pub u8);
+
 pub struct Write {
     pub location: Location,
     pub word: u32,

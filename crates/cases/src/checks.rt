@@ -38,7 +38,7 @@ ghost use Rattle.cases.specs.Checks.{
   instructionOut,
   instructionLeft,
   passedOut,
-  queuesOf,
+  linesOf,
   limitsOf,
   stepOut,
   stepLeft,
@@ -190,8 +190,8 @@ fn is_passed_out(p: Program, t: Thread, n: u8) -> bool
 }
 
 // How many queues the program has: a persist names one by its number.
-pub fn queues_of(p: Program) -> u8
-    ensures { λ r. ⌜ r ≡ queuesOf p ⌝ }
+pub fn lines_of(p: Program) -> u8
+    ensures { λ r. ⌜ r ≡ linesOf p ⌝ }
 {
     p.locations
 }
@@ -209,7 +209,7 @@ fn is_step_out(p: Program, k: Step) -> bool
     if is_beyond(code == MOVE, k.position, INSTRUCTIONS as u8) {
         return true;
     }
-    is_beyond(code == PERSIST, k.location.0, queues_of(p))
+    is_beyond(code == PERSIST, k.location.0, lines_of(p))
 }
 
 fn is_step_left(k: Step) -> bool

@@ -16,7 +16,7 @@ use Rattle.cases.specs.declared.case.Program.{Program}
 use Rattle.cases.specs.Operations.{load, exchange, flush, sfence, mfence}
 use Rattle.cases.specs.Choice.{pick, either}
 use Rattle.cases.specs.Checks.{countAt}
-use Rattle.machine.specs.View.{queueOf}
+use Rattle.machine.specs.View.{lineOf}
 use Rattle.machine.specs.Rules.{instructionAt}
 use Rattle.machine.specs.Next.{issueStep, moveStep, persistStep}
 
@@ -25,9 +25,9 @@ use Rattle.machine.specs.Next.{issueStep, moveStep, persistStep}
 unfoldable pub carried : Program → ℕ → Instruction → List Step
 carried p t x =
     pick (either (eqb (x .operation) load) (eqb (x .operation) mfence)) (issueStep t ∷ [])
-    (pick (eqb (x .operation) exchange) (issueStep t ∷ persistStep (queueOf p (x .location .0)) ∷ [])
+    (pick (eqb (x .operation) exchange) (issueStep t ∷ persistStep (lineOf p (x .location .0)) ∷ [])
     (pick (either (eqb (x .operation) flush) (eqb (x .operation) sfence)) (issueStep t ∷ moveStep t 0 ∷ [])
-    (issueStep t ∷ moveStep t 0 ∷ persistStep (queueOf p (x .location .0)) ∷ [])))
+    (issueStep t ∷ moveStep t 0 ∷ persistStep (lineOf p (x .location .0)) ∷ [])))
 
 unfoldable pub carriedFrom : Program → ℕ → ℕ → ℕ → List Step
 carriedFrom p t i zero = []

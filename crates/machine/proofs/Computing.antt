@@ -1,8 +1,8 @@
 -- What to unfold so that a definition of the machine computes, as in `cases`. Assumes nothing.
 use Prim.Native.Nat.{ℕ}
 use Rattle.cases.proofs.Computing.{reading-computes}
-use Rattle.cases.specs.Checks.{queuesOf}
-use Rattle.machine.specs.View.{part, put, without, slots, wordsOf, marksOf, queueOf, homeOf, marksIn}
+use Rattle.cases.specs.Checks.{linesOf}
+use Rattle.machine.specs.View.{part, put, without, slots, wordsOf, marksOf, lineOf, homeOf, marksIn}
 use Rattle.machine.specs.View.{queueIn, withQueue, bufferIn, withBuffer, withWord, withRegister}
 use Rattle.machine.specs.View.{withIssued}
 use Rattle.machine.specs.Look.{wordOr, newestWrite, storedOr, newestStore, queuedWord, loadOf}
@@ -19,7 +19,7 @@ use Rattle.machine.specs.Next.{stepsFrom, movesFrom, candidates}
 
 -- ruleOf and nextOf
 unfoldable pub steps-compute : ℕ
-unfolding part put without slots wordsOf marksOf queueOf homeOf marksIn queueIn withQueue bufferIn withBuffer
+unfolding part put without slots wordsOf marksOf lineOf homeOf marksIn queueIn withQueue bufferIn withBuffer
     withWord withRegister withIssued wordOr newestWrite storedOr newestStore queuedWord loadOf markerAmong
     markerFrom markerOf marked bars firstBar enqueue await barrierRule isBarrier operationRule issueRule
     entryOf loaded exchanged performed issueOf effectRule effectOf passRule moveRule moveOf persistRule
@@ -34,7 +34,7 @@ work-computes = 0
 
 -- legalSteps
 unfoldable pub next-computes : ℕ
-unfolding steps-compute queuesOf stepsFrom movesFrom candidates allowed legalSteps
+unfolding steps-compute linesOf stepsFrom movesFrom candidates allowed legalSteps
 next-computes = 0
 
 -- judgeBytes

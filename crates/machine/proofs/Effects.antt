@@ -10,7 +10,7 @@ use Rattle.cases.specs.declared.case.Location.{Location}
 use Rattle.cases.specs.declared.case.Step.{Step}
 use Rattle.cases.specs.declared.case.Program.{Program}
 use Rattle.cases.specs.Sizes.{mostThreads, mostLocations}
-use Rattle.cases.specs.Checks.{limitsOf, queuesOf, stepFault, countAt}
+use Rattle.cases.specs.Checks.{limitsOf, linesOf, stepFault, countAt}
 use Rattle.cases.specs.Operations.{exchange}
 use Rattle.machine.specs.declared.cells.State.{State}
 use Rattle.machine.specs.declared.cells.Entry.the-variants.{FlushOpt}
@@ -30,7 +30,7 @@ use Rattle.machine.proofs.steps.WordEffectLaws as WordEffectLaws
 pub step-kinds : (p : Program) (k : Step) → stepFault (limitsOf p) k ≡ 0
     → ((t : ℕ) × (t < p .threads) × (k ≡ issueStep t))
     ⊎ ((t : ℕ) × (i : ℕ) × (t < p .threads) × (k ≡ moveStep t i))
-    ⊎ ((q : ℕ) × (q < queuesOf p) × (k ≡ persistStep q))
+    ⊎ ((q : ℕ) × (q < linesOf p) × (k ≡ persistStep q))
 step-kinds = StepFaultLaws.step-kinds
 
 -- "a run starts from the first contents, nothing queued, waiting or issued"
@@ -117,7 +117,7 @@ module _ (p : Program) (s : State) (fit : Fits p s) where
     move-words = WordEffectLaws.move-words p s fit t i low legal
 
   -- what a persist does to each part
-  module _ (q : ℕ) (low : q < queuesOf p) (legal : ruleOf p s (persistStep q) ≡ 0) where
+  module _ (q : ℕ) (low : q < linesOf p) (legal : ruleOf p s (persistStep q) ≡ 0) where
     pub persist-issued : (k : ℕ) → issuedOf (nextOf p s (persistStep q)) k ≡ issuedOf s k
     persist-issued = PersistEffectLaws.persist-issued p s fit q low legal
 

@@ -14,7 +14,7 @@ use Rattle.cases.specs.declared.case.Ask.{Ask}
 use Rattle.cases.specs.declared.case.Case.{Case}
 use Rattle.cases.specs.Sizes.{mostThreads, mostLocations, longest}
 use Rattle.cases.specs.Bytes.{IsBytes}
-use Rattle.cases.specs.Checks.{limitsOf, queuesOf, stepFault, countAt}
+use Rattle.cases.specs.Checks.{limitsOf, linesOf, stepFault, countAt}
 use Rattle.cases.specs.Draft.{noStep, runWith, withAsk, withRun}
 use Rattle.cases.specs.Reading.{numberOf, offsetOf, readOf}
 use Rattle.cases.specs.Writing.{readsBack}
@@ -23,7 +23,7 @@ use Rattle.cases.proofs.ChoiceLaws.{pick-true, pick-false, pick-cases, true-not
 use Rattle.machine.specs.declared.cells.State.{State}
 use Rattle.machine.specs.declared.steps.Stepped.{Stepped}
 use Rattle.machine.specs.declared.runs.Verdict.the-variants.{Legal, Illegal}
-use Rattle.machine.specs.View.{queueOf, marksIn, queue, buffer, issuedOf}
+use Rattle.machine.specs.View.{lineOf, marksIn, queue, buffer, issuedOf}
 use Rattle.machine.specs.Behind.{BlankBehind, SameEntries}
 use Rattle.machine.specs.Look.{markerOf, isAt, foundQueue, foundPosition}
 use Rattle.machine.specs.Rules.{ruleOf, nextOf, startOf}
@@ -38,7 +38,7 @@ use Rattle.machine.specs.Next.{issueStep, moveStep, persistStep, rankOf,
 use Rattle.machine.specs.Ptso.{ptso}
 use Rattle.machine.specs.Offer.{Movable}
 use Rattle.machine.specs.Sizes.{allSlots, mostCandidates, mostWork}
-use Rattle.machine.proofs.view.QueueOfLaws as QueueOfLaws
+use Rattle.machine.proofs.view.LineOfLaws as LineOfLaws
 use Rattle.machine.proofs.fit.StartLaws as StartLaws
 use Rattle.machine.proofs.steps.StepFaultLaws.{fault-none}
 use Rattle.machine.proofs.steps.StepLaws as StepLaws
@@ -115,11 +115,11 @@ module _ (p : Program) (fits : ProgramFits p) where
   ptso-lawful = PtsoLaws.ptso-lawful p fits
 
   -- it has no more queues than there is room for, and each location's queue is one of them
-  pub few-queues : queuesOf p ≤ mostLocations
-  few-queues = QueueOfLaws.few-queues p fits
+  pub few-lines : linesOf p ≤ mostLocations
+  few-lines = LineOfLaws.few-lines p fits
 
-  pub queue-there : (l : ℕ) → l < p .locations → queueOf p l < queuesOf p
-  queue-there = QueueOfLaws.queue-there p fits
+  pub line-there : (l : ℕ) → l < p .locations → lineOf p l < linesOf p
+  line-there = LineOfLaws.line-there p fits
 
   -- its start fits it
   pub start-fits : Fits p (startOf p)
@@ -293,11 +293,11 @@ module _ (p : Program) (s : State) (fit : Fits p s) where
   leads-blank ks u = BlankStepLaws.leads-blank p s ks u fit
 
   -- a queue that holds something: its oldest may persist
-  pub persist-legal : (q : ℕ) → q < queuesOf p → queue s q ≢ []
+  pub persist-legal : (q : ℕ) → q < linesOf p → queue s q ≢ []
       → (stepFault (limitsOf p) (persistStep q) ≡ 0) × (ruleOf p s (persistStep q) ≡ 0)
   persist-legal = ProgressLaws.persist-legal p s fit
 
-  module _ (quiet : (q : ℕ) → q < queuesOf p → queue s q ≡ []) where
+  module _ (quiet : (q : ℕ) → q < linesOf p → queue s q ≡ []) where
     -- where every queue is empty any thread's first entry may move
     pub move-legal : (t : ℕ) → t < p .threads → buffer s t ≢ []
         → (stepFault (limitsOf p) (moveStep t 0) ≡ 0) × (ruleOf p s (moveStep t 0) ≡ 0)

@@ -9,5 +9,5 @@ pub mod BufferLaws
 pub mod IssuedLaws
 -- sized: the arrays are as long as they were, whatever is put
 pub mod SizedLaws
--- queueOf, homeOf, queuesOf: queue-there and its like, home, few-queues
-pub mod QueueOfLaws
+-- lineOf, homeOf, linesOf: line-there and its like, home, few-lines
+pub mod LineOfLaws

@@ -19,7 +19,7 @@ use Rattle.cases.specs.declared.case.Program.{Program}
 use Rattle.cases.specs.Choice.{both, either}
 use Rattle.cases.specs.Sizes.{mostThreads, mostInstructions, mostLocations, allCode}
 use Rattle.cases.specs.Ranges.{ProgramFits}
-use Rattle.cases.specs.Checks.{countAt, queuesOf}
+use Rattle.cases.specs.Checks.{countAt, linesOf}
 use Rattle.machine.specs.declared.cells.State.{State}
 use Rattle.machine.specs.declared.cells.Waiting.{Waiting}
 use Rattle.machine.specs.declared.cells.Entry.{Entry}
@@ -75,7 +75,7 @@ threadMisfits p s t =
 -- thread .. the program lacks": mark t + 1 names thread t
 unfoldable pub queueMisfits : Program → State → ℕ → Bool
 queueMisfits p s q =
-    either (both (leb (queuesOf p) q) (ltb 0 (queueLen s q)))
+    either (both (leb (linesOf p) q) (ltb 0 (queueLen s q)))
     (either (ltb room (queueLen s q + due p s))
     (anyOf (ltb (p .threads)) (marksIn (s .marks) (s .lengths) q)))
 
@@ -114,7 +114,7 @@ pub record Fits (p : Program) (s : State) : Type 0 where
   pub few-waiting : (t : ℕ) → t < mostThreads → bufferLen s t + unissued p s t ≤ mostInstructions
   pub few-queued : (q : ℕ) → q < mostLocations → queueLen s q + due p s ≤ room
   pub no-buffer : (t : ℕ) → t < mostThreads → p .threads ≤ t → bufferLen s t ≡ 0
-  pub no-queue : (q : ℕ) → q < mostLocations → queuesOf p ≤ q → queueLen s q ≡ 0
+  pub no-queue : (q : ℕ) → q < mostLocations → linesOf p ≤ q → queueLen s q ≡ 0
   pub named : (t : ℕ) → t < mostThreads → AllOf (NamedBy (p .locations)) (buffer s t)
   pub borne : (q : ℕ) → q < mostLocations → AllOf (Borne (p .threads)) (marksIn (s .marks) (s .lengths) q)
 

@@ -23,7 +23,7 @@ use Rattle.machine.specs.declared.cells.Waiting.{Waiting}
 use Rattle.machine.specs.declared.cells.Entry.{Entry}
 use Rattle.machine.specs.declared.cells.Entry.the-variants.{Store, Flush, FlushOpt, Sfence}
 use Rattle.machine.specs.declared.cells.State.{State}
-use Rattle.machine.specs.View.{Slot, queueOf, queue, writeSlot, markerSlot}
+use Rattle.machine.specs.View.{Slot, lineOf, queue, writeSlot, markerSlot}
 use Rattle.machine.specs.Rules.{isBarrier, entryOf}
 
 -- "stores, flushes, flush-opts and sfences join the end of the thread's buffer": all but load, exchange
@@ -36,13 +36,13 @@ joins registers t x =
 -- "Exchange .. puts its write at the queue's end."
 unfoldable pub exchanges : Program → ℕ → Instruction → List Slot
 exchanges p q x =
-    pick (both (eqb (x .operation) exchange) (eqb (queueOf p (x .location .0)) q)) (writeSlot (x .word) ∷ []) []
+    pick (both (eqb (x .operation) exchange) (eqb (lineOf p (x .location .0)) q)) (writeSlot (x .word) ∷ []) []
 
 -- "A store becomes a write at its queue's end." "A flush-opt becomes a marker at its queue's end."
 unfoldable pub enters : Program → ℕ → ℕ → Entry → List Slot
-enters p t q (Store w) = pick (eqb (queueOf p (w .location .0)) q) (writeSlot (w .word) ∷ []) []
+enters p t q (Store w) = pick (eqb (lineOf p (w .location .0)) q) (writeSlot (w .word) ∷ []) []
 enters p t q (Flush m) = []
-enters p t q (FlushOpt m) = pick (eqb (queueOf p (m .0)) q) (markerSlot t ∷ []) []
+enters p t q (FlushOpt m) = pick (eqb (lineOf p (m .0)) q) (markerSlot t ∷ []) []
 enters p t q Sfence = []
 
 unfoldable pub onlyIf : Bool → ℕ → List ℕ
@@ -62,7 +62,7 @@ unfoldable pub swapOf : ℕ → Instruction → List ℕ
 swapOf l x = onlyIf (both (eqb (x .operation) exchange) (eqb (x .location .0) l)) (x .word)
 
 unfoldable pub onWay : Program → State → ℕ → List ℕ
-onWay p s l = writesOf (queue s (queueOf p l))
+onWay p s l = writesOf (queue s (lineOf p l))
 
 unfoldable pub lastOr : List ℕ → ℕ → ℕ
 lastOr [] w = w

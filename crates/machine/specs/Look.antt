@@ -22,7 +22,7 @@ use Rattle.machine.specs.declared.cells.Entry.{Entry}
 use Rattle.machine.specs.declared.cells.Entry.the-variants.{Store, Flush, FlushOpt, Sfence}
 use Rattle.machine.specs.declared.look.Found.{Found}
 use Rattle.machine.specs.declared.look.Found.the-variants.{At, Nothing}
-use Rattle.machine.specs.View.{Slot, queueOf, queue, buffer, wordOf, marksIn}
+use Rattle.machine.specs.View.{Slot, lineOf, queue, buffer, wordOf, marksIn}
 
 -- a write's word; of a marker the word before
 unfoldable pub wordOr : Slot → ℕ → ℕ
@@ -46,7 +46,7 @@ newestStore l (e ∷ b) w = newestStore l b (storedOr l (e .entry) w)
 -- "A load takes the newest store to that location in its own buffer, else the newest write in the location's
 -- queue, else the persistent word."
 unfoldable pub queuedWord : Program → State → ℕ → ℕ
-queuedWord p s l = newestWrite (queue s (queueOf p l)) (wordOf s l)
+queuedWord p s l = newestWrite (queue s (lineOf p l)) (wordOf s l)
 
 unfoldable pub loadOf : Program → State → ℕ → ℕ → ℕ
 loadOf p s t l = newestStore l (buffer s t) (queuedWord p s l)
@@ -86,8 +86,8 @@ marked marks lengths t = isAt (markerOf marks lengths t)
 
 -- "a store or flush of its location or an sfence": of a location with the same queue
 unfoldable pub bars : Program → ℕ → Entry → Bool
-bars p q (Store x) = eqb (queueOf p (x .location .0)) q
-bars p q (Flush m) = eqb (queueOf p (m .0)) q
+bars p q (Store x) = eqb (lineOf p (x .location .0)) q
+bars p q (Flush m) = eqb (lineOf p (m .0)) q
 bars p q (FlushOpt m) = false
 bars p q Sfence = true
 

@@ -16,7 +16,7 @@ use lib.Dec.{ltb}
 use Rattle.cases.specs.declared.case.Step.{Step}
 use Rattle.cases.specs.declared.case.Program.{Program}
 use Rattle.cases.specs.Choice.{pick}
-use Rattle.cases.specs.Checks.{queuesOf}
+use Rattle.cases.specs.Checks.{linesOf}
 use Rattle.cases.specs.Sizes.{mostInstructions}
 use Rattle.cases.specs.Operations.{issue, move, persist}
 use Rattle.machine.specs.declared.cells.State.{State}
@@ -48,7 +48,7 @@ movesFrom t (suc n) = movesOf t ++ movesFrom (suc t) n
 
 unfoldable pub candidates : Program → List Step
 candidates p =
-    stepsFrom issueStep 0 (p .threads) ++ movesFrom 0 (p .threads) ++ stepsFrom persistStep 0 (queuesOf p)
+    stepsFrom issueStep 0 (p .threads) ++ movesFrom 0 (p .threads) ++ stepsFrom persistStep 0 (linesOf p)
 
 -- a step's rank in that order; the step of a rank
 unfoldable pub rankOf : Step → ℕ

@@ -34,7 +34,7 @@ use Rattle.machine.specs.declared.cells.Waiting.{Waiting}
 use Rattle.machine.specs.declared.cells.Entry.{Entry}
 use Rattle.machine.specs.declared.cells.Entry.the-variants.{Store, Flush, FlushOpt, Sfence}
 use Rattle.machine.specs.Sizes.{allSlots, allRegisters}
-use Rattle.machine.specs.View.{Slot, queueOf, homeOf, writeSlot, markerSlot, without, queue, withQueue}
+use Rattle.machine.specs.View.{Slot, lineOf, homeOf, writeSlot, markerSlot, without, queue, withQueue}
 use Rattle.machine.specs.View.{blankWaiting, bufferIn, buffer, withBuffer, wordOf, withWord, registerIn}
 use Rattle.machine.specs.View.{withRegister, issuedOf, withIssued}
 use Rattle.machine.specs.Parts.{Parts, partsOf}
@@ -86,7 +86,7 @@ loaded p s t x = withRegister s t (x .register .0) (loadOf p s t (x .location .0
 -- "Exchange reads queue or memory and puts its write at the queue's end." "the register takes the old one"
 unfoldable pub exchanged : Program → State → ℕ → Instruction → State
 exchanged p s t x =
-    enqueue (withRegister s t (x .register .0) (queuedWord p s (x .location .0))) (queueOf p (x .location .0))
+    enqueue (withRegister s t (x .register .0) (queuedWord p s (x .location .0))) (lineOf p (x .location .0))
     (writeSlot (x .word))
 
 -- what an instruction does as it is issued: load, exchange and mfence are done with it; the others wait
@@ -105,15 +105,15 @@ issueOf p s t =
 -- no queue holds a marker of that thread (else 28)."
 unfoldable pub effectRule : Program → Parts → ℕ → Entry → ℕ
 effectRule p x t (Store w) = 0
-effectRule p x t (Flush l) = refuse (ltb 0 (getD (x .lengths) (queueOf p (l .0)) 0)) 27 0
+effectRule p x t (Flush l) = refuse (ltb 0 (getD (x .lengths) (lineOf p (l .0)) 0)) 27 0
 effectRule p x t (FlushOpt l) = 0
 effectRule p x t Sfence = refuse (marked (x .marks) (x .lengths) t) 28 0
 
 -- "A store becomes a write at its queue's end." "A flush-opt becomes a marker at its queue's end."
 unfoldable pub effectOf : Program → State → ℕ → Entry → State
-effectOf p s t (Store w) = enqueue s (queueOf p (w .location .0)) (writeSlot (w .word))
+effectOf p s t (Store w) = enqueue s (lineOf p (w .location .0)) (writeSlot (w .word))
 effectOf p s t (Flush l) = s
-effectOf p s t (FlushOpt l) = enqueue s (queueOf p (l .0)) (markerSlot t)
+effectOf p s t (FlushOpt l) = enqueue s (lineOf p (l .0)) (markerSlot t)
 effectOf p s t Sfence = s
 
 -- "Behind position 0 only a flush-opt may go (else 25), and only if no entry before it is a store or flush of
@@ -121,7 +121,7 @@ effectOf p s t Sfence = s
 unfoldable pub passRule : Program → List Waiting → ℕ → Entry → ℕ
 passRule p b i (Store w) = 25
 passRule p b i (Flush l) = 25
-passRule p b i (FlushOpt l) = refuse (ltb (firstBar p (queueOf p (l .0)) (take i b)) i) 26 0
+passRule p b i (FlushOpt l) = refuse (ltb (firstBar p (lineOf p (l .0)) (take i b)) i) 26 0
 passRule p b i Sfence = 25
 
 abbrev pub entryAt : List Waiting → ℕ → Entry

@@ -6,7 +6,7 @@
 --   shift, closeGap         one taken out of a row: those behind it each one down
 --   writeSlot, markerSlot   a slot of a queue
 --   slots, wordsOf, marksOf words and marks as slots, and back
---   queueOf p l             the queue that location l's entries go through in the program p
+--   lineOf p l             the queue that location l's entries go through in the program p
 --   homeOf q mark           the location that a write of queue q goes to
 --   queue, withQueue        the entries of a queue, oldest first; the state with others there
 --   buffer, withBuffer      the entries of a store buffer, oldest first; the state with others there
@@ -70,8 +70,8 @@ marksOf (h ∷ q) = h .mark ∷ marksOf q
 
 -- Queues
 -- which queue a location's entries go through: its own
-unfoldable pub queueOf : Program → ℕ → ℕ
-queueOf p l = l
+unfoldable pub lineOf : Program → ℕ → ℕ
+lineOf p l = l
 
 -- and, of a write in a queue, by its mark, the location that it goes to: the one whose queue it is
 unfoldable pub homeOf : ℕ → ℕ → ℕ

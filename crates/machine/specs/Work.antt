@@ -17,7 +17,7 @@ use Rattle.cases.specs.declared.case.Program.{Program}
 use Rattle.cases.specs.Choice.{pick}
 use Rattle.cases.specs.Sizes.{mostThreads, mostInstructions, mostLocations}
 use Rattle.cases.specs.Operations.{storeWord, storeRegister, load, exchange, flush, flushOpt, sfence}
-use Rattle.cases.specs.Checks.{countAt, queuesOf}
+use Rattle.cases.specs.Checks.{countAt, linesOf}
 use Rattle.machine.specs.declared.cells.State.{State}
 use Rattle.machine.specs.declared.cells.Waiting.{Waiting}
 use Rattle.machine.specs.declared.cells.Entry.{Entry}
@@ -70,7 +70,7 @@ unfoldable pub Unfinished : Program → State → Type 0
 Unfinished p s =
     ((t : ℕ) × (t < p .threads) × (issuedOf s t < countAt p t))
     ⊎ ((t : ℕ) × (t < p .threads) × (buffer s t ≢ []))
-    ⊎ ((q : ℕ) × (q < queuesOf p) × (queue s q ≢ []))
+    ⊎ ((q : ℕ) × (q < linesOf p) × (queue s q ≢ []))
 
 -- what thread t's instructions weigh, all of them
 unfoldable pub programWeight : Program → ℕ → ℕ

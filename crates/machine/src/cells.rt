@@ -7,9 +7,6 @@ use cases::sizes::CODE;
 use cases::sizes::LOCATIONS;
 use cases::sizes::THREADS;
 
-// A queue's number. Which queue a location's entries go through, the program says.
-pub struct Queue(pub u8);
-
 // An entry that waits in a store buffer.
 pub enum Entry {
     Store(Write),

@@ -1,10 +1,10 @@
 // What a step changes of a state: an entry joins the end of a queue, or is taken out of a row of them.
 use crate::cells::Entry;
-use crate::cells::Queue;
 use crate::cells::State;
 use crate::cells::Waiting;
 use crate::sizes::ROOM;
 use crate::sizes::SLOTS;
+use cases::case::Line;
 use cases::case::Location;
 use cases::case::Write;
 use cases::sizes::CODE;
@@ -18,7 +18,7 @@ ghost use Rattle.machine.specs.View.{blankWaiting};
 ghost use Rattle.machine.specs.Rules as rules;
 
 // An entry at the end of a queue.
-pub(crate) fn enqueue(s: State, q: Queue, word: u32, mark: u8) -> State
+pub(crate) fn enqueue(s: State, q: Line, word: u32, mark: u8) -> State
     requires { ⌜ (q .0 < mostLocations) × (queueLen s (q .0) < room) ⌝ }
     ensures { λ r. ⌜ r ≡ rules.enqueue s (q .0) (record { word = word; mark = mark }) ⌝ }
 {

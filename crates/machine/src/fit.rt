@@ -1,10 +1,10 @@
 // Refusal 33: does a state in memory fit its program? Anything of the types may be given.
 use crate::cells::Entry;
-use crate::cells::Queue;
 use crate::cells::State;
 use crate::cells::Waiting;
 use crate::sizes::ROOM;
 use crate::sizes::SLOTS;
+use cases::case::Line;
 use cases::case::Program;
 use cases::case::Thread;
 use cases::checks;
@@ -63,7 +63,7 @@ fn has_stray<'a>(
 fn has_foreign<'a>(
     marks: &'a [u8; SLOTS],
     lengths: &'a [u8; LOCATIONS],
-    q: Queue,
+    q: Line,
     threads: u8,
 ) -> bool
     requires { ⌜ (q .0 < mostLocations) × (getD (now lengths) (q .0) 0 ≤ room)
@@ -161,13 +161,13 @@ fn all_unissued(p: Program, s: State) -> usize
 }
 
 // Is there something in a queue that doesn't fit? What may still come into it is given.
-fn queue_misfits(p: Program, s: State, q: Queue, coming: usize) -> bool
+fn queue_misfits(p: Program, s: State, q: Line, coming: usize) -> bool
     requires { ⌜ (q .0 < mostLocations) × (coming ≡ due p s) ⌝ }
     ensures { λ r. ⌜ r ≡ queueMisfits p s (q .0) ⌝ }
 {
     let u = s;
     let n = u.lengths[q.0 as usize];
-    if checks::queues_of(p) <= q.0 && 0 < n {
+    if checks::lines_of(p) <= q.0 && 0 < n {
         return true;
     }
     if ROOM < (n as usize) + coming {
@@ -182,7 +182,7 @@ fn queues_misfit(p: Program, s: State) -> bool
     let coming = all_waiting(s) + all_unissued(p, s);
     let mut q: u8 = 0;
     while (q as usize) < LOCATIONS {
-        if queue_misfits(p, s, Queue(q), coming) {
+        if queue_misfits(p, s, Line(q), coming) {
             return true;
         }
         q += 1;

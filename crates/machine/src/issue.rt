@@ -28,7 +28,7 @@ ghost use lib.ListN.{length};
 ghost use Rattle.cases.specs.Sizes.{mostThreads, mostInstructions, mostLocations, mostRegisters};
 ghost use Rattle.cases.specs.Checks.{countAt};
 ghost use Rattle.machine.specs.Sizes.{room, allSlots};
-ghost use Rattle.machine.specs.View.{queueOf, queueLen, bufferLen, issuedOf};
+ghost use Rattle.machine.specs.View.{lineOf, queueLen, bufferLen, issuedOf};
 ghost use Rattle.machine.specs.Parts.{lent};
 ghost use Rattle.machine.specs.Rules.{instructionAt, isBarrier, barrierRule, operationRule};
 ghost use Rattle.machine.specs.Rules.{issueRule, entryOf, loaded, exchanged, performed, issueOf, await};
@@ -137,14 +137,14 @@ fn entry_of<'a>(registers: &'a [u32; ALL_REGISTERS], t: Thread, x: Instruction) 
 // persistent word.
 fn load(p: Program, s: State, t: Thread, x: Instruction) -> State
     requires { ⌜ (t .0 < mostThreads) × (x .location .0 < mostLocations) × (x .register .0 < mostRegisters)
-        × (bufferLen s (t .0) ≤ mostInstructions) × (queueOf p (x .location .0) < mostLocations)
-        × (queueLen s (queueOf p (x .location .0)) ≤ room) ⌝ }
+        × (bufferLen s (t .0) ≤ mostInstructions) × (lineOf p (x .location .0) < mostLocations)
+        × (queueLen s (lineOf p (x .location .0)) ≤ room) ⌝ }
     ensures { λ r. ⌜ r ≡ loaded p s (t .0) x ⌝ }
 {
     let mut u = s;
     let l = x.location;
     let word = u.words[l.0 as usize];
-    let queued = look::newest_write(&u.held, &u.marks, &u.lengths, look::queue_of(p, l), word);
+    let queued = look::newest_write(&u.held, &u.marks, &u.lengths, look::line_of(p, l), word);
     let b = u.buffers;
     let found = look::newest_store(b, &u.waiting, t, l, queued);
     u.registers[(t.0 as usize) * REGISTERS + (x.register.0 as usize)] = found;
@@ -155,13 +155,13 @@ fn load(p: Program, s: State, t: Thread, x: Instruction) -> State
 // the queue's end.
 fn exchange(p: Program, s: State, t: Thread, x: Instruction) -> State
     requires { ⌜ (t .0 < mostThreads) × (x .location .0 < mostLocations) × (x .register .0 < mostRegisters)
-        × (queueOf p (x .location .0) < mostLocations) × (queueLen s (queueOf p (x .location .0)) < room) ⌝ }
+        × (lineOf p (x .location .0) < mostLocations) × (queueLen s (lineOf p (x .location .0)) < room) ⌝ }
     ensures { λ r. ⌜ r ≡ exchanged p s (t .0) x ⌝ }
 {
     let mut u = s;
     let l = x.location;
     let word = u.words[l.0 as usize];
-    let q = look::queue_of(p, l);
+    let q = look::line_of(p, l);
     let old = look::newest_write(&u.held, &u.marks, &u.lengths, q, word);
     u.registers[(t.0 as usize) * REGISTERS + (x.register.0 as usize)] = old;
     change::enqueue(u, q, x.word, 0)
@@ -185,8 +185,8 @@ fn join_buffer(s: State, t: Thread, x: Instruction) -> State
 // What an instruction does as it is issued; those that wait are told apart in `entry_of`.
 fn perform(p: Program, s: State, t: Thread, x: Instruction) -> State
     requires { ⌜ (t .0 < mostThreads) × (x .location .0 < mostLocations) × (x .register .0 < mostRegisters)
-        × (bufferLen s (t .0) < mostInstructions) × (queueOf p (x .location .0) < mostLocations)
-        × (queueLen s (queueOf p (x .location .0)) < room) ⌝ }
+        × (bufferLen s (t .0) < mostInstructions) × (lineOf p (x .location .0) < mostLocations)
+        × (queueLen s (lineOf p (x .location .0)) < room) ⌝ }
     ensures { λ r. ⌜ r ≡ performed p s (t .0) x ⌝ }
 {
     let op = x.operation;
@@ -208,8 +208,8 @@ pub(crate) fn issue(p: Program, s: State, t: Thread) -> State
         × (bufferLen s (t .0) < mostInstructions)
         × (instructionAt p (t .0) (issuedOf s (t .0)) .location .0 < mostLocations)
         × (instructionAt p (t .0) (issuedOf s (t .0)) .register .0 < mostRegisters)
-        × (queueOf p (instructionAt p (t .0) (issuedOf s (t .0)) .location .0) < mostLocations)
-        × (queueLen s (queueOf p (instructionAt p (t .0) (issuedOf s (t .0)) .location .0)) < room) ⌝ }
+        × (lineOf p (instructionAt p (t .0) (issuedOf s (t .0)) .location .0) < mostLocations)
+        × (queueLen s (lineOf p (instructionAt p (t .0) (issuedOf s (t .0)) .location .0)) < room) ⌝ }
     ensures { λ r. ⌜ r ≡ issueOf p s (t .0) ⌝ }
 {
     let q = p;

@@ -1,10 +1,10 @@
 // What a look through the state finds. No function here changes a state; the number arrays are lent, the
 // buffers go by value because an array of structs can't be lent.
 use crate::cells::Entry;
-use crate::cells::Queue;
 use crate::cells::Waiting;
 use crate::sizes::ROOM;
 use crate::sizes::SLOTS;
+use cases::case::Line;
 use cases::case::Location;
 use cases::case::Program;
 use cases::case::Thread;
@@ -17,26 +17,26 @@ ghost use Prim.Native.Nat.{_<_, _≤_};
 ghost use lib.ListN.{length, getD, take};
 ghost use Rattle.cases.specs.Sizes.{mostThreads, mostInstructions, mostLocations};
 ghost use Rattle.machine.specs.Sizes.{room, allSlots};
-ghost use Rattle.machine.specs.View.{queueOf, homeOf, queueIn, bufferIn};
+ghost use Rattle.machine.specs.View.{lineOf, homeOf, queueIn, bufferIn};
 ghost use Rattle.machine.specs.Fit.{Shallow};
 ghost use Rattle.machine.specs.Look.{wordOr, newestWrite, newestStore, markerOf, marked, bars};
 ghost use Rattle.machine.specs.Look.{firstBar};
 
 // Where a marker stands: its queue and its position there.
 pub enum Found {
-    At(Queue, u8),
+    At(Line, u8),
     Nothing,
 }
 
 // The queue that a location's entries go through: its own, whatever the program.
-pub(crate) fn queue_of(p: Program, l: Location) -> Queue
-    ensures { λ r. ⌜ r .0 ≡ queueOf p (l .0) ⌝ }
+pub(crate) fn line_of(p: Program, l: Location) -> Line
+    ensures { λ r. ⌜ r .0 ≡ lineOf p (l .0) ⌝ }
 {
-    Queue(l.0)
+    Line(l.0)
 }
 
 // The location that a write of a queue goes to, by its mark: the one whose queue it is.
-pub(crate) fn home_of(q: Queue, mark: u8) -> Location
+pub(crate) fn home_of(q: Line, mark: u8) -> Location
     ensures { λ r. ⌜ r .0 ≡ homeOf (q .0) mark ⌝ }
 {
     Location(q.0)
@@ -54,7 +54,7 @@ pub(crate) fn newest_write<'a>(
     held: &'a [u32; SLOTS],
     marks: &'a [u8; SLOTS],
     lengths: &'a [u8; LOCATIONS],
-    q: Queue,
+    q: Line,
     other: u32,
 ) -> u32
     requires { ⌜ (q .0 < mostLocations) × (getD (now lengths) (q .0) 0 ≤ room)
@@ -115,7 +115,7 @@ pub(crate) fn marker<'a>(marks: &'a [u8; SLOTS], lengths: &'a [u8; LOCATIONS], t
         let mut i: u8 = 0;
         'entries: while i < n {
             if marks[(q as usize) * ROOM + (i as usize)] == mark {
-                found = Found::At(Queue(q), i);
+                found = Found::At(Line(q), i);
                 break 'queues;
             }
             i += 1;
@@ -137,13 +137,13 @@ pub(crate) fn is_marked<'a>(marks: &'a [u8; SLOTS], lengths: &'a [u8; LOCATIONS]
 }
 
 // Does an entry keep a flush-opt of the queue behind it?
-fn is_bar(p: Program, w: Waiting, q: Queue) -> bool
+fn is_bar(p: Program, w: Waiting, q: Line) -> bool
     ensures { λ r. ⌜ r ≡ bars p (q .0) (w .entry) ⌝ }
 {
     let e = w.entry;
     match e {
-        Entry::Store(x) => queue_of(p, x.location).0 == q.0,
-        Entry::Flush(m) => queue_of(p, m).0 == q.0,
+        Entry::Store(x) => line_of(p, x.location).0 == q.0,
+        Entry::Flush(m) => line_of(p, m).0 == q.0,
         Entry::FlushOpt(_) => false,
         Entry::Sfence => true,
     }
@@ -157,7 +157,7 @@ pub(crate) fn first_bar<'a>(
     waiting: &'a [u8; THREADS],
     t: Thread,
     i: u8,
-    q: Queue,
+    q: Line,
 ) -> u8
     requires { ⌜ (t .0 < mostThreads) × (i ≤ getD (now waiting) (t .0) 0)
         × (getD (now waiting) (t .0) 0 ≤ mostInstructions) ⌝ }

@@ -1,12 +1,12 @@
 // Move and persist: which rule they break, and what they do.
 use crate::cells::Entry;
-use crate::cells::Queue;
 use crate::cells::State;
 use crate::cells::Waiting;
 use crate::change;
 use crate::look;
 use crate::sizes::ROOM;
 use crate::sizes::SLOTS;
+use cases::case::Line;
 use cases::case::Program;
 use cases::case::Thread;
 use cases::sizes::CODE;
@@ -41,7 +41,7 @@ fn effect_rule<'a>(
     match e {
         Entry::Store(_) => 0,
         Entry::Flush(l) => {
-            let q = look::queue_of(p, l);
+            let q = look::line_of(p, l);
             if 0 < lengths[q.0 as usize] { 27 } else { 0 }
         }
         Entry::FlushOpt(_) => 0,
@@ -72,7 +72,7 @@ fn pass_rule<'a>(
         Entry::Store(_) => 25,
         Entry::Flush(_) => 25,
         Entry::FlushOpt(l) => {
-            if look::first_bar(p, buffers, waiting, t, i, look::queue_of(p, l)) < i {
+            if look::first_bar(p, buffers, waiting, t, i, look::line_of(p, l)) < i {
                 26
             } else {
                 0
@@ -117,9 +117,9 @@ fn take_effect(p: Program, s: State, t: Thread, e: Entry) -> State
     ensures { λ r. ⌜ r ≡ effectOf p s (t .0) e ⌝ }
 {
     match e {
-        Entry::Store(w) => change::enqueue(s, look::queue_of(p, w.location), w.word, 0),
+        Entry::Store(w) => change::enqueue(s, look::line_of(p, w.location), w.word, 0),
         Entry::Flush(_) => s,
-        Entry::FlushOpt(l) => change::enqueue(s, look::queue_of(p, l), 0, t.0 + 1),
+        Entry::FlushOpt(l) => change::enqueue(s, look::line_of(p, l), 0, t.0 + 1),
         Entry::Sfence => s,
     }
 }
@@ -145,7 +145,7 @@ pub(crate) fn move_entry(p: Program, s: State, t: Thread, i: u8) -> State
 }
 
 // The rule that persisting a queue's oldest entry breaks; 0 where it is legal.
-pub(crate) fn persist_rule<'a>(lengths: &'a [u8; LOCATIONS], q: Queue) -> u8
+pub(crate) fn persist_rule<'a>(lengths: &'a [u8; LOCATIONS], q: Line) -> u8
     requires { ⌜ q .0 < mostLocations ⌝ }
     ensures { λ r. ⌜ r ≡ persistRule (lent [] [] [] [] (now (lengths .entry))) (q .0) ⌝ }
 {
@@ -156,7 +156,7 @@ pub(crate) fn persist_rule<'a>(lengths: &'a [u8; LOCATIONS], q: Queue) -> u8
 }
 
 // A queue's oldest entry persisted, where there is one.
-pub(crate) fn persist(s: State, q: Queue) -> State
+pub(crate) fn persist(s: State, q: Line) -> State
     requires { ⌜ (q .0 < mostLocations) × (0 < queueLen s (q .0)) × (queueLen s (q .0) ≤ room) ⌝ }
     ensures { λ r. ⌜ r ≡ persistOf s (q .0) ⌝ }
 {

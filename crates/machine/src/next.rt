@@ -1,13 +1,13 @@
 // The legal next steps of a state, in 01's order: issue by thread, move by thread then position, persist by
 // queue. One call for each state of a walk: the state's number arrays are lent, and the list is an array of
 // ranks, filled in place, since a list of steps handed on by value is copied at each offer.
-use crate::cells::Queue;
 use crate::cells::Waiting;
 use crate::issue;
 use crate::moves;
 use crate::sizes::CANDIDATES;
 use crate::sizes::RANKS;
 use crate::sizes::SLOTS;
+use cases::case::Line;
 use cases::case::Location;
 use cases::case::Program;
 use cases::case::Step;
@@ -25,7 +25,7 @@ ghost use mathlib.Core.List.{[]};
 ghost use lib.ListN.{length};
 ghost use Prim.Native.Nat.{_+_, _*_, _<_, _≤_};
 ghost use Rattle.cases.specs.Sizes.{mostThreads, mostInstructions, mostLocations};
-ghost use Rattle.cases.specs.Checks.{queuesOf};
+ghost use Rattle.cases.specs.Checks.{linesOf};
 ghost use Rattle.machine.specs.Sizes.{allSlots, mostCandidates};
 ghost use Rattle.machine.specs.Parts.{lent};
 ghost use Rattle.machine.specs.Rules.{ruleIn};
@@ -204,13 +204,13 @@ fn offer_persists<'a>(
     requires { ⌜ ProgramFits p × (count + mostLocations ≤ mostCandidates) ⌝ }
     ensures { λ r. ⌜ nextWith r (now (ranks .exit)) ≡ offeredAll
         (ruleIn p (lent [] [] [] [] (now (lengths .entry))))
-        (stepsFrom persistStep 0 (queuesOf p)) (nextWith count (now (ranks .entry))) ⌝ }
+        (stepsFrom persistStep 0 (linesOf p)) (nextWith count (now (ranks .entry))) ⌝ }
 {
-    let queues = checks::queues_of(p);
+    let queues = checks::lines_of(p);
     let mut n = count;
     let mut q: u8 = 0;
     while q < queues {
-        let broken = moves::persist_rule(lengths, Queue(q));
+        let broken = moves::persist_rule(lengths, Line(q));
         n = offer(
             ranks,
             n,

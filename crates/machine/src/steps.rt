@@ -1,6 +1,5 @@
 // A step by its code, and a single step given with a case and a state in memory.
 use crate::cells::Entry;
-use crate::cells::Queue;
 use crate::cells::State;
 use crate::cells::Waiting;
 use crate::fit;
@@ -9,6 +8,7 @@ use crate::moves;
 use crate::sizes::ALL_REGISTERS;
 use crate::sizes::SLOTS;
 use cases::case::Case;
+use cases::case::Line;
 use cases::case::Location;
 use cases::case::Program;
 use cases::case::Step;
@@ -99,7 +99,7 @@ pub(crate) fn rule<'a>(
     if code == MOVE {
         return moves::move_rule(p, buffers, waiting, marks, lengths, k.thread, k.position);
     }
-    moves::persist_rule(lengths, Queue(k.location.0))
+    moves::persist_rule(lengths, Line(k.location.0))
 }
 
 // The state after a legal step. Not tested again: the walk takes millions of them.
@@ -114,7 +114,7 @@ pub fn take_step(p: Program, s: State, k: Step) -> State
     if code == MOVE {
         return moves::move_entry(p, s, k.thread, k.position);
     }
-    moves::persist(s, Queue(k.location.0))
+    moves::persist(s, Line(k.location.0))
 }
 
 // Where a case's runs start: 32 first.

@@ -20,7 +20,7 @@ use Rattle.cases.specs.declared.seats.Seat.the-variants.{Holds, Empty}
 use Rattle.cases.specs.Sizes.{mostThreads, mostInstructions, mostLocations}
 use Rattle.cases.specs.Choice.{both, either}
 use Rattle.cases.specs.Checks.{outside, beyond, leftOver, countAt, headerOut, instructionOut}
-use Rattle.cases.specs.Checks.{instructionLeft, passedOut, queuesOf, Limits, limitsOf, stepOut, stepLeft}
+use Rattle.cases.specs.Checks.{instructionLeft, passedOut, linesOf, Limits, limitsOf, stepOut, stepLeft}
 use Rattle.cases.specs.Checks.{usesLocation, usesRegister}
 use Rattle.cases.specs.Ranges.{InstructionFits}
 use Rattle.cases.proofs.ChoiceLaws.{either-false}
@@ -62,13 +62,13 @@ pub record Grown (p q : Program) : Type 0 where
 
 -- a step of the grown one may name the same
 limits-grown : (p q : Program) → Grown p q → limitsOf q ≡ limitsOf p
-unfolding queuesOf
-limits-grown p q g = λ i. record { threads = g .same-threads i; queues = g .same-locations i }
+unfolding linesOf
+limits-grown p q g = λ i. record { threads = g .same-threads i; lines = g .same-locations i }
 
 -- a program with no more than the most locations has no more queues than that
-pub few-queues : (p : Program) → p .locations ≤ mostLocations → queuesOf p ≤ mostLocations
-unfolding queuesOf
-few-queues p h = h
+pub few-lines : (p : Program) → p .locations ≤ mostLocations → linesOf p ≤ mostLocations
+unfolding linesOf
+few-lines p h = h
 
 -- what fits a program fits the grown one
 pub record-grown : (p q : Program) → Grown p q → (r : Record) → RecordFits p r → RecordFits q r
@@ -110,7 +110,7 @@ instruction-fits p t x some out left =
       },
     )
 
-pub step-low : (limits : Limits) (k : Step) → limits .threads ≤ mostThreads → limits .queues ≤ mostLocations
+pub step-low : (limits : Limits) (k : Step) → limits .threads ≤ mostThreads → limits .lines ≤ mostLocations
     → stepOut limits k ≡ false
     → stepLeft k ≡ false
     → (k .code ≤ lastCode)

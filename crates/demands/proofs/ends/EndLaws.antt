@@ -9,7 +9,7 @@ use native.Mathlib.Nat.{eq-zero-or-pos}
 use lib.ListN.{length}
 use Rattle.cases.specs.declared.case.Step.{Step}
 use Rattle.cases.specs.declared.case.Program.{Program}
-use Rattle.cases.specs.Checks.{limitsOf, queuesOf, stepFault, countAt}
+use Rattle.cases.specs.Checks.{limitsOf, linesOf, stepFault, countAt}
 use Rattle.machine.specs.declared.cells.State.{State}
 use Rattle.machine.specs.Model.{Model, Lawful, EachCostsOne, Leads, Faultless, LegalRun, CannotGoOn}
 use Rattle.machine.specs.Model.{FinishedRun, spent, fullLength}
@@ -154,7 +154,7 @@ module _ (p : Program) (u : State) (f : Fits p u) where
       buffers t h (inl e) = e
       buffers t h (inr e) = absurd (stuck-not stuck (unfold Unfinished in inr (inl (t, h, e))))
 
-      queues : (q : ℕ) → q < queuesOf p → (queue u q ≡ []) ⊎ (queue u q ≢ []) → queue u q ≡ []
+      queues : (q : ℕ) → q < linesOf p → (queue u q ≡ []) ⊎ (queue u q ≢ []) → queue u q ≡ []
       queues q h (inl e) = e
       queues q h (inr e) = absurd (stuck-not stuck (unfold Unfinished in inr (inr (q, h, e))))
 

@@ -9,7 +9,7 @@ use native.Mathlib.Decide.{ℕ-discrete}
 use borrow.Author.Tests.{ne-eqb}
 use Rattle.cases.specs.declared.case.Step.{Step}
 use Rattle.cases.specs.declared.case.Program.{Program}
-use Rattle.cases.specs.Checks.{limitsOf, queuesOf, stepFault}
+use Rattle.cases.specs.Checks.{limitsOf, linesOf, stepFault}
 use Rattle.cases.proofs.ChoiceLaws.{pick-false}
 use Rattle.cases.specs.Operations.{storeRegister}
 use Rattle.machine.specs.declared.cells.State.{State}
@@ -66,7 +66,7 @@ module _ (p : Program) (s : State) (f : Fits p s) (k : Step) (t i : ℕ) where
 
       go : ((m : ℕ) × (m < p .threads) × (k ≡ issueStep m))
           ⊎ ((m : ℕ) × (j : ℕ) × (m < p .threads) × (k ≡ moveStep m j))
-          ⊎ ((q : ℕ) × (q < queuesOf p) × (k ≡ persistStep q)) → Issues ⊎ Passes
+          ⊎ ((q : ℕ) × (q < linesOf p) × (k ≡ persistStep q)) → Issues ⊎ Passes
       go (inl x) = issued (x .0) (x .1) (x .2) (ℕ-discrete t (x .0)) (ℕ-discrete (issuedOf s t) i)
       go (inr (inl x)) =
           inr (quiet (rw (x .3) (move-issues s (x .0) (x .1) t i))

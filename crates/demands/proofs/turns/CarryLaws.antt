@@ -8,7 +8,7 @@ use native.Mathlib.Omega.{arith}
 use Rattle.cases.specs.declared.case.Instruction.{Instruction}
 use Rattle.cases.specs.declared.case.Step.{Step}
 use Rattle.cases.specs.declared.case.Program.{Program}
-use Rattle.cases.specs.Checks.{limitsOf, queuesOf, stepFault, countAt}
+use Rattle.cases.specs.Checks.{limitsOf, linesOf, stepFault, countAt}
 use Rattle.machine.specs.declared.cells.State.{State}
 use Rattle.machine.specs.View.{queue, buffer, issuedOf}
 use Rattle.machine.specs.Rules.{instructionAt, ruleOf, nextOf}
@@ -16,7 +16,7 @@ use Rattle.machine.specs.Joins.{joins, exchanges}
 use Rattle.machine.specs.Model.{Leads, Faultless}
 use Rattle.machine.specs.Next.{issueStep}
 use Rattle.machine.specs.Ptso.{ptso}
-use Rattle.machine.proofs.Promises.{step-fits, few-queues, issue-legal, leads-append, faultless-append}
+use Rattle.machine.proofs.Promises.{step-fits, few-lines, issue-legal, leads-append, faultless-append}
 use Rattle.machine.proofs.Effects.{issue-issued, issue-issued-other, issue-buffer, issue-buffer-other}
 use Rattle.machine.proofs.Effects.{issue-queue}
 use Rattle.demands.specs.Carried.{carried, carriedFrom, carriedAll}
@@ -51,9 +51,9 @@ module _ (p : Program) (s : State) (o : Quiet p s) (t : ℕ) (low : t < p .threa
   issued-buffer : buffer issued t ≡ joins (s .registers) t next
   issued-buffer = rw (issue-buffer p s (o .fit) t low (may-issue .1), o .buffers t low) refl
 
-  issued-queue : (q : ℕ) → q < queuesOf p → queue issued q ≡ exchanges p q next
+  issued-queue : (q : ℕ) → q < linesOf p → queue issued q ≡ exchanges p q next
   issued-queue q h =
-      let w = few-queues p (o .fit .program) in
+      let w = few-lines p (o .fit .program) in
       rw (issue-queue p s (o .fit) t low (may-issue .1) q (omega arith), o .queues q h) refl
 
   rest : (ks : List Step) × (carried p t next ≡ issueStep t ∷ ks) × Through p issued ks

@@ -14,20 +14,20 @@ use Rattle.cases.specs.declared.case.Register.{Register}
 use Rattle.cases.specs.declared.case.Step.{Step}
 use Rattle.cases.specs.declared.case.Program.{Program}
 use Rattle.cases.specs.Choice.{pick, both, either}
-use Rattle.cases.specs.Checks.{limitsOf, queuesOf, stepFault}
+use Rattle.cases.specs.Checks.{limitsOf, linesOf, stepFault}
 use Rattle.cases.proofs.ChoiceLaws.{pick-true, pick-false}
 use Rattle.cases.proofs.Promises.{thread-low}
 use Rattle.cases.specs.Operations.{lastOperation, firstOperation}
 use Rattle.machine.specs.declared.cells.State.{State}
 use Rattle.machine.specs.declared.cells.Entry.{Entry}
-use Rattle.machine.specs.View.{Slot, queueOf, writeSlot, markerSlot, without, queue, buffer, issuedOf}
+use Rattle.machine.specs.View.{Slot, lineOf, writeSlot, markerSlot, without, queue, buffer, issuedOf}
 use Rattle.machine.specs.Rules.{isBarrier, entryOf, ruleOf, nextOf}
 use Rattle.machine.specs.Joins.{joins, exchanges, enters}
 use Rattle.machine.specs.Fit.{Fits}
 use Rattle.machine.specs.Model.{Leads, Faultless}
 use Rattle.machine.specs.Next.{issueStep, moveStep, persistStep}
 use Rattle.machine.specs.Ptso.{ptso}
-use Rattle.machine.proofs.Promises.{step-fits, few-queues, queue-there, persist-legal, move-legal}
+use Rattle.machine.proofs.Promises.{step-fits, few-lines, line-there, persist-legal, move-legal}
 use Rattle.machine.proofs.Effects.{move-issued, move-buffer, move-buffer-other, move-queue, persist-issued}
 use Rattle.machine.proofs.Effects.{persist-buffer, persist-queue, persist-queue-other}
 use Rattle.machine.proofs.OperationLaws.{each-operation, of}
@@ -38,13 +38,13 @@ use Rattle.demands.proofs.writes.LastLaws.{cons-some}
 pub record Quiet (p : Program) (s : State) : Type 0 where
   pub fit : Fits p s
   pub buffers : (t : ℕ) → t < p .threads → buffer s t ≡ []
-  pub queues : (q : ℕ) → q < queuesOf p → queue s q ≡ []
+  pub queues : (q : ℕ) → q < linesOf p → queue s q ≡ []
 
 -- no buffer holds anything, and of the queues queue m holds h and nothing else
 record Queued (p : Program) (s : State) (m : ℕ) (h : Slot) : Type 0 where
   pub fit : Fits p s
   pub buffers : (t : ℕ) → t < p .threads → buffer s t ≡ []
-  pub queues : (q : ℕ) → q < queuesOf p → queue s q ≡ pick (eqb m q) (h ∷ []) []
+  pub queues : (q : ℕ) → q < linesOf p → queue s q ≡ pick (eqb m q) (h ∷ []) []
 
 -- the steps ks lead from s to where nothing waits, and issue nothing
 pub record Through (p : Program) (s : State) (ks : List Step) : Type 0 where
@@ -59,7 +59,7 @@ unfolding Faultless Leads
 through-none p s q = record { end = s; faultless = tt; leads = refl; quiet = q; issued = λ t. refl }
 
 -- what is queued persists
-through-persist : (p : Program) (s : State) (m : ℕ) (h : Slot) → m < queuesOf p → Queued p s m h
+through-persist : (p : Program) (s : State) (m : ℕ) (h : Slot) → m < linesOf p → Queued p s m h
     → Through p s (persistStep m ∷ [])
 unfolding Faultless Leads
 through-persist p s m h low o =
@@ -81,12 +81,12 @@ through-persist p s m h low o =
     legal : (stepFault (limitsOf p) (persistStep m) ≡ 0) × (ruleOf p s (persistStep m) ≡ 0)
     legal = persist-legal p s (o .fit) m low (rw one (cons-some h []))
 
-    gone : (q : ℕ) → q < queuesOf p → Dec (q ≡ m) → queue (nextOf p s (persistStep m)) q ≡ []
+    gone : (q : ℕ) → q < linesOf p → Dec (q ≡ m) → queue (nextOf p s (persistStep m)) q ≡ []
     gone q a (yes e) =
         let r = persist-queue p s (o .fit) m low (legal .1) in
         rw e (ap (drop 1) (sym (r .1) ∙ one))
     gone q a (no e) =
-        let w = few-queues p (o .fit .program) in
+        let w = few-lines p (o .fit .program) in
         persist-queue-other p s (o .fit) m low (legal .1) q (omega arith) e
         ∙ o .queues q a ∙ pick-false _ _ _ (ne-eqb _ _ (λ z. e (sym z)))
 
@@ -95,7 +95,7 @@ record Waits (p : Program) (s : State) (t : ℕ) (e : Entry) : Type 0 where
   pub fit : Fits p s
   pub here : buffer s t ≡ record { entry = e } ∷ []
   pub others : (k : ℕ) → k < p .threads → k ≢ t → buffer s k ≡ []
-  pub queues : (q : ℕ) → q < queuesOf p → queue s q ≡ []
+  pub queues : (q : ℕ) → q < linesOf p → queue s q ≡ []
 
 -- it moves
 module _ (p : Program) (s : State) (t : ℕ) (low : t < p .threads) (e : Entry) (o : Waits p s t e) where
@@ -118,9 +118,9 @@ module _ (p : Program) (s : State) (t : ℕ) (low : t < p .threads) (e : Entry) 
           move-buffer-other p s (o .fit) t 0 low (may-move .1) k (thread-low (o .fit .program) h) d
           ∙ o .others k h d
 
-  moved-queue : (q : ℕ) → q < queuesOf p → queue moved q ≡ enters p t q e
+  moved-queue : (q : ℕ) → q < linesOf p → queue moved q ≡ enters p t q e
   moved-queue q h =
-      let w = few-queues p (o .fit .program) in
+      let w = few-lines p (o .fit .program) in
       rw (move-queue p s (o .fit) t 0 low (may-move .1) q (omega arith), o .queues q h, o .here) refl
 
   through-move : (ks : List Step) → Through p moved ks → Through p s (moveStep t 0 ∷ ks)
@@ -143,7 +143,7 @@ module _ (p : Program) (s : State) (t : ℕ) (low : t < p .threads) (e : Entry) 
         queues = λ q h. moved-queue q h ∙ none q;
       }))
 
-  through-queued : (m : ℕ) (h : Slot) → m < queuesOf p
+  through-queued : (m : ℕ) (h : Slot) → m < linesOf p
       → ((q : ℕ) → enters p t q e ≡ pick (eqb m q) (h ∷ []) [])
       → Through p s (moveStep t 0 ∷ persistStep m ∷ [])
   through-queued m h there one =
@@ -160,17 +160,17 @@ module _ (p : Program) (registers : List ℕ) (t : ℕ) (low : t < p .threads) (
   abbrev pub Behind : ℕ → Type 0
   Behind op =
       buffer v t ≡ joins registers t (of op l r w)
-      → ((q : ℕ) → q < queuesOf p → queue v q ≡ exchanges p q (of op l r w))
+      → ((q : ℕ) → q < linesOf p → queue v q ≡ exchanges p q (of op l r w))
       → (ks : List Step) × (carried p t (of op l r w) ≡ issueStep t ∷ ks) × Through p v ks
 
   -- the queue of its location
   abbrev own : ℕ
-  own = queueOf p (l .0)
+  own = lineOf p (l .0)
 
-  own-there : own < queuesOf p
-  own-there = queue-there p (fit .program) (l .0) there
+  own-there : own < linesOf p
+  own-there = line-there p (fit .program) (l .0) there
 
-  waits : (e : Entry) → buffer v t ≡ record { entry = e } ∷ [] → ((q : ℕ) → q < queuesOf p → queue v q ≡ [])
+  waits : (e : Entry) → buffer v t ≡ record { entry = e } ∷ [] → ((q : ℕ) → q < linesOf p → queue v q ≡ [])
       → Waits p v t e
   waits e b q = record { fit = fit; here = b; others = others; queues = q }
 
@@ -181,7 +181,7 @@ module _ (p : Program) (registers : List ℕ) (t : ℕ) (low : t < p .threads) (
       go (yes d) = rw d b
       go (no d) = others k h d
 
-  quiet : buffer v t ≡ [] → ((q : ℕ) → q < queuesOf p → queue v q ≡ []) → Quiet p v
+  quiet : buffer v t ≡ [] → ((q : ℕ) → q < linesOf p → queue v q ≡ []) → Quiet p v
   quiet b q = record { fit = fit; buffers = empty b; queues = q }
 
   -- store word, store register, load, exchange, flush, flush-opt, sfence, mfence

@@ -9,7 +9,7 @@ use mathlib.Core.List.{List, [], _∷_, _++_, append-nil, append-assoc}
 use Rattle.cases.specs.declared.case.Location.{Location}
 use Rattle.cases.specs.declared.case.Step.{Step}
 use Rattle.cases.specs.declared.case.Program.{Program}
-use Rattle.cases.specs.Checks.{countAt, queuesOf}
+use Rattle.cases.specs.Checks.{countAt, linesOf}
 use Rattle.machine.specs.declared.cells.State.{State}
 use Rattle.machine.specs.declared.cells.Entry.the-variants.{FlushOpt}
 use Rattle.machine.specs.View.{buffer, wordOf, issuedOf}
@@ -59,7 +59,7 @@ coming-taken p s k ks l t new h e b =
 
 module _ (p : Program) (s : State) (f : Fits p s) (ks : List Step) (l : ℕ) (there : l < p .locations) where
   -- Persist
-  module _ (q : ℕ) (low : q < queuesOf p) (legal : ruleOf p s (persistStep q) ≡ 0) where
+  module _ (q : ℕ) (low : q < linesOf p) (legal : ruleOf p s (persistStep q) ≡ 0) where
     persist-coming : (t : ℕ)
         → coming p s (persistStep q ∷ ks) l t ≡ coming p (nextOf p s (persistStep q)) ks l t
     persist-coming t =

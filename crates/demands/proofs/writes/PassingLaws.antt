@@ -8,7 +8,7 @@ use native.Mathlib.Omega.{arith}
 use Rattle.cases.specs.declared.case.Instruction.{Instruction}
 use Rattle.cases.specs.declared.case.Step.{Step}
 use Rattle.cases.specs.declared.case.Program.{Program}
-use Rattle.cases.specs.Checks.{limitsOf, queuesOf, stepFault, countAt}
+use Rattle.cases.specs.Checks.{limitsOf, linesOf, stepFault, countAt}
 use Rattle.cases.specs.Ranges.{InstructionFits}
 use Rattle.cases.specs.Operations.{exchange}
 use Rattle.machine.specs.declared.cells.State.{State}
@@ -105,7 +105,7 @@ module _ (p : Program) (s : State) (f : Fits p s) (ks : List Step) (l : ℕ) (th
     where
       go : ((t : ℕ) × (t < p .threads) × (k ≡ issueStep t))
           ⊎ ((t : ℕ) × (i : ℕ) × (t < p .threads) × (k ≡ moveStep t i))
-          ⊎ ((q : ℕ) × (q < queuesOf p) × (k ≡ persistStep q)) → Passing p s k ks l
+          ⊎ ((q : ℕ) × (q < linesOf p) × (k ≡ persistStep q)) → Passing p s k ks l
       go (inl x) = rw (x .2) (issue-passing (x .0) (x .1) (rw (x .2) at legal))
       go (inr (inl x)) = rw (x .3) (move-passing p s f ks l there (x .0) (x .1) (x .2) (rw (x .3) at legal))
       go (inr (inr x)) = rw (x .2) (persist-passing p s f ks l there (x .0) (x .1) (rw (x .2) at legal))

@@ -7,15 +7,15 @@ use native.Mathlib.Omega.{arith}
 use native.Mathlib.Decide.{ℕ-discrete}
 use Rattle.cases.specs.declared.case.Step.{Step}
 use Rattle.cases.specs.declared.case.Program.{Program}
-use Rattle.cases.specs.Checks.{countAt, queuesOf}
+use Rattle.cases.specs.Checks.{countAt, linesOf}
 use Rattle.machine.specs.declared.cells.State.{State}
-use Rattle.machine.specs.View.{queueOf, queue, buffer, wordOf, issuedOf}
+use Rattle.machine.specs.View.{lineOf, queue, buffer, wordOf, issuedOf}
 use Rattle.machine.specs.Rules.{nextOf}
 use Rattle.cases.specs.Ranges.{ProgramFits}
 use Rattle.machine.specs.Fit.{Fits}
 use Rattle.machine.specs.Model.{Leads, Faultless}
 use Rattle.machine.specs.Ptso.{ptso}
-use Rattle.machine.proofs.Promises.{step-fits, queue-there}
+use Rattle.machine.proofs.Promises.{step-fits, line-there}
 use Rattle.demands.proofs.writes.LastLaws.{last-append, append-empty, cons-some, Settles, settles-before}
 use Rattle.machine.specs.Joins.{lastOr, onWay, writesOf}
 use Rattle.demands.proofs.writes.StoresLaws.{storesOf, fixesFrom}
@@ -25,7 +25,7 @@ use Rattle.demands.proofs.writes.PassingLaws.{step-passing}
 -- nothing waits anywhere, and everything is issued
 pub record Done (p : Program) (u : State) : Type 0 where
   pub buffers : (t : ℕ) → t < p .threads → buffer u t ≡ []
-  pub queues : (q : ℕ) → q < queuesOf p → queue u q ≡ []
+  pub queues : (q : ℕ) → q < linesOf p → queue u q ≡ []
   pub issued : (t : ℕ) → t < p .threads → countAt p t ≤ issuedOf u t
 
 -- the newest word on its way to location l, else the one there
@@ -53,7 +53,7 @@ module _ (p : Program) (l : ℕ) (low : l < p .locations) where
             let c = d .issued t h in
             let n : countAt p t - issuedOf u t ≡ 0 = omega arith in
             rw (d .buffers t h, n) refl),
-        rw (d .queues (queueOf p l) (queue-there p g l low)) refl,
+        rw (d .queues (lineOf p l) (line-there p g l low)) refl,
       )
 
   -- along a run to its end: what stands there is what was newest, or the last that some thread had to come

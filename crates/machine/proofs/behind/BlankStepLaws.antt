@@ -12,7 +12,7 @@ use Rattle.cases.specs.declared.case.Step.{Step}
 use Rattle.cases.specs.declared.case.Program.{Program}
 use Rattle.cases.specs.Choice.{pick}
 use Rattle.cases.specs.Sizes.{mostInstructions, allCode}
-use Rattle.cases.specs.Checks.{queuesOf}
+use Rattle.cases.specs.Checks.{linesOf}
 use Rattle.cases.proofs.ArrayLaws.{getD-blank}
 use Rattle.cases.proofs.Promises.{thread-low}
 use Rattle.cases.specs.Operations.{firstOperation, lastOperation}
@@ -20,7 +20,7 @@ use Rattle.machine.specs.declared.cells.State.{State}
 use Rattle.machine.specs.declared.cells.Entry.{Entry}
 use Rattle.machine.specs.declared.cells.Entry.the-variants.{Store, Flush, FlushOpt, Sfence}
 use Rattle.machine.specs.Sizes.{room, allSlots}
-use Rattle.machine.specs.View.{Slot, queueOf, homeOf, writeSlot, markerSlot, without, queue, queueLen}
+use Rattle.machine.specs.View.{Slot, lineOf, homeOf, writeSlot, markerSlot, without, queue, queueLen}
 use Rattle.machine.specs.View.{withWord, blankWaiting, buffer, wordOf, issuedOf}
 use Rattle.machine.specs.Parts.{partsOf}
 use Rattle.machine.specs.Behind.{BlankBehind}
@@ -34,7 +34,7 @@ use Rattle.machine.specs.Model.{Leads, Faultless}
 use Rattle.machine.specs.Ptso.{ptso}
 use Rattle.machine.proofs.lists.PutLaws.{length-without}
 use Rattle.machine.proofs.view.SizedLaws.{sized-word}
-use Rattle.machine.proofs.view.QueueOfLaws.{few-queues, queue-there}
+use Rattle.machine.proofs.view.LineOfLaws.{few-lines, line-there}
 use Rattle.machine.proofs.fit.FitLaws.{fits-queue-within, fits-buffer-within, fits-queue-long}
 use Rattle.machine.proofs.fit.FitLaws.{fits-buffer-long}
 use Rattle.machine.proofs.fit.SpareLaws.{Spare, counted-spare, taken-spare, register-spare}
@@ -58,10 +58,10 @@ start-blank p =
 
 -- one more at a queue's end, at a buffer's end
 module _ (p : Program) (s : State) (t : ℕ) (o : Spare p s t) (blank : BlankBehind s) where
-  enqueue-blank : (q : ℕ) → q < queuesOf p → (h : Slot) → BlankBehind (enqueue s q h)
+  enqueue-blank : (q : ℕ) → q < linesOf p → (h : Slot) → BlankBehind (enqueue s q h)
   unfolding enqueue
   enqueue-blank q low h =
-      let z = few-queues p (o .fit .program) in
+      let z = few-lines p (o .fit .program) in
       let n = fits-queue-long p s (o .fit) q (omega arith) in
       let w = o .queues q (omega arith) in
       let k : length (queue s q ++ (h ∷ [])) ≤ room = simp (length-append, n) (omega arith) in
@@ -82,8 +82,8 @@ module _ (p : Program) (s : State) (t : ℕ) (o : Spare p s t) (blank : BlankBeh
 -- an instruction that is counted already; an entry that is out of its buffer
 module _ (p : Program) (s : State) (t : ℕ) (o : Spare p s t) (blank : BlankBehind s)
     (low : t < p .threads) where
-  to : (l : ℕ) → l < p .locations → queueOf p l < queuesOf p
-  to = queue-there p (o .fit .program)
+  to : (l : ℕ) → l < p .locations → lineOf p l < linesOf p
+  to = line-there p (o .fit .program)
 
   performed-blank : (l : Location) (r : Register) (w : ℕ) → l .0 < p .locations
       → (op : ℕ) → firstOperation ≤ op → op ≤ lastOperation → BlankBehind (performed p s t (of op l r w))
@@ -93,7 +93,7 @@ module _ (p : Program) (s : State) (t : ℕ) (o : Spare p s t) (blank : BlankBeh
       (await-blank p s t o blank low _)
       (await-blank p s t o blank low _)
       (blank-register s blank t _ _)
-      (enqueue-blank p _ t (register-spare p s t o _ _) (blank-register s blank t _ _) (queueOf p (l .0))
+      (enqueue-blank p _ t (register-spare p s t o _ _) (blank-register s blank t _ _) (lineOf p (l .0))
       (to (l .0) there) (writeSlot w))
       (await-blank p s t o blank low _)
       (await-blank p s t o blank low _)
@@ -132,11 +132,11 @@ module _ (p : Program) (s : State) (f : Fits p s) (blank : BlankBehind s) where
       (move-named p s f t i low legal)
 
   -- the oldest entry, the rest
-  first-blank : (q : ℕ) → q < queuesOf p → (r : List Slot) → queue s q ≡ r → BlankBehind (persistFirst s q r)
+  first-blank : (q : ℕ) → q < linesOf p → (r : List Slot) → queue s q ≡ r → BlankBehind (persistFirst s q r)
   unfolding persistFirst
   first-blank q low [] e = blank
   first-blank q low (h ∷ r) e =
-      let z = few-queues p (f .program) in
+      let z = few-lines p (f .program) in
       let k : length (queue s q) ≡ suc (length r) = ap length e in
       let n = fits-queue-long p s f q (omega arith) in
       let m : queueLen s q ≤ room = fits-queue-within p s f q (omega arith) in
@@ -146,7 +146,7 @@ module _ (p : Program) (s : State) (f : Fits p s) (blank : BlankBehind s) where
       blank-queue (withWord s l w) (sized-word s (f .sized) l w) (blank-word s blank l w) q (omega arith)
       (omega arith) r (omega arith)
 
-  persist-blank : (q : ℕ) → q < queuesOf p → BlankBehind (persistOf s q)
+  persist-blank : (q : ℕ) → q < linesOf p → BlankBehind (persistOf s q)
   unfolding persistOf
   persist-blank q low = first-blank q low (queue s q) refl
 

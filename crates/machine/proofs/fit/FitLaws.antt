@@ -8,7 +8,7 @@ use native.Mathlib.Decide.{ℕ-discrete}
 use lib.ListN.{length}
 use Rattle.cases.specs.declared.case.Program.{Program}
 use Rattle.cases.specs.Sizes.{mostThreads, mostInstructions, mostLocations}
-use Rattle.cases.specs.Checks.{queuesOf}
+use Rattle.cases.specs.Checks.{linesOf}
 use Rattle.machine.specs.declared.cells.State.{State}
 use Rattle.machine.specs.declared.cells.Waiting.{Waiting}
 use Rattle.machine.specs.Sizes.{room}
@@ -16,7 +16,7 @@ use Rattle.machine.specs.View.{Slot, marksOf, marksIn, queue, queueLen, 
 use Rattle.machine.specs.View.{withBuffer, withWord, withRegister}
 use Rattle.machine.specs.Fit.{Sized, sumTo, unissued, due, Fits, AllOf, Borne, NamedBy}
 use Rattle.machine.proofs.lists.SumLaws.{sum-change}
-use Rattle.machine.proofs.view.QueueOfLaws.{few-queues}
+use Rattle.machine.proofs.view.LineOfLaws.{few-lines}
 use Rattle.machine.proofs.view.QueueLaws.{queue-length, queueLen-same, queueLen-other, queue-marks-same}
 use Rattle.machine.proofs.view.QueueLaws.{queue-marks-other}
 use Rattle.machine.proofs.view.SizedLaws.{sized-queue, sized-buffer, sized-word, sized-register}
@@ -39,10 +39,10 @@ module _ (p : Program) (s : State) (f : Fits p s) where
   fits-buffer-long t low = buffer-length s (f .sized) t low (fits-buffer-within t low)
 
   -- a queue that keeps within the bounds, with markers of threads that there are
-  module _ (q : ℕ) (low : q < queuesOf p) (r : List Slot) (few : length r + due p s ≤ room)
+  module _ (q : ℕ) (low : q < linesOf p) (r : List Slot) (few : length r + due p s ≤ room)
       (borne : AllOf (Borne (p .threads)) (marksOf r)) where
     in-range : q < mostLocations
-    in-range = let w = few-queues p (f .program) in omega arith
+    in-range = let w = few-lines p (f .program) in omega arith
 
     short : length r ≤ room
     short = omega arith
@@ -72,7 +72,7 @@ module _ (p : Program) (s : State) (f : Fits p s) where
             rw (same, queueLen-other s (f .sized) q in-range (fits-queue-within q in-range) r short k e)
             (f .few-queued k h)
 
-        none : (k : ℕ) → k < mostLocations → queuesOf p ≤ k → Dec (k ≡ q) → queueLen (withQueue s q r) k ≡ 0
+        none : (k : ℕ) → k < mostLocations → linesOf p ≤ k → Dec (k ≡ q) → queueLen (withQueue s q r) k ≡ 0
         none k h a (yes e) = absurd (omega arith)
         none k h a (no e) =
             queueLen-other s (f .sized) q in-range (fits-queue-within q in-range) r short k e

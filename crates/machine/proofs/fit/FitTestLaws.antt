@@ -12,7 +12,7 @@ use Rattle.cases.specs.Sizes.{mostThreads, mostInstructions, mostLocations}
 use Rattle.cases.specs.Writing.{readsBack}
 use Rattle.cases.proofs.ChoiceLaws.{either-false, either-none}
 use Rattle.cases.proofs.Promises.{readable-ranged}
-use Rattle.cases.specs.Checks.{countAt, queuesOf}
+use Rattle.cases.specs.Checks.{countAt, linesOf}
 use Rattle.machine.specs.declared.cells.State.{State}
 use Rattle.machine.specs.declared.cells.Entry.{Entry}
 use Rattle.machine.specs.declared.cells.Entry.the-variants.{Store, Flush, FlushOpt, Sfence}
@@ -61,7 +61,7 @@ record ThreadFits (p : Program) (s : State) (t : ℕ) : Type 0 where
   named : AllOf (NamedBy (p .locations)) (buffer s t)
 
 record QueueFits (p : Program) (s : State) (q : ℕ) : Type 0 where
-  no-queue : queuesOf p ≤ q → queueLen s q ≡ 0
+  no-queue : linesOf p ≤ q → queueLen s q ≡ 0
   few-queued : queueLen s q + due p s ≤ room
   borne : AllOf (Borne (p .threads)) (marksIn (s .marks) (s .lengths) q)
 

@@ -12,7 +12,7 @@ use mir.Val.{Fits}
 use Rattle.cases.specs.declared.case.Program.{Program}
 use Rattle.cases.specs.Choice.{both, either}
 use Rattle.cases.specs.Sizes.{mostThreads, mostInstructions}
-use Rattle.cases.specs.Checks.{countAt, queuesOf}
+use Rattle.cases.specs.Checks.{countAt, linesOf}
 use Rattle.machine.specs.declared.cells.State.{State}
 use Rattle.machine.specs.Sizes.{room}
 use Rattle.machine.specs.View.{marksIn, queueLen, buffer, bufferLen, issuedOf}
@@ -85,7 +85,7 @@ module _ (p : Program) (s : State) (t : ℕ) where
           q
 
 -- queueMisfits: there is no such queue; too much may come; else a mark of another thread
-module _ (p : Program) (s : State) (q queues : ℕ) (many : queues ≡ queuesOf p) where
+module _ (p : Program) (s : State) (q queues : ℕ) (many : queues ≡ linesOf p) where
   pub queue-misfits-lacked : queues ≤ q → ltb 0 (queueLen s q) ≡ true → true ≡ queueMisfits p s q
   unfolding queueMisfits either
   queue-misfits-lacked k e = rw (← many, lacked-some queues q (queueLen s q) k e)

@@ -9,7 +9,7 @@ use native.Mathlib.Decide.{ℕ-discrete}
 use lib.ListN.{length, length-append}
 use Rattle.cases.specs.declared.case.Program.{Program}
 use Rattle.cases.specs.Sizes.{mostThreads, mostInstructions, mostLocations}
-use Rattle.cases.specs.Checks.{countAt, queuesOf}
+use Rattle.cases.specs.Checks.{countAt, linesOf}
 use Rattle.machine.specs.declared.cells.State.{State}
 use Rattle.machine.specs.declared.cells.Waiting.{Waiting}
 use Rattle.machine.specs.declared.cells.Entry.{Entry}
@@ -22,7 +22,7 @@ use Rattle.machine.proofs.lists.SumLaws.{sum-change}
 use Rattle.machine.proofs.lists.PutLaws.{length-without}
 use Rattle.machine.proofs.view.SlotLaws.{marks-append}
 use Rattle.machine.proofs.view.QueueLaws.{queue-marks}
-use Rattle.machine.proofs.view.QueueOfLaws.{few-queues}
+use Rattle.machine.proofs.view.LineOfLaws.{few-lines}
 use Rattle.machine.proofs.view.BufferLaws.{bufferLen-same}
 use Rattle.machine.proofs.view.SizedLaws.{sized-issued}
 use Rattle.machine.proofs.view.IssuedLaws.{issued-same, issued-other}
@@ -158,10 +158,10 @@ module _ (p : Program) (s : State) (t : ℕ) (o : Spare p s t) where
       (all-append (NamedBy (p .locations)) (buffer s t) _ (o .fit .named t (omega arith))
       (unfold AllOf in (named, tt)))
 
-  pub enqueue-fits : (q : ℕ) → q < queuesOf p → (h : Slot) → h .mark ≤ p .threads → Fits p (enqueue s q h)
+  pub enqueue-fits : (q : ℕ) → q < linesOf p → (h : Slot) → h .mark ≤ p .threads → Fits p (enqueue s q h)
   unfolding enqueue
   enqueue-fits q low h few =
-      let z = few-queues p (o .fit .program) in
+      let z = few-lines p (o .fit .program) in
       let n = fits-queue-long p s (o .fit) q (omega arith) in
       let k : length (queue s q ++ (h ∷ [])) ≡ suc (queueLen s q) = simp (length-append, n) (omega arith) in
       let w = o .queues q (omega arith) in

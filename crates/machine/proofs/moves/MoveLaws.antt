@@ -17,7 +17,7 @@ use Rattle.machine.specs.declared.cells.Waiting.{Waiting}
 use Rattle.machine.specs.declared.cells.Entry.{Entry}
 use Rattle.machine.specs.declared.cells.Entry.the-variants.{Store, Flush, FlushOpt}
 use Rattle.machine.specs.Sizes.{room, allSlots}
-use Rattle.machine.specs.View.{queueOf, homeOf, without, marksIn, queueIn, queue, queueLen, withQueue}
+use Rattle.machine.specs.View.{lineOf, homeOf, without, marksIn, queueIn, queue, queueLen, withQueue}
 use Rattle.machine.specs.View.{wordOf, withWord, blankWaiting, bufferIn, buffer, bufferLen, withBuffer}
 use Rattle.machine.specs.Parts.{Parts, lent}
 use Rattle.machine.specs.Look.{wordOr}
@@ -26,7 +26,7 @@ use Rattle.machine.specs.Rules.{persistOf}
 use Rattle.cases.specs.Ranges.{ProgramFits}
 use Rattle.machine.specs.Fit.{Named, Roomy}
 use Rattle.machine.proofs.lists.PartLaws.{getD-part}
-use Rattle.machine.proofs.view.QueueOfLaws.{queue-low, home-low}
+use Rattle.machine.proofs.view.LineOfLaws.{line-low, home-low}
 use Rattle.machine.proofs.rules.LentLaws.{effect-lent}
 use Rattle.machine.proofs.view.SlotLaws.{slots-next}
 
@@ -47,13 +47,13 @@ module _ {n : ℕ} {e : Entry} (h : Named n e) where
 -- the queue of a flush's location is one that there is room for
 pub move-flush-low : (p : Program) → ProgramFits p → {e : Entry} → Named mostLocations e
     → (l : Location) → e ≡ Flush l
-    → (q : ℕ) → q ≡ queueOf p (l .0)
+    → (q : ℕ) → q ≡ lineOf p (l .0)
     → q < mostLocations
-move-flush-low p g h l is q goes = rw goes (queue-low p g (l .0) (flush-named h l is))
+move-flush-low p g h l is q goes = rw goes (line-low p g (l .0) (flush-named h l is))
 
 -- effectRule of a flush: something is queued; nothing is
 module _ (p : Program) (x : Parts) (t : ℕ) (l : Location) (e : Entry) (is : e ≡ Flush l) (q : ℕ)
-    (goes : q ≡ queueOf p (l .0)) where
+    (goes : q ≡ lineOf p (l .0)) where
   pub move-flush-held : 0 < getD (x .lengths) q 0 → 27 ≡ effectRule p x t e
   unfolding effectRule
   move-flush-held h = rw (is, ← goes) (refuse-here _ 27 0 (lt-ltb _ _ h))
@@ -64,10 +64,10 @@ module _ (p : Program) (x : Parts) (t : ℕ) (l : Location) (e : Entry) (is : e 
 
 -- Roomy: there is room for an entry in the queue of a location; taking an entry out of a buffer leaves it
 pub roomy-is : (p : Program) → ProgramFits p → (s : State) → Roomy s → (l : ℕ) → l < mostLocations → (q : ℕ)
-    → q ≡ queueOf p l
+    → q ≡ lineOf p l
     → (q < mostLocations) × (queueLen s q < room)
 unfolding Roomy
-roomy-is p g s r l h q e = let low = queue-low p g l h in rw e (low, r _ low)
+roomy-is p g s r l h q e = let low = line-low p g l h in rw e (low, r _ low)
 
 pub roomy-buffer : (s : State) (t : ℕ) (b : List Waiting) (u : State) → u ≡ withBuffer s t b → Roomy s → Roomy u
 unfolding Roomy withBuffer

@@ -9,9 +9,9 @@ use lib.ListN.{length, length-append}
 use Rattle.cases.specs.declared.case.Step.{Step}
 use Rattle.cases.specs.declared.case.Program.{Program}
 use Rattle.cases.specs.Ranges.{ProgramFits}
-use Rattle.cases.specs.Checks.{limitsOf, queuesOf, stepFault}
+use Rattle.cases.specs.Checks.{limitsOf, linesOf, stepFault}
 use Rattle.cases.specs.Sizes.{mostInstructions}
-use Rattle.machine.proofs.view.QueueOfLaws.{few-queues}
+use Rattle.machine.proofs.view.LineOfLaws.{few-lines}
 use Rattle.machine.proofs.lists.ListedLaws.{listed-left, listed-right, listed-either}
 use Rattle.machine.proofs.steps.StepFaultLaws.{InRange, fault-none, StepKinds, step-kinds, issue-fault}
 use Rattle.machine.proofs.steps.StepFaultLaws.{move-fault, persist-fault}
@@ -51,7 +51,7 @@ fault-candidate p k h = go (step-kinds p k h)
   where
     go : StepKinds p k
         → Listed k
-        (stepsFrom issueStep 0 (p .threads) ++ movesFrom 0 (p .threads) ++ stepsFrom persistStep 0 (queuesOf p))
+        (stepsFrom issueStep 0 (p .threads) ++ movesFrom 0 (p .threads) ++ stepsFrom persistStep 0 (linesOf p))
     go (inl x) =
         rw (x .2) (listed-left _ _ _ (listed-left _ _ _
         (listed-step issueStep 0 (p .threads) (x .0) (omega arith) (omega arith))))
@@ -61,7 +61,7 @@ fault-candidate p k h = go (step-kinds p k h)
         (listed-move 0 (p .threads) (x .0) (x .1) (omega arith) (omega arith) n)))
     go (inr (inr x)) =
         rw (x .2) (listed-right _ (stepsFrom issueStep 0 (p .threads) ++ movesFrom 0 (p .threads)) _
-        (listed-step persistStep 0 (queuesOf p) (x .0) (omega arith) (omega arith)))
+        (listed-step persistStep 0 (linesOf p) (x .0) (omega arith) (omega arith)))
 
 -- and every candidate is such a step
 module _ (p : Program) where
@@ -69,7 +69,7 @@ module _ (p : Program) where
   -- candidate
   module _ (P : Step → Type 0) (issue : (t : ℕ) → t < p .threads → P (issueStep t))
       (move : (t i : ℕ) → t < p .threads → i < mostInstructions → P (moveStep t i))
-      (persist : (q : ℕ) → q < queuesOf p → P (persistStep q)) where
+      (persist : (q : ℕ) → q < linesOf p → P (persistStep q)) where
     steps-all : (step : ℕ → Step) (most : ℕ) → ((j : ℕ) → j < most → P (step j))
         → (k : Step) (i m : ℕ) → i + m ≤ most → Listed k (stepsFrom step i m) → P k
     unfolding stepsFrom Listed
@@ -101,10 +101,10 @@ module _ (p : Program) where
         to (inr a) = moves-all k 0 (p .threads) (omega arith) a
 
         go : Listed k (stepsFrom issueStep 0 (p .threads) ++ movesFrom 0 (p .threads))
-            ⊎ Listed k (stepsFrom persistStep 0 (queuesOf p))
+            ⊎ Listed k (stepsFrom persistStep 0 (linesOf p))
             → P k
         go (inl a) = to (listed-either k (stepsFrom issueStep 0 (p .threads)) _ a)
-        go (inr a) = steps-all persistStep (queuesOf p) persist k 0 (queuesOf p) (omega arith) a
+        go (inr a) = steps-all persistStep (linesOf p) persist k 0 (linesOf p) (omega arith) a
 
   pub candidate-fault : (k : Step) → Listed k (candidates p) → stepFault (limitsOf p) k ≡ 0
   candidate-fault =
@@ -130,11 +130,11 @@ module _ (p : Program) (g : ProgramFits p) where
   unfolding candidates
   few-candidates =
       let a = length-append (stepsFrom issueStep 0 (p .threads) ++ movesFrom 0 (p .threads))
-      (stepsFrom persistStep 0 (queuesOf p)) in
+      (stepsFrom persistStep 0 (linesOf p)) in
       let b = length-append (stepsFrom issueStep 0 (p .threads)) (movesFrom 0 (p .threads)) in
       let c = length-steps issueStep 0 (p .threads) in
       let d = length-moves 0 (p .threads) in
-      let e = length-steps persistStep 0 (queuesOf p) in
+      let e = length-steps persistStep 0 (linesOf p) in
       let f = g .sized .few-threads in
-      let h = few-queues p g in
+      let h = few-lines p g in
       omega arith

@@ -8,7 +8,7 @@ use native.Mathlib.Nat.{add-zero}
 use Rattle.cases.specs.declared.case.Step.{Step}
 use Rattle.cases.specs.declared.case.Program.{Program}
 use Rattle.cases.specs.Sizes.{mostInstructions}
-use Rattle.cases.specs.Checks.{queuesOf}
+use Rattle.cases.specs.Checks.{linesOf}
 use Rattle.cases.specs.Ranges.{ProgramFits}
 use Rattle.machine.specs.Sizes.{kindRanks}
 use Rattle.machine.specs.Next.{issueStep, moveStep, persistStep, stepsFrom, movesFrom, candidates, rankOf}
@@ -69,12 +69,12 @@ unfolding candidates rankOf
 candidates-rising p g =
     let f = g .sized .few-threads in
     let low = kindRanks + (0 + p .threads) * mostInstructions in
-    let persists = rising-steps persistStep (λ q. omega arith) 0 (queuesOf p) low [] (omega arith)
+    let persists = rising-steps persistStep (λ q. omega arith) 0 (linesOf p) low [] (omega arith)
     (unfold Rising in tt) in
     rw (append-assoc (stepsFrom issueStep 0 (p .threads)))
     (rising-steps issueStep (λ t. omega arith) 0 (p .threads) 0 _ (omega arith)
     (rising-moves 0 (p .threads) _ _ (omega arith)
-    (subst (Rising low) (append-nil (stepsFrom persistStep 0 (queuesOf p))) persists)))
+    (subst (Rising low) (append-nil (stepsFrom persistStep 0 (linesOf p))) persists)))
 
 pub candidates-rise : (p : Program) → ProgramFits p → Ascending rankOf (candidates p)
 candidates-rise p g = rising-ascending 0 (candidates p) (candidates-rising p g)

@@ -9,7 +9,7 @@ use Rattle.cases.specs.declared.case.Step.{Step}
 use Rattle.cases.specs.declared.case.Program.{Program}
 use Rattle.cases.specs.Choice.{pick}
 use Rattle.cases.specs.Sizes.{mostInstructions}
-use Rattle.cases.specs.Checks.{queuesOf}
+use Rattle.cases.specs.Checks.{linesOf}
 use Rattle.machine.specs.declared.next.Next.{Next}
 use Rattle.machine.specs.Sizes.{mostCandidates}
 use Rattle.machine.specs.Parts.{Parts, lent}
@@ -70,7 +70,7 @@ module _ (p : Program) (g : ProgramFits p) where
       → issues
       ≡ offeredAll (ruleIn p x) (stepsFrom issueStep 0 (p .threads)) (nextWith 0 (replicate mostCandidates 0))
       → moves ≡ offeredAll (ruleIn p x) (movesFrom 0 (p .threads)) issues
-      → all ≡ offeredAll (ruleIn p x) (stepsFrom persistStep 0 (queuesOf p)) moves
+      → all ≡ offeredAll (ruleIn p x) (stepsFrom persistStep 0 (linesOf p)) moves
       → all ≡ nextIn p x
   unfolding nextIn listed
   next-made x issues moves all a b c =
@@ -78,7 +78,7 @@ module _ (p : Program) (g : ProgramFits p) where
       let made = offered-all-listed (ruleIn p x) (candidates p) [] few in
       rw (c, b, a)
       (sym (offered-append (ruleIn p x) (stepsFrom issueStep 0 (p .threads) ++ movesFrom 0 (p .threads))
-      (stepsFrom persistStep 0 (queuesOf p)) (listed [])
-      ∙ ap (offeredAll (ruleIn p x) (stepsFrom persistStep 0 (queuesOf p)))
+      (stepsFrom persistStep 0 (linesOf p)) (listed [])
+      ∙ ap (offeredAll (ruleIn p x) (stepsFrom persistStep 0 (linesOf p)))
       (offered-append (ruleIn p x) (stepsFrom issueStep 0 (p .threads)) (movesFrom 0 (p .threads)) (listed [])))
       ∙ (unfold candidates in made))

@@ -19,14 +19,14 @@ use Rattle.machine.specs.declared.cells.Waiting.{Waiting}
 use Rattle.machine.specs.declared.cells.Entry.{Entry}
 use Rattle.machine.specs.declared.cells.Entry.the-variants.{Store, Flush, FlushOpt, Sfence}
 use Rattle.machine.specs.Sizes.{room, allSlots}
-use Rattle.machine.specs.View.{queueOf, queueLen, buffer, bufferIn, bufferLen, issuedOf}
+use Rattle.machine.specs.View.{lineOf, queueLen, buffer, bufferIn, bufferLen, issuedOf}
 use Rattle.machine.specs.Parts.{partsOf}
 use Rattle.machine.specs.Rules.{instructionAt, issueRule, moveRule, persistRule, ruleIn, ruleOf, entryAt}
 use Rattle.cases.specs.Ranges.{ProgramFits}
 use Rattle.machine.specs.Fit.{Fits, Named, Shallow, Roomy, unissued, due, AllOf, NamedBy}
 use Rattle.machine.specs.Offer.{Movable}
 use Rattle.machine.proofs.lists.SumLaws.{sum-part}
-use Rattle.machine.proofs.view.QueueOfLaws.{few-queues, queue-low}
+use Rattle.machine.proofs.view.LineOfLaws.{few-lines, line-low}
 use Rattle.machine.proofs.fit.FitLaws.{fits-queue-within, fits-buffer-within}
 use Rattle.machine.proofs.steps.StepFaultLaws.{fault-none}
 use Rattle.machine.proofs.steps.IssueLaws.{issue-left}
@@ -57,7 +57,7 @@ module _ (p : Program) (g : ProgramFits p) (k : Step) (faultless : stepFault (li
       let r = fault-none p k faultless in
       let c = r .low-code in
       let a = r .low-location (omega arith) in
-      let b = few-queues p g in
+      let b = few-lines p g in
       omega arith
 
   module _ (marks lengths : List ℕ) (deep : Shallow lengths) (long : length marks ≡ allSlots) where
@@ -132,9 +132,9 @@ module _ (p : Program) (s : State) (f : Fits p s) where
           × (bufferLen s (k .thread .0) < mostInstructions)
           × (instructionAt p (k .thread .0) (issuedOf s (k .thread .0)) .location .0 < mostLocations)
           × (instructionAt p (k .thread .0) (issuedOf s (k .thread .0)) .register .0 < mostRegisters)
-          × (queueOf p (instructionAt p (k .thread .0) (issuedOf s (k .thread .0)) .location .0)
+          × (lineOf p (instructionAt p (k .thread .0) (issuedOf s (k .thread .0)) .location .0)
           < mostLocations)
-          × (queueLen s (queueOf p (instructionAt p (k .thread .0) (issuedOf s (k .thread .0)) .location .0))
+          × (queueLen s (lineOf p (instructionAt p (k .thread .0) (issuedOf s (k .thread .0)) .location .0))
           < room)
       issue-ready h =
           let low = taken-low p (f .program) k faultless (omega arith) in
@@ -149,7 +149,7 @@ module _ (p : Program) (s : State) (f : Fits p s) where
           let reg = fits .low-register in
           let l : instructionAt p (k .thread .0) (issuedOf s (k .thread .0)) .location .0 < mostLocations
           = omega arith in
-          let q = queue-low p (f .program) _ l in
+          let q = line-low p (f .program) _ l in
           (low, omega arith, omega arith, l, reg, q, queue-room (due-unissued (k .thread .0) low some) _ q)
 
       pub move-ready : k .code ≡ move

@@ -14,14 +14,14 @@ use Rattle.cases.specs.declared.case.Register.{Register}
 use Rattle.cases.specs.declared.case.Program.{Program}
 use Rattle.cases.specs.Choice.{pick, both, either}
 use Rattle.cases.specs.Sizes.{mostThreads, mostInstructions, mostLocations}
-use Rattle.cases.specs.Checks.{queuesOf}
+use Rattle.cases.specs.Checks.{linesOf}
 use Rattle.cases.specs.Operations.{lastOperation, firstOperation}
 use Rattle.machine.specs.declared.cells.State.{State}
 use Rattle.machine.specs.declared.cells.Waiting.{Waiting}
 use Rattle.machine.specs.declared.cells.Entry.{Entry}
 use Rattle.machine.specs.declared.cells.Entry.the-variants.{Store, Flush, FlushOpt, Sfence}
 use Rattle.machine.specs.Sizes.{room}
-use Rattle.machine.specs.View.{Slot, queueOf, writeSlot, markerSlot, queue, queueLen, withQueue, buffer}
+use Rattle.machine.specs.View.{Slot, lineOf, writeSlot, markerSlot, queue, queueLen, withQueue, buffer}
 use Rattle.machine.specs.View.{withBuffer, wordOf, withRegister, issuedOf}
 use Rattle.machine.specs.Rules.{enqueue, await, isBarrier, entryOf, loaded, exchanged, performed}
 use Rattle.machine.specs.Rules.{effectOf}
@@ -29,7 +29,7 @@ use Rattle.machine.specs.Joins.{joins, exchanges, enters}
 use Rattle.machine.specs.Fit.{Named}
 use Rattle.machine.proofs.OperationLaws.{each-operation, of}
 use Rattle.machine.proofs.view.QueueLaws.{queue-same, queue-other}
-use Rattle.machine.proofs.view.QueueOfLaws.{few-queues, queue-there}
+use Rattle.machine.proofs.view.LineOfLaws.{few-lines, line-there}
 use Rattle.machine.proofs.view.BufferLaws.{buffer-same, buffer-other}
 use Rattle.machine.proofs.fit.FitLaws.{fits-queue-within, fits-buffer-within, fits-queue-long}
 use Rattle.machine.proofs.fit.FitLaws.{fits-buffer-long}
@@ -81,7 +81,7 @@ module _ (p : Program) (s : State) (t : ℕ) (o : Spare p s t) where
         words = λ l. unfold withBuffer in refl;
       }
 
-  adds-enqueue : (q : ℕ) → q < queuesOf p → (h : Slot)
+  adds-enqueue : (q : ℕ) → q < linesOf p → (h : Slot)
       → Adds s (enqueue s q h) t [] (λ k. pick (eqb q k) (h ∷ []) [])
   unfolding enqueue
   adds-enqueue q low h =
@@ -97,7 +97,7 @@ module _ (p : Program) (s : State) (t : ℕ) (o : Spare p s t) where
       r = queue s q ++ (h ∷ [])
 
       in-range : q < mostLocations
-      in-range = let z = few-queues p (o .fit .program) in omega arith
+      in-range = let z = few-lines p (o .fit .program) in omega arith
 
       within : queueLen s q ≤ room
       within = fits-queue-within p s (o .fit) q in-range
@@ -118,8 +118,8 @@ module _ (p : Program) (s : State) (t : ℕ) (o : Spare p s t) where
 
 -- an instruction that is counted already; an entry that is out of its buffer
 module _ (p : Program) (s : State) (t : ℕ) (o : Spare p s t) (low : t < p .threads) where
-  to : (l : ℕ) → l < p .locations → queueOf p l < queuesOf p
-  to = queue-there p (o .fit .program)
+  to : (l : ℕ) → l < p .locations → lineOf p l < linesOf p
+  to = line-there p (o .fit .program)
 
   pub performed-adds : (l : Location) (r : Register) (w : ℕ) → l .0 < p .locations
       → (op : ℕ) → firstOperation ≤ op → op ≤ lastOperation
@@ -134,7 +134,7 @@ module _ (p : Program) (s : State) (t : ℕ) (o : Spare p s t) (low : t < p .thr
       (adds-await p s t o low _)
       (adds-register s _ t _ _ _ _ (adds-none _ t))
       (adds-register s _ t _ _ _ _
-      (adds-enqueue p _ t (register-spare p s t o _ _) (queueOf p (l .0)) (to (l .0) there) (writeSlot w)))
+      (adds-enqueue p _ t (register-spare p s t o _ _) (lineOf p (l .0)) (to (l .0) there) (writeSlot w)))
       (adds-await p s t o low _)
       (adds-await p s t o low _)
       (adds-await p s t o low _)

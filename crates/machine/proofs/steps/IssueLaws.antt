@@ -11,12 +11,12 @@ use Rattle.cases.specs.Choice.{pick}
 use Rattle.cases.specs.Ranges.{InstructionFits}
 use Rattle.cases.proofs.ChoiceLaws.{refuse-none}
 use Rattle.cases.proofs.Promises.{thread-low}
-use Rattle.cases.specs.Checks.{countAt, queuesOf}
+use Rattle.cases.specs.Checks.{countAt, linesOf}
 use Rattle.cases.specs.Operations.{lastOperation, firstOperation}
 use Rattle.machine.specs.declared.cells.State.{State}
 use Rattle.machine.specs.declared.cells.Entry.the-variants.{Flush, FlushOpt, Sfence}
 use Rattle.machine.specs.Sizes.{room}
-use Rattle.machine.specs.View.{writeSlot, queueOf, queue, queueLen, buffer, wordOf, withRegister}
+use Rattle.machine.specs.View.{writeSlot, lineOf, queue, queueLen, buffer, wordOf, withRegister}
 use Rattle.machine.specs.View.{issuedOf, withIssued}
 use Rattle.machine.specs.Parts.{partsOf}
 use Rattle.machine.specs.Look.{newestWrite, newestStore, queuedWord, loadOf}
@@ -24,7 +24,7 @@ use Rattle.machine.specs.Rules.{instructionAt, issueRule, entryOf, loade
 use Rattle.machine.specs.Fit.{Fits, Named}
 use Rattle.machine.specs.Work.{unissuedWeight, waitingWeight, work}
 use Rattle.machine.proofs.OperationLaws.{each-operation, of}
-use Rattle.machine.proofs.view.QueueOfLaws.{few-queues, queue-there}
+use Rattle.machine.proofs.view.LineOfLaws.{few-lines, line-there}
 use Rattle.machine.proofs.fit.FitLaws.{fits-register}
 use Rattle.machine.proofs.fit.SpareLaws.{Spare, counted-spare, await-fits, enqueue-fits, register-spare}
 use Rattle.machine.proofs.work.WorkLaws.{work-enqueue, work-await, work-counted, work-register}
@@ -32,8 +32,8 @@ use Rattle.machine.proofs.work.WorkLaws.{work-enqueue, work-await, work
 -- What an instruction does, where it is counted already
 module _ (p : Program) (s : State) (t : ℕ) (o : Spare p s t) (low : t < p .threads)
     (l : Location) (r : Register) (w : ℕ) (there : l .0 < p .locations) where
-  to : queueOf p (l .0) < queuesOf p
-  to = queue-there p (o .fit .program) (l .0) there
+  to : lineOf p (l .0) < linesOf p
+  to = line-there p (o .fit .program) (l .0) there
 
   performed-fits : (op : ℕ) → firstOperation ≤ op → op ≤ lastOperation
       → Fits p (performed p s t (of op l r w))
@@ -43,7 +43,7 @@ module _ (p : Program) (s : State) (t : ℕ) (o : Spare p s t) (low : t < p .thr
       (await-fits p s t o low _ there)
       (await-fits p s t o low _ there)
       (fits-register p s (o .fit) t _ _)
-      (enqueue-fits p _ t (register-spare p s t o _ _) (queueOf p (l .0)) to (writeSlot w) (omega arith))
+      (enqueue-fits p _ t (register-spare p s t o _ _) (lineOf p (l .0)) to (writeSlot w) (omega arith))
       (await-fits p s t o low (Flush l) there)
       (await-fits p s t o low (FlushOpt l) there)
       (await-fits p s t o low Sfence tt)
@@ -54,16 +54,16 @@ module _ (p : Program) (s : State) (t : ℕ) (o : Spare p s t) (low : t < p .thr
   unfolding performed pick entryOf loaded exchanged unissuedWeight waitingWeight
   performed-work =
       let z = thread-low (o .fit .program) low in
-      let y = few-queues p (o .fit .program) in
+      let y = few-lines p (o .fit .program) in
       let at = to in
       let b = o .space in
-      let q = o .queues (queueOf p (l .0)) (omega arith) in
+      let q = o .queues (lineOf p (l .0)) (omega arith) in
       let v = queuedWord p s (l .0) in
       let x = work-register p s (o .fit) t (r .0) v in
       let f = register-spare p s t o (r .0) v in
-      let n : queueLen (withRegister s t (r .0) v) (queueOf p (l .0)) < room
+      let n : queueLen (withRegister s t (r .0) v) (lineOf p (l .0)) < room
       = unfold withRegister in omega arith in
-      let e = work-enqueue p (withRegister s t (r .0) v) (f .fit) (queueOf p (l .0)) (omega arith) n
+      let e = work-enqueue p (withRegister s t (r .0) v) (f .fit) (lineOf p (l .0)) (omega arith) n
       (writeSlot w) in
       each-operation (λ op. work p (performed p s t (of op l r w)) + 1 ≡ work p s + unissuedWeight op)
       (rw (work-await p s (o .fit) t (omega arith) (omega arith)) (omega arith))
@@ -104,7 +104,7 @@ module _ (p : Program) (s : State) (f : Fits p s) (t : ℕ) (legal : issueRule p
 
 -- what a load's register takes, from the queue's word and then the buffer's
 pub load-is : (p : Program) (s : State) (t : ℕ) (x : Instruction) (q queued found : ℕ)
-    → q ≡ queueOf p (x .location .0)
+    → q ≡ lineOf p (x .location .0)
     → queued ≡ newestWrite (queue s q) (wordOf s (x .location .0))
     → found ≡ newestStore (x .location .0) (buffer s t) queued
     → withRegister s t (x .register .0) found ≡ loaded p s t x

@@ -10,7 +10,7 @@ use lib.Seq.{getD-set-same, getD-set-other}
 use Rattle.cases.specs.declared.case.Program.{Program}
 use Rattle.cases.specs.Choice.{pick}
 use Rattle.cases.specs.Sizes.{mostLocations}
-use Rattle.cases.specs.Checks.{queuesOf}
+use Rattle.cases.specs.Checks.{linesOf}
 use Rattle.machine.specs.declared.cells.State.{State}
 use Rattle.machine.specs.Sizes.{room}
 use Rattle.machine.specs.View.{Slot, homeOf, queue, queueLen, withQueue, buffer, wordOf, withWord}
@@ -21,14 +21,14 @@ use Rattle.machine.specs.Next.{persistStep}
 use Rattle.machine.specs.Fit.{Fits}
 use Rattle.machine.proofs.view.QueueLaws.{queue-same, queue-other}
 use Rattle.machine.proofs.view.SizedLaws.{sized-word}
-use Rattle.machine.proofs.view.QueueOfLaws.{few-queues, home-low}
+use Rattle.machine.proofs.view.LineOfLaws.{few-lines, home-low}
 use Rattle.machine.proofs.fit.FitLaws.{fits-queue-within, fits-queue-long}
 use Rattle.machine.proofs.steps.StepLaws.{persist-there}
 
-module _ (p : Program) (s : State) (f : Fits p s) (q : ℕ) (low : q < queuesOf p)
+module _ (p : Program) (s : State) (f : Fits p s) (q : ℕ) (low : q < linesOf p)
     (legal : ruleOf p s (persistStep q) ≡ 0) where
   in-range : q < mostLocations
-  in-range = let w = few-queues p (f .program) in omega arith
+  in-range = let w = few-lines p (f .program) in omega arith
 
   few : queueLen s q ≤ room
   few = fits-queue-within p s f q in-range

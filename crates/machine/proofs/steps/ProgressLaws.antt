@@ -12,7 +12,7 @@ use lib.ListN.{length, getD}
 use Rattle.cases.specs.declared.case.Step.{Step}
 use Rattle.cases.specs.declared.case.Program.{Program}
 use Rattle.cases.specs.Choice.{pick, refuse}
-use Rattle.cases.specs.Checks.{limitsOf, queuesOf, stepFault, countAt}
+use Rattle.cases.specs.Checks.{limitsOf, linesOf, stepFault, countAt}
 use Rattle.cases.specs.Sizes.{mostThreads, mostLocations}
 use Rattle.cases.proofs.ChoiceLaws.{pick-cases}
 use Rattle.cases.proofs.ArrayLaws.{length-none}
@@ -21,7 +21,7 @@ use Rattle.machine.specs.declared.cells.State.{State}
 use Rattle.machine.specs.declared.cells.Entry.{Entry}
 use Rattle.machine.specs.declared.cells.Entry.the-variants.{Store, Flush, FlushOpt, Sfence}
 use Rattle.machine.specs.declared.look.Found.the-variants.{Nothing}
-use Rattle.machine.specs.View.{part, queueOf, marksIn, queue, queueLen, bufferIn, buffer, bufferLen}
+use Rattle.machine.specs.View.{part, lineOf, marksIn, queue, queueLen, bufferIn, buffer, bufferLen}
 use Rattle.machine.specs.View.{issuedOf}
 use Rattle.machine.specs.Parts.{Parts, partsOf}
 use Rattle.machine.specs.Look.{markerAmong, markerFrom, markerOf, marked}
@@ -34,7 +34,7 @@ use Rattle.machine.specs.Next.{issueStep, moveStep, persistStep}
 use Rattle.machine.specs.Offer.{Movable}
 use Rattle.machine.proofs.lists.SumLaws.{sum-none, some-or-none}
 use Rattle.machine.proofs.lists.PartLaws.{lt-or-ge}
-use Rattle.machine.proofs.view.QueueOfLaws.{few-queues, queue-low}
+use Rattle.machine.proofs.view.LineOfLaws.{few-lines, line-low}
 use Rattle.machine.proofs.fit.FitLaws.{fits-queue-long, fits-buffer-long}
 use Rattle.machine.proofs.rules.ReadyLaws.{movable}
 use Rattle.machine.proofs.steps.StepFaultLaws.{issue-fault, move-fault, persist-fault}
@@ -54,7 +54,7 @@ module _ (x : Parts) (none : (q : ℕ) → q < mostLocations → getD (x .length
   effect-none : (p : Program) → ProgramFits p → (e : Entry) → Named mostLocations e → effectRule p x t e ≡ 0
   unfolding effectRule refuse Named
   effect-none p g (Store w) h = refl
-  effect-none p g (Flush l) h = rw (none (queueOf p (l .0)) (queue-low p g (l .0) h))
+  effect-none p g (Flush l) h = rw (none (lineOf p (l .0)) (line-low p g (l .0) h))
   effect-none p g (FlushOpt l) h = refl
   effect-none p g Sfence h = rw marked-none
 
@@ -86,10 +86,10 @@ work-none p s queues buffers code =
 
 module _ (p : Program) (s : State) (f : Fits p s) where
   -- where the program's own are empty, every queue's length is 0, and every buffer's
-  queues-none : ((q : ℕ) → q < queuesOf p → queue s q ≡ []) → (q : ℕ) → q < mostLocations → queueLen s q ≡ 0
+  queues-none : ((q : ℕ) → q < linesOf p → queue s q ≡ []) → (q : ℕ) → q < mostLocations → queueLen s q ≡ 0
   queues-none quiet q low =
       ⊎-elim (λ h. sym (fits-queue-long p s f q low) ∙ ap length (quiet q h)) (f .no-queue q low)
-      (lt-or-ge q (queuesOf p))
+      (lt-or-ge q (linesOf p))
 
   buffers-none : ((t : ℕ) → t < p .threads → buffer s t ≡ []) → (t : ℕ) → t < mostThreads → bufferLen s t ≡ 0
   buffers-none still t low =
@@ -97,16 +97,16 @@ module _ (p : Program) (s : State) (f : Fits p s) where
       (lt-or-ge t (p .threads))
 
   -- a queue that holds something: its oldest may persist
-  pub persist-legal : (q : ℕ) → q < queuesOf p → queue s q ≢ []
+  pub persist-legal : (q : ℕ) → q < linesOf p → queue s q ≢ []
       → (stepFault (limitsOf p) (persistStep q) ≡ 0) × (ruleOf p s (persistStep q) ≡ 0)
   unfolding ruleOf ruleIn pick persistRule refuse
   persist-legal q low h =
-      let few = few-queues p (f .program) in
+      let few = few-lines p (f .program) in
       let n = fits-queue-long p s f q (omega arith) in
       (persist-fault p q low, rw (ne-eqb _ _ (λ e. h (length-none _ (n ∙ e)))))
 
   -- where every queue is empty any thread's first entry may move, and a thread with an empty buffer may issue
-  module _ (quiet : (q : ℕ) → q < queuesOf p → queue s q ≡ []) where
+  module _ (quiet : (q : ℕ) → q < linesOf p → queue s q ≡ []) where
     pub move-legal : (t : ℕ) → t < p .threads → buffer s t ≢ []
         → (stepFault (limitsOf p) (moveStep t 0) ≡ 0) × (ruleOf p s (moveStep t 0) ≡ 0)
     unfolding ruleOf ruleIn pick moveRule refuse Movable
@@ -133,9 +133,9 @@ module _ (p : Program) (s : State) (f : Fits p s) where
   -- while an instruction is unissued or an entry waits, some step is legal
   pub progress : Unfinished p s → (k : Step) × (stepFault (limitsOf p) k ≡ 0) × (ruleOf p s k ≡ 0)
   unfolding Unfinished
-  progress u = go (empty-or-not (queuesOf p) (queue s)) (empty-or-not (p .threads) (buffer s)) u
+  progress u = go (empty-or-not (linesOf p) (queue s)) (empty-or-not (p .threads) (buffer s)) u
     where
-      go : EmptyOrNot (queuesOf p) (queue s) → EmptyOrNot (p .threads) (buffer s) → Unfinished p s
+      go : EmptyOrNot (linesOf p) (queue s) → EmptyOrNot (p .threads) (buffer s) → Unfinished p s
           → (k : Step) × (stepFault (limitsOf p) k ≡ 0) × (ruleOf p s k ≡ 0)
       go (inl x) y u = let k = persist-legal (x .0) (x .1) (x .2) in (persistStep (x .0), k .0, k .1)
       go (inr q) (inl x) u = let k = move-legal q (x .0) (x .1) (x .2) in (moveStep (x .0) 0, k .0, k .1)
@@ -156,10 +156,10 @@ module _ (p : Program) (s : State) (f : Fits p s) where
   pub work-some : 0 < work p s → Unfinished p s
   unfolding Unfinished
   work-some h =
-      go (empty-or-not (queuesOf p) (queue s)) (empty-or-not (p .threads) (buffer s))
+      go (empty-or-not (linesOf p) (queue s)) (empty-or-not (p .threads) (buffer s))
       (some-or-none mostThreads (unissued p s))
     where
-      go : EmptyOrNot (queuesOf p) (queue s) → EmptyOrNot (p .threads) (buffer s)
+      go : EmptyOrNot (linesOf p) (queue s) → EmptyOrNot (p .threads) (buffer s)
           → ((t : ℕ) × (t < mostThreads) × (0 < unissued p s t))
           ⊎ ((t : ℕ) → t < mostThreads → unissued p s t ≡ 0)
           → Unfinished p s

@@ -9,7 +9,7 @@ use lib.Dec.{eqb}
 use Rattle.cases.specs.declared.case.Step.{Step}
 use Rattle.cases.specs.declared.case.Program.{Program}
 use Rattle.cases.specs.Choice.{both, either, refuse}
-use Rattle.cases.specs.Checks.{limitsOf, queuesOf, stepFault, stepOut, stepLeft, beyond, leftOver}
+use Rattle.cases.specs.Checks.{limitsOf, linesOf, stepFault, stepOut, stepLeft, beyond, leftOver}
 use Rattle.cases.specs.Sizes.{mostInstructions}
 use Rattle.cases.proofs.ChoiceLaws.{refuse-none, either-false}
 use Rattle.cases.specs.Operations.{issue, move, persist, lastCode}
@@ -20,7 +20,7 @@ pub record InRange (p : Program) (k : Step) : Type 0 where
   pub low-code : k .code ≤ lastCode
   pub low-thread : k .code ≤ 1 → k .thread .0 < p .threads
   pub low-position : k .code ≡ move → k .position < mostInstructions
-  pub low-location : k .code ≡ persist → k .location .0 < queuesOf p
+  pub low-location : k .code ≡ persist → k .location .0 < linesOf p
   pub no-thread : 2 ≤ k .code → k .thread .0 ≡ 0
   pub no-position : k .code ≢ 1 → k .position ≡ 0
   pub no-location : k .code ≢ 2 → k .location .0 ≡ 0
@@ -34,7 +34,7 @@ unfolding leftOver both
 unused-none x used h e = eqb-true _ _ (not-false _ (rw e at h))
 
 pub fault-none : (p : Program) (k : Step) → stepFault (limitsOf p) k ≡ 0 → InRange p k
-unfolding stepFault stepOut stepLeft queuesOf
+unfolding stepFault stepOut stepLeft linesOf
 fault-none p k h =
     let chain = refuse-none _ 4 _ h in
     let code = either-false _ _ (chain .0) in
@@ -91,7 +91,7 @@ abbrev pub StepKinds : Program → Step → Type 0
 StepKinds p k =
     ((t : ℕ) × (t < p .threads) × (k ≡ issueStep t))
     ⊎ ((t : ℕ) × (i : ℕ) × (t < p .threads) × (k ≡ moveStep t i))
-    ⊎ ((q : ℕ) × (q < queuesOf p) × (k ≡ persistStep q))
+    ⊎ ((q : ℕ) × (q < linesOf p) × (k ≡ persistStep q))
 
 pub step-kinds : (p : Program) (k : Step) → stepFault (limitsOf p) k ≡ 0 → StepKinds p k
 step-kinds p k h = go (eqb (k .code) issue) refl (eqb (k .code) move) refl (fault-none p k h)
@@ -122,6 +122,6 @@ module _ (p : Program) where
   unfolding stepFault stepOut stepLeft beyond leftOver both either refuse
   move-fault t i h k = rw (lt-leb _ _ h, lt-leb _ _ k)
 
-  pub persist-fault : (q : ℕ) → q < queuesOf p → stepFault (limitsOf p) (persistStep q) ≡ 0
+  pub persist-fault : (q : ℕ) → q < linesOf p → stepFault (limitsOf p) (persistStep q) ≡ 0
   unfolding stepFault stepOut stepLeft beyond leftOver both either refuse
   persist-fault q h = rw (lt-leb _ _ h)

@@ -13,13 +13,13 @@ use Rattle.cases.specs.declared.case.Program.{Program}
 use Rattle.cases.specs.Choice.{pick}
 use Rattle.cases.specs.Operations.{issue, move, persist}
 use Rattle.cases.specs.Sizes.{mostLocations}
-use Rattle.cases.specs.Checks.{queuesOf}
+use Rattle.cases.specs.Checks.{linesOf}
 use Rattle.cases.proofs.ChoiceLaws.{refuse-none}
 use Rattle.cases.proofs.Promises.{thread-low}
 use Rattle.machine.specs.declared.cells.State.{State}
 use Rattle.machine.specs.declared.cells.Entry.{Entry}
 use Rattle.machine.specs.declared.cells.Entry.the-variants.{Store, Flush, FlushOpt, Sfence}
-use Rattle.machine.specs.View.{Slot, queueOf, homeOf, writeSlot, markerSlot, marksOf, queue, queueLen}
+use Rattle.machine.specs.View.{Slot, lineOf, homeOf, writeSlot, markerSlot, marksOf, queue, queueLen}
 use Rattle.machine.specs.View.{buffer, bufferLen, blankWaiting, wordOf, withWord}
 use Rattle.machine.specs.Parts.{partsOf}
 use Rattle.machine.specs.Look.{wordOr}
@@ -27,7 +27,7 @@ use Rattle.machine.specs.Rules.{enqueue, issueRule, issueOf, effectOf, e
 use Rattle.machine.specs.Rules.{persistRule, persistFirst, persistOf, ruleIn, ruleOf, nextOf}
 use Rattle.machine.specs.Fit.{Fits, Named, due, unissued, AllOf, Borne, NamedBy}
 use Rattle.machine.specs.Work.{waitingWeight, work, cost}
-use Rattle.machine.proofs.view.QueueOfLaws.{few-queues, queue-there}
+use Rattle.machine.proofs.view.LineOfLaws.{few-lines, line-there}
 use Rattle.machine.proofs.fit.FitLaws.{fits-queue-within, fits-queue-long, fits-buffer-long, fits-queue}
 use Rattle.machine.proofs.fit.FitLaws.{fits-word}
 use Rattle.machine.proofs.fit.SpareLaws.{Spare, marks-fit, taken-spare, enqueue-fits}
@@ -38,8 +38,8 @@ use Rattle.machine.proofs.lists.AllLaws.{all-get}
 
 -- Move
 module _ (p : Program) (s : State) (t : ℕ) (o : Spare p s t) (low : t < p .threads) where
-  to : (l : ℕ) → l < p .locations → queueOf p l < queuesOf p
-  to = queue-there p (o .fit .program)
+  to : (l : ℕ) → l < p .locations → lineOf p l < linesOf p
+  to = line-there p (o .fit .program)
 
   effect-fits : (e : Entry) → Named (p .locations) e → Fits p (effectOf p s t e)
   unfolding effectOf Named
@@ -49,12 +49,12 @@ module _ (p : Program) (s : State) (t : ℕ) (o : Spare p s t) (low : t < p .thr
   effect-fits Sfence h = o .fit
 
   -- an entry more in a location's queue
-  work-to : (l : ℕ) → l < p .locations → (h : Slot) → work p (enqueue s (queueOf p l) h) ≡ suc (work p s)
+  work-to : (l : ℕ) → l < p .locations → (h : Slot) → work p (enqueue s (lineOf p l) h) ≡ suc (work p s)
   work-to l low h =
-      let y = few-queues p (o .fit .program) in
+      let y = few-lines p (o .fit .program) in
       let z = to l low in
-      let q = o .queues (queueOf p l) (omega arith) in
-      work-enqueue p s (o .fit) (queueOf p l) (omega arith) (omega arith) h
+      let q = o .queues (lineOf p l) (omega arith) in
+      work-enqueue p s (o .fit) (lineOf p l) (omega arith) (omega arith) h
 
   effect-work : (e : Entry) → Named (p .locations) e
       → work p (effectOf p s t e) + 1 ≡ work p s + waitingWeight e
@@ -94,10 +94,10 @@ borne-rest : (n : ℕ) (h : Slot) (q : List Slot) → AllOf (Borne n) (marksOf (
 unfolding marksOf AllOf
 borne-rest n h q b = b .1
 
-module _ (p : Program) (s : State) (f : Fits p s) (q : ℕ) (low : q < queuesOf p)
+module _ (p : Program) (s : State) (f : Fits p s) (q : ℕ) (low : q < linesOf p)
     (legal : persistRule (partsOf s) q ≡ 0) where
   in-range : q < mostLocations
-  in-range = let w = few-queues p (f .program) in omega arith
+  in-range = let w = few-lines p (f .program) in omega arith
 
   pub persist-there : 0 < queueLen s q
   unfolding persistRule
@@ -149,7 +149,7 @@ pub step-cases {ℓ} : (p : Program) (s : State) (k : Step) (Q : State → Type 
     → (k .code ≡ issue → issueRule p (partsOf s) (k .thread .0) ≡ 0 → Q (issueOf p s (k .thread .0)))
     → (k .code ≡ move → k .thread .0 < p .threads → moveRule p (partsOf s) (k .thread .0) (k .position) ≡ 0
     → Q (moveOf p s (k .thread .0) (k .position)))
-    → (k .code ≡ persist → k .location .0 < queuesOf p → persistRule (partsOf s) (k .location .0) ≡ 0
+    → (k .code ≡ persist → k .location .0 < linesOf p → persistRule (partsOf s) (k .location .0) ≡ 0
     → Q (persistOf s (k .location .0)))
     → InRange p k → ruleOf p s k ≡ 0 → Q (nextOf p s k)
 unfolding ruleOf ruleIn nextOf pick

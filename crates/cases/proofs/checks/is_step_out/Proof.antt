@@ -26,15 +26,15 @@ returns-3 : tie.Need-returns-3
 unfolding stepOut
 returns-3 c = search choices
 
-queues-of-requires : tie.Need-queues-of-requires
-queues-of-requires c κs = search needs
+lines-of-requires : tie.Need-lines-of-requires
+lines-of-requires c κs = search needs
 
 is-beyond-requires-3 : tie.Need-is-beyond-requires-3
 is-beyond-requires-3 c κs = search needs
 
 returns-4 : tie.Need-returns-4
 unfolding stepOut
-returns-4 c = rw (← c .before .queues-of .ensures) (search choices)
+returns-4 c = rw (← c .before .lines-of .ensures) (search choices)
 
 pub is-step-out-spec : {M : Type 1} → statement M
 is-step-out-spec =
@@ -46,6 +46,6 @@ is-step-out-spec =
     cast-is-beyond
     is-beyond-requires-2
     returns-3
-    queues-of-requires
+    lines-of-requires
     is-beyond-requires-3
     returns-4)

@@ -15,13 +15,13 @@ cast-n c = search needs
 element-copy-out-n : tie.Need-element-copy-out-n
 element-copy-out-n c = search needs
 
-queues-of-requires : tie.Need-queues-of-requires
-queues-of-requires c κs = search needs
+lines-of-requires : tie.Need-lines-of-requires
+lines-of-requires c κs = search needs
 
 returns : tie.Need-returns
 returns c =
     let e = c .before in
-    queue-misfits-lacked _ _ _ _ (e .before .before .queues-of .ensures) (e .if1 .taken) (c .if2 .taken)
+    queue-misfits-lacked _ _ _ _ (e .before .before .lines-of .ensures) (e .if1 .taken) (c .if2 .taken)
 
 cast-if3 : tie.Need-cast-if3
 cast-if3 c = search needs
@@ -36,7 +36,7 @@ add-if3 c =
 returns-2 : tie.Need-returns-2
 returns-2 c =
     let o = c .before .before .before .before .before .before in
-    let many = c .before .before .before .queues-of .ensures in
+    let many = c .before .before .before .lines-of .ensures in
     queue-misfits-full _ _ _ _ many (c .before .if1 .came) (λ w. w .1 .left) (λ w. w .left) _ (o .pre .1)
     (c .if3 .taken)
 
@@ -47,7 +47,7 @@ returns-3 : tie.Need-returns-3
 returns-3 c =
     let j = c .before .before .before .before .before in
     let o = j .before .before .before .before .before in
-    let many = j .before .before .queues-of .ensures in
+    let many = j .before .before .lines-of .ensures in
     queue-misfits-rest _ _ _ _ many (j .if1 .came) (λ w. w .1 .left) (λ w. w .left) _ (o .pre .1)
     (c .before .before .before .before .if3 .left) _ (c .has-foreign .ensures)
 
@@ -57,7 +57,7 @@ queue-misfits-spec =
     (tie.spec
     cast-n
     element-copy-out-n
-    queues-of-requires
+    lines-of-requires
     returns
     cast-if3
     add-if3

@@ -16,12 +16,12 @@ mul-word c = search needs
 element-copy-out-word : tie.Need-element-copy-out-word
 element-copy-out-word c = search needs
 
-queue-of-requires : tie.Need-queue-of-requires
-queue-of-requires c κs = search needs
+line-of-requires : tie.Need-line-of-requires
+line-of-requires c κs = search needs
 
 newest-write-requires : tie.Need-newest-write-requires
 newest-write-requires c κs =
-    let e = c .before .before .before .before .queue-of .ensures in
+    let e = c .before .before .before .before .line-of .ensures in
     rw e (search needs)
 
 cast-u : tie.Need-cast-u
@@ -44,14 +44,14 @@ element-write-u c = search needs
 
 enqueue-requires : tie.Need-enqueue-requires
 enqueue-requires c κs =
-    let e = c .before .before .before .before .before .before .before .queue-of .ensures in
+    let e = c .before .before .before .before .before .before .before .line-of .ensures in
     rw e (search needs)
 
 returns : tie.Need-returns
 unfolding exchanged withRegister queuedWord
 returns c =
     let w = c .before .before .before in
-    let q = w .before .before .before .before .before .queue-of .ensures in
+    let q = w .before .before .before .before .before .line-of .ensures in
     c .enqueue .ensures ∙ rw (w .newest-write .ensures, ← q) refl
 
 pub exchange-spec : {M : Type 1} → statement M
@@ -61,7 +61,7 @@ exchange-spec =
     cast-word
     mul-word
     element-copy-out-word
-    queue-of-requires
+    line-of-requires
     newest-write-requires
     cast-u
     mul-u

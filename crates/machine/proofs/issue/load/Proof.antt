@@ -14,12 +14,12 @@ mul-word c = search needs
 element-copy-out-word : tie.Need-element-copy-out-word
 element-copy-out-word c = search needs
 
-queue-of-requires : tie.Need-queue-of-requires
-queue-of-requires c κs = search needs
+line-of-requires : tie.Need-line-of-requires
+line-of-requires c κs = search needs
 
 newest-write-requires : tie.Need-newest-write-requires
 newest-write-requires c κs =
-    let e = c .queue-of .ensures in
+    let e = c .line-of .ensures in
     rw e (search needs)
 
 newest-store-requires : tie.Need-newest-store-requires
@@ -47,7 +47,7 @@ returns : tie.Need-returns
 unfolding withRegister
 returns c =
     let w = c .before .before .before .before .before .before in
-    load-is _ _ _ _ _ _ _ (w .before .queue-of .ensures) (w .newest-write .ensures)
+    load-is _ _ _ _ _ _ _ (w .before .line-of .ensures) (w .newest-write .ensures)
     (c .before .before .newest-store .ensures)
 
 pub load-spec : {M : Type 1} → statement M
@@ -57,7 +57,7 @@ load-spec =
     cast-word
     mul-word
     element-copy-out-word
-    queue-of-requires
+    line-of-requires
     newest-write-requires
     newest-store-requires
     cast-u

@@ -7,14 +7,14 @@ use Rattle.machine.proofs.look.is_bar.Tie as tie
 enum-known-e : tie.Need-enum-known-e
 enum-known-e c = search needs
 
-queue-of-requires : tie.Need-queue-of-requires
-queue-of-requires c κs = search needs
+line-of-requires : tie.Need-line-of-requires
+line-of-requires c κs = search needs
 
 enum-known-e-2 : tie.Need-enum-known-e-2
 enum-known-e-2 c = search needs
 
-queue-of-requires-2 : tie.Need-queue-of-requires-2
-queue-of-requires-2 c κs = search needs
+line-of-requires-2 : tie.Need-line-of-requires-2
+line-of-requires-2 c κs = search needs
 
 enum-told : tie.Need-enum-told
 enum-told c = search needs
@@ -26,13 +26,13 @@ returns : tie.Need-returns
 unfolding bars
 returns c =
     let q = c .before .before in
-    rw (q .before .before .e .given .1, ← q .queue-of .ensures)
+    rw (q .before .before .e .given .1, ← q .line-of .ensures)
 
 returns-2 : tie.Need-returns-2
 unfolding bars
 returns-2 c =
     let q = c .before .before in
-    rw (q .before .before .e2 .given .1, ← q .queue-of2 .ensures)
+    rw (q .before .before .e2 .given .1, ← q .line-of2 .ensures)
 
 returns-3 : tie.Need-returns-3
 unfolding bars
@@ -47,9 +47,9 @@ is-bar-spec =
     tie.close
     (tie.spec
     enum-known-e
-    queue-of-requires
+    line-of-requires
     enum-known-e-2
-    queue-of-requires-2
+    line-of-requires-2
     enum-told
     enum-told-2
     returns

@@ -13,8 +13,8 @@ enum-told c = search needs
 enum-known-e : tie.Need-enum-known-e
 enum-known-e c = search needs
 
-queue-of-requires : tie.Need-queue-of-requires
-queue-of-requires c κs = search needs
+line-of-requires : tie.Need-line-of-requires
+line-of-requires c κs = search needs
 
 cast-if1 : tie.Need-cast-if1
 cast-if1 c = search needs
@@ -23,7 +23,7 @@ element-copy-out-if1 : tie.Need-element-copy-out-if1
 element-copy-out-if1 c =
     let a = c .before .before .before .before .before in
     let e = c .before .before .before .e .given .1 in
-    move-flush-low _ (a .pre .0) (a .pre .2) _ e _ (c .before .queue-of .ensures)
+    move-flush-low _ (a .pre .0) (a .pre .2) _ e _ (c .before .line-of .ensures)
 
 enum-told-2 : tie.Need-enum-told-2
 enum-told-2 c = search needs
@@ -41,12 +41,12 @@ returns c = rw (c .enum-told .given .1)
 returns-2 : tie.Need-returns-2
 returns-2 c =
     let e = c .before .before .before in
-    move-flush-held _ _ _ _ _ (e .before .before .e .given .1) _ (e .queue-of .ensures) (omega arith)
+    move-flush-held _ _ _ _ _ (e .before .before .e .given .1) _ (e .line-of .ensures) (omega arith)
 
 returns-3 : tie.Need-returns-3
 returns-3 c =
     let e = c .before .before .before in
-    move-flush-free _ _ _ _ _ (e .before .before .e .given .1) _ (e .queue-of .ensures) (omega arith)
+    move-flush-free _ _ _ _ _ (e .before .before .e .given .1) _ (e .line-of .ensures) (omega arith)
 
 returns-4 : tie.Need-returns-4
 unfolding effectRule
@@ -66,7 +66,7 @@ effect-rule-spec =
     (tie.spec
     enum-told
     enum-known-e
-    queue-of-requires
+    line-of-requires
     cast-if1
     element-copy-out-if1
     enum-told-2

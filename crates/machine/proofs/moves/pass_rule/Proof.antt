@@ -14,8 +14,8 @@ enum-told-2 c = search needs
 enum-known-e : tie.Need-enum-known-e
 enum-known-e c = search needs
 
-queue-of-requires : tie.Need-queue-of-requires
-queue-of-requires c κs = search needs
+line-of-requires : tie.Need-line-of-requires
+line-of-requires c κs = search needs
 
 first-bar-requires : tie.Need-first-bar-requires
 first-bar-requires c κs = search needs
@@ -35,14 +35,14 @@ returns-3 : tie.Need-returns-3
 unfolding passRule
 returns-3 c =
     let q = c .before .before in
-    rw (q .before .before .e .given .1, ← q .queue-of .ensures, ← c .before .first-bar .ensures)
+    rw (q .before .before .e .given .1, ← q .line-of .ensures, ← c .before .first-bar .ensures)
     (search choices)
 
 returns-4 : tie.Need-returns-4
 unfolding passRule
 returns-4 c =
     let q = c .before .before in
-    rw (q .before .before .e .given .1, ← q .queue-of .ensures, ← c .before .first-bar .ensures)
+    rw (q .before .before .e .given .1, ← q .line-of .ensures, ← c .before .first-bar .ensures)
     (search choices)
 
 returns-5 : tie.Need-returns-5
@@ -56,7 +56,7 @@ pass-rule-spec =
     enum-told
     enum-told-2
     enum-known-e
-    queue-of-requires
+    line-of-requires
     first-bar-requires
     enum-told-3
     returns

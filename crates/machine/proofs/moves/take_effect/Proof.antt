@@ -8,14 +8,14 @@ use Rattle.machine.proofs.moves.take_effect.Tie as tie
 enum-known-e : tie.Need-enum-known-e
 enum-known-e c = search needs
 
-queue-of-requires : tie.Need-queue-of-requires
-queue-of-requires c κs = search needs
+line-of-requires : tie.Need-line-of-requires
+line-of-requires c κs = search needs
 
 enqueue-requires : tie.Need-enqueue-requires
 enqueue-requires c κs =
     let a = c .before .before .before .before in
     let named = move-store-named (a .pre .2) _ (c .before .before .e .given .1) in
-    roomy-is _ (a .pre .0) _ (a .pre .3) _ named _ (c .queue-of .ensures)
+    roomy-is _ (a .pre .0) _ (a .pre .3) _ named _ (c .line-of .ensures)
 
 enum-told : tie.Need-enum-told
 enum-told c = search needs
@@ -23,8 +23,8 @@ enum-told c = search needs
 enum-known-e-2 : tie.Need-enum-known-e-2
 enum-known-e-2 c = search needs
 
-queue-of-requires-2 : tie.Need-queue-of-requires-2
-queue-of-requires-2 c κs = search needs
+line-of-requires-2 : tie.Need-line-of-requires-2
+line-of-requires-2 c κs = search needs
 
 add-enqueue : tie.Need-add-enqueue
 add-enqueue c = search needs
@@ -34,7 +34,7 @@ enqueue-requires-2 c κs =
     let q = c .before in
     let a = q .before .before .before .before in
     let named = move-flush-opt-named (a .pre .2) _ (q .before .before .e2 .given .1) in
-    roomy-is _ (a .pre .0) _ (a .pre .3) _ named _ (q .queue-of2 .ensures)
+    roomy-is _ (a .pre .0) _ (a .pre .3) _ named _ (q .line-of2 .ensures)
 
 enum-told-2 : tie.Need-enum-told-2
 enum-told-2 c = search needs
@@ -43,7 +43,7 @@ returns : tie.Need-returns
 unfolding effectOf
 returns c =
     let q = c .before in
-    rw (q .before .before .e .given .1, ← q .queue-of .ensures) (c .enqueue .ensures)
+    rw (q .before .before .e .given .1, ← q .line-of .ensures) (c .enqueue .ensures)
 
 returns-2 : tie.Need-returns-2
 unfolding effectOf
@@ -53,7 +53,7 @@ returns-3 : tie.Need-returns-3
 unfolding effectOf
 returns-3 c =
     let q = c .before .before in
-    rw (q .before .before .e2 .given .1, ← q .queue-of2 .ensures) (c .enqueue2 .ensures)
+    rw (q .before .before .e2 .given .1, ← q .line-of2 .ensures) (c .enqueue2 .ensures)
 
 returns-4 : tie.Need-returns-4
 unfolding effectOf
@@ -64,11 +64,11 @@ take-effect-spec =
     tie.close
     (tie.spec
     enum-known-e
-    queue-of-requires
+    line-of-requires
     enqueue-requires
     enum-told
     enum-known-e-2
-    queue-of-requires-2
+    line-of-requires-2
     add-enqueue
     enqueue-requires-2
     enum-told-2

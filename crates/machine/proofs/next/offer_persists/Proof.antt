@@ -9,7 +9,7 @@ use Rattle.machine.specs.Parts.{lent}
 use Rattle.machine.specs.Rules.{ruleIn}
 use Rattle.machine.specs.Next.{persistStep, stepsFrom, rankOf}
 use Rattle.machine.specs.Offer.{nextWith}
-use Rattle.machine.proofs.view.QueueOfLaws.{few-queues}
+use Rattle.machine.proofs.view.LineOfLaws.{few-lines}
 use Rattle.machine.proofs.next.OfferLoopLaws.{OfferedSoFar, offers-start, offers-low, offer-next}
 use Rattle.machine.proofs.next.OfferLoopLaws.{offer-end}
 use borrow.Author.Needs.{needs}
@@ -27,13 +27,13 @@ Inv-loop lengths ranks₀ count queues n₀ q₀ ranks n q =
 abbrev μ-loop : tie.MeasureT-loop
 μ-loop lengths ranks₀ count queues n₀ q₀ ranks n q = queues - q
 
-queues-of-requires : tie.Need-queues-of-requires Inv-loop μ-loop
-queues-of-requires c κs = search needs
+lines-of-requires : tie.Need-lines-of-requires Inv-loop μ-loop
+lines-of-requires c κs = search needs
 
 loop-holds : tie.Need-loop-holds Inv-loop μ-loop
 loop-holds c =
-    let w = few-queues _ (c .before .pre .0) in
-    let e = c .queues-of .ensures in
+    let w = few-lines _ (c .before .pre .0) in
+    let e = c .lines-of .ensures in
     (omega arith, λ p. offers-start _ _ _ _ _ (omega arith))
 
 persist-rule-requires : tie.Need-persist-rule-requires Inv-loop μ-loop
@@ -61,7 +61,7 @@ loop-again c =
 returns : tie.Need-returns Inv-loop μ-loop
 returns c =
     let l = c .before in
-    rw (← l .before .queues-of .ensures) (offer-end persistStep (l .loop .inv .1 _) (omega arith))
+    rw (← l .before .lines-of .ensures) (offer-end persistStep (l .loop .inv .1 _) (omega arith))
 
 pub offer-persists-spec : {M : Type 1} → statement M
 offer-persists-spec =
@@ -69,7 +69,7 @@ offer-persists-spec =
     (tie.spec
     Inv-loop
     μ-loop
-    queues-of-requires
+    lines-of-requires
     loop-holds
     persist-rule-requires
     offer-requires
