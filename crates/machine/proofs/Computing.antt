@@ -2,14 +2,14 @@
 use Prim.Native.Nat.{ℕ}
 use Rattle.cases.proofs.Computing.{reading-computes}
 use Rattle.cases.specs.Checks.{linesOf}
-use Rattle.machine.specs.View.{part, put, without, slots, wordsOf, marksOf, lineOf, homeOf, marksIn}
+use Rattle.machine.specs.View.{part, put, without, slots, wordsOf, marksOf, lineOf, marksIn}
 use Rattle.machine.specs.View.{queueIn, withQueue, bufferIn, withBuffer, withWord, withRegister}
 use Rattle.machine.specs.View.{withIssued}
 use Rattle.machine.specs.Look.{wordOr, newestWrite, storedOr, newestStore, queuedWord, loadOf}
 use Rattle.machine.specs.Look.{markerAmong, markerFrom, markerOf, marked, bars, firstBar}
 use Rattle.machine.specs.Rules.{enqueue, await, barrierRule, isBarrier, operationRule, issueRule, entryOf}
 use Rattle.machine.specs.Rules.{loaded, exchanged, performed, issueOf, effectRule, effectOf, passRule}
-use Rattle.machine.specs.Rules.{moveRule, moveOf, persistRule, persistFirst, persistOf, ruleIn, ruleOf}
+use Rattle.machine.specs.Rules.{moveRule, moveOf, persistRule, settled, persistFirst, persistOf, ruleIn, ruleOf}
 use Rattle.machine.specs.Rules.{nextOf, startOf}
 use Rattle.machine.specs.Fit.{sumTo, unissued}
 use Rattle.machine.specs.Work.{unissuedWeight, waitingWeight, unissuedCode, threadWork, work, weigh}
@@ -19,11 +19,11 @@ use Rattle.machine.specs.Next.{stepsFrom, movesFrom, candidates}
 
 -- ruleOf and nextOf
 unfoldable pub steps-compute : ℕ
-unfolding part put without slots wordsOf marksOf lineOf homeOf marksIn queueIn withQueue bufferIn withBuffer
+unfolding part put without slots wordsOf marksOf lineOf marksIn queueIn withQueue bufferIn withBuffer
     withWord withRegister withIssued wordOr newestWrite storedOr newestStore queuedWord loadOf markerAmong
     markerFrom markerOf marked bars firstBar enqueue await barrierRule isBarrier operationRule issueRule
     entryOf loaded exchanged performed issueOf effectRule effectOf passRule moveRule moveOf persistRule
-    persistFirst persistOf ruleIn ruleOf nextOf startOf
+    settled persistFirst persistOf ruleIn ruleOf nextOf startOf
 steps-compute = 0
 
 -- work and fullLength

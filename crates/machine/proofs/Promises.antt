@@ -23,7 +23,7 @@ use Rattle.cases.proofs.ChoiceLaws.{pick-true, pick-false, pick-cases, true-not
 use Rattle.machine.specs.declared.cells.State.{State}
 use Rattle.machine.specs.declared.steps.Stepped.{Stepped}
 use Rattle.machine.specs.declared.runs.Verdict.the-variants.{Legal, Illegal}
-use Rattle.machine.specs.View.{lineOf, marksIn, queue, buffer, issuedOf}
+use Rattle.machine.specs.View.{lineOf, marksIn, queue, buffer, issuedOf, markOf}
 use Rattle.machine.specs.Behind.{BlankBehind, SameEntries}
 use Rattle.machine.specs.Look.{markerOf, isAt, foundQueue, foundPosition}
 use Rattle.machine.specs.Rules.{ruleOf, nextOf, startOf}
@@ -349,19 +349,19 @@ module _ (marks lengths : List ℕ) (t : ℕ) where
       × (foundPosition (markerOf marks lengths t)
       < length (marksIn marks lengths (foundQueue (markerOf marks lengths t))))
       × (getD (marksIn marks lengths (foundQueue (markerOf marks lengths t)))
-      (foundPosition (markerOf marks lengths t)) 0 ≡ t + 1)
+      (foundPosition (markerOf marks lengths t)) 0 ≡ markOf t)
   marker-stands = MarkerLaws.marker-stands marks lengths t
 
   -- it is the first: no earlier queue holds one of that thread, and no earlier position of its own queue does
   pub marker-first : isAt (markerOf marks lengths t) ≡ true
-      → ((q i : ℕ) → q < foundQueue (markerOf marks lengths t) → getD (marksIn marks lengths q) i 0 ≢ t + 1)
+      → ((q i : ℕ) → q < foundQueue (markerOf marks lengths t) → getD (marksIn marks lengths q) i 0 ≢ markOf t)
       × ((i : ℕ) → i < foundPosition (markerOf marks lengths t)
-      → getD (marksIn marks lengths (foundQueue (markerOf marks lengths t))) i 0 ≢ t + 1)
+      → getD (marksIn marks lengths (foundQueue (markerOf marks lengths t))) i 0 ≢ markOf t)
   marker-first = MarkerLaws.marker-first marks lengths t
 
   -- where none is found no queue holds one
   pub marker-none : isAt (markerOf marks lengths t) ≡ false
-      → (q i : ℕ) → q < mostLocations → getD (marksIn marks lengths q) i 0 ≢ t + 1
+      → (q i : ℕ) → q < mostLocations → getD (marksIn marks lengths q) i 0 ≢ markOf t
   marker-none = MarkerLaws.marker-none marks lengths t
 
 -- a step breaks no rule, or one of 21 to 29

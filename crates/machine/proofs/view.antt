@@ -9,5 +9,5 @@ pub mod BufferLaws
 pub mod IssuedLaws
 -- sized: the arrays are as long as they were, whatever is put
 pub mod SizedLaws
--- lineOf, homeOf, linesOf: line-there and its like, home, few-lines
+-- lineOf, linesOf: line-there and its like, few-lines
 pub mod LineOfLaws

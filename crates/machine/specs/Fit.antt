@@ -5,18 +5,22 @@
 --   anyOf f xs       f is true of one on the list xs
 --   AllOf P xs       P holds of each on it
 --   strays, strayed  an entry names a location that the program lacks; one that waits does
+--   foreign p q m    the mark m does not belong in queue q: its location or thread the program lacks, or the
+--                    location is of another line
 --   misfits p s      the test: 33 where it is true
 --   Fits p s         the facts: the program's numbers are in range, and the state fits it
---   Named, NamedBy, Borne   an entry, or one that waits, names a location, a mark bears a thread, that it has
+--   Named, NamedBy   an entry, or one that waits, names a location that it has
+--   Borne p q m      the mark m belongs in queue q
 -- Assumes nothing.
 use Prim.Native.Nat.{ℕ, zero, suc, _+_, _-_, _<_, _≤_}
 use mathlib.Core.Path.{_≡_}
-use mathlib.Core.Bool.{Bool, false}
+use mathlib.Core.Logic.{_⊎_}
+use mathlib.Core.Bool.{Bool, false, not}
 use mathlib.Core.List.{List, [], _∷_}
 use lib.ListN.{length, getD}
-use lib.Dec.{leb, ltb}
+use lib.Dec.{eqb, leb, ltb}
 use Rattle.cases.specs.declared.case.Program.{Program}
-use Rattle.cases.specs.Choice.{both, either}
+use Rattle.cases.specs.Choice.{pick, both, either}
 use Rattle.cases.specs.Sizes.{mostThreads, mostInstructions, mostLocations, allCode}
 use Rattle.cases.specs.Ranges.{ProgramFits}
 use Rattle.cases.specs.Checks.{countAt, linesOf}
@@ -24,8 +28,8 @@ use Rattle.machine.specs.declared.cells.State.{State}
 use Rattle.machine.specs.declared.cells.Waiting.{Waiting}
 use Rattle.machine.specs.declared.cells.Entry.{Entry}
 use Rattle.machine.specs.declared.cells.Entry.the-variants.{Store, Flush, FlushOpt, Sfence}
-use Rattle.machine.specs.Sizes.{room, allSlots, allRegisters}
-use Rattle.machine.specs.View.{queueLen, marksIn, buffer, bufferLen, issuedOf}
+use Rattle.machine.specs.Sizes.{room, allSlots, allRegisters, firstMarker}
+use Rattle.machine.specs.View.{markOf, lineOf, queueLen, marksIn, buffer, bufferLen, issuedOf}
 
 unfoldable pub sumTo : ℕ → (ℕ → ℕ) → ℕ
 sumTo zero f = 0
@@ -70,14 +74,19 @@ threadMisfits p s t =
     (either (ltb mostInstructions (bufferLen s t + unissued p s t))
     (anyOf (strayed (p .locations)) (buffer s t))))
 
--- an entry "that stands in the .. queue of .. a .. location the program lacks": in a queue that it lacks; "a
--- queue's entries plus all entries in store buffers plus all unissued instructions above 32"; a marker names "a
--- thread .. the program lacks": mark t + 1 names thread t
+-- a marker names "a thread .. the program lacks"; a write "a location the program lacks", or is "of another line"
+unfoldable pub foreign : Program → ℕ → ℕ → Bool
+foreign p q m =
+    pick (ltb m firstMarker) (either (leb (p .locations) m) (not (eqb (lineOf p m) q)))
+    (leb (markOf (p .threads)) m)
+
+-- "any entry in the queue of a line the program lacks"; "a queue's entries plus all entries in store buffers plus
+-- all unissued instructions above 32"; an entry that does not belong there
 unfoldable pub queueMisfits : Program → State → ℕ → Bool
 queueMisfits p s q =
     either (both (leb (linesOf p) q) (ltb 0 (queueLen s q)))
     (either (ltb room (queueLen s q + due p s))
-    (anyOf (ltb (p .threads)) (marksIn (s .marks) (s .lengths) q)))
+    (anyOf (foreign p q) (marksIn (s .marks) (s .lengths) q)))
 
 unfoldable pub misfits : Program → State → Bool
 misfits p s =
@@ -104,8 +113,9 @@ Named locations Sfence = Unit {0}
 abbrev pub NamedBy : ℕ → Waiting → Type 0
 NamedBy locations w = Named locations (w .entry)
 
-abbrev pub Borne : ℕ → ℕ → Type 0
-Borne threads m = m ≤ threads
+abbrev pub Borne : Program → ℕ → ℕ → Type 0
+Borne p q m =
+    ((m < p .locations) × (lineOf p m ≡ q)) ⊎ ((firstMarker ≤ m) × (m < markOf (p .threads)))
 
 pub record Fits (p : Program) (s : State) : Type 0 where
   pub program : ProgramFits p
@@ -116,7 +126,7 @@ pub record Fits (p : Program) (s : State) : Type 0 where
   pub no-buffer : (t : ℕ) → t < mostThreads → p .threads ≤ t → bufferLen s t ≡ 0
   pub no-queue : (q : ℕ) → q < mostLocations → linesOf p ≤ q → queueLen s q ≡ 0
   pub named : (t : ℕ) → t < mostThreads → AllOf (NamedBy (p .locations)) (buffer s t)
-  pub borne : (q : ℕ) → q < mostLocations → AllOf (Borne (p .threads)) (marksIn (s .marks) (s .lengths) q)
+  pub borne : (q : ℕ) → q < mostLocations → AllOf (Borne p q) (marksIn (s .marks) (s .lengths) q)
 
 -- What the machine's parts ask for where the whole state is not at hand.
 -- no queue is longer than its room

@@ -5,7 +5,7 @@
 --   enters p t q e        what the entry e of thread t puts at the end of queue q as it moves
 -- And as words on their way to a location, whichever queue they go through:
 --   onlyIf b w            the word w, or none
---   writesOf q            the words of a queue's writes, oldest first
+--   writesOf l q          the words of the writes of location l in the queue q, oldest first
 --   storeOf l e           the word that the entry e brings to location l
 --   swapOf l x            the word that instruction x puts straight on its way to location l
 --   onWay p s l           the words on their way to location l, oldest first
@@ -36,11 +36,11 @@ joins registers t x =
 -- "Exchange .. puts its write at the queue's end."
 unfoldable pub exchanges : Program → ℕ → Instruction → List Slot
 exchanges p q x =
-    pick (both (eqb (x .operation) exchange) (eqb (lineOf p (x .location .0)) q)) (writeSlot (x .word) ∷ []) []
+    pick (both (eqb (x .operation) exchange) (eqb (lineOf p (x .location .0)) q)) (writeSlot (x .location .0) (x .word) ∷ []) []
 
 -- "A store becomes a write at its queue's end." "A flush-opt becomes a marker at its queue's end."
 unfoldable pub enters : Program → ℕ → ℕ → Entry → List Slot
-enters p t q (Store w) = pick (eqb (lineOf p (w .location .0)) q) (writeSlot (w .word) ∷ []) []
+enters p t q (Store w) = pick (eqb (lineOf p (w .location .0)) q) (writeSlot (w .location .0) (w .word) ∷ []) []
 enters p t q (Flush m) = []
 enters p t q (FlushOpt m) = pick (eqb (lineOf p (m .0)) q) (markerSlot t ∷ []) []
 enters p t q Sfence = []
@@ -48,9 +48,9 @@ enters p t q Sfence = []
 unfoldable pub onlyIf : Bool → ℕ → List ℕ
 onlyIf b w = pick b (w ∷ []) []
 
-unfoldable pub writesOf : List Slot → List ℕ
-writesOf [] = []
-writesOf (h ∷ q) = onlyIf (eqb (h .mark) 0) (h .word) ++ writesOf q
+unfoldable pub writesOf : ℕ → List Slot → List ℕ
+writesOf l [] = []
+writesOf l (h ∷ q) = onlyIf (eqb (h .mark) l) (h .word) ++ writesOf l q
 
 unfoldable pub storeOf : ℕ → Entry → List ℕ
 storeOf l (Store x) = onlyIf (eqb (x .location .0) l) (x .word)
@@ -62,7 +62,7 @@ unfoldable pub swapOf : ℕ → Instruction → List ℕ
 swapOf l x = onlyIf (both (eqb (x .operation) exchange) (eqb (x .location .0) l)) (x .word)
 
 unfoldable pub onWay : Program → State → ℕ → List ℕ
-onWay p s l = writesOf (queue s (lineOf p l))
+onWay p s l = writesOf l (queue s (lineOf p l))
 
 unfoldable pub lastOr : List ℕ → ℕ → ℕ
 lastOr [] w = w

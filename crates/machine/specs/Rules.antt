@@ -10,7 +10,7 @@
 --   moveRule, moveOf         move: 24, 25, 26, then 27 or 28
 --   effectRule, effectOf     what an entry does as it takes effect: 27, 28. It is already out of its buffer, so
 --                            that a machine without buffers can use these two.
---   persistRule, persistOf   persist: 29; persistFirst: of the entries of a queue
+--   persistRule, persistOf   persist: 29; persistFirst: of the entries of a queue; settled: what one entry does
 --   ruleIn, ruleOf p s k     a step's rule by its code, over the parts that rules look at, in a state
 --   nextOf p s k             what a legal step does, by its code
 --   startOf p                where a run starts
@@ -33,12 +33,12 @@ use Rattle.machine.specs.declared.cells.State.{State}
 use Rattle.machine.specs.declared.cells.Waiting.{Waiting}
 use Rattle.machine.specs.declared.cells.Entry.{Entry}
 use Rattle.machine.specs.declared.cells.Entry.the-variants.{Store, Flush, FlushOpt, Sfence}
-use Rattle.machine.specs.Sizes.{allSlots, allRegisters}
-use Rattle.machine.specs.View.{Slot, lineOf, homeOf, writeSlot, markerSlot, without, queue, withQueue}
-use Rattle.machine.specs.View.{blankWaiting, bufferIn, buffer, withBuffer, wordOf, withWord, registerIn}
+use Rattle.machine.specs.Sizes.{allSlots, allRegisters, firstMarker}
+use Rattle.machine.specs.View.{Slot, lineOf, writeSlot, markerSlot, without, queue, withQueue}
+use Rattle.machine.specs.View.{blankWaiting, bufferIn, buffer, withBuffer, withWord, registerIn}
 use Rattle.machine.specs.View.{withRegister, issuedOf, withIssued}
 use Rattle.machine.specs.Parts.{Parts, partsOf}
-use Rattle.machine.specs.Look.{wordOr, queuedWord, loadOf, marked, firstBar}
+use Rattle.machine.specs.Look.{queuedWord, loadOf, marked, firstBar}
 
 unfoldable pub enqueue : State → ℕ → Slot → State
 enqueue s q h = withQueue s q (queue s q ++ (h ∷ []))
@@ -87,7 +87,7 @@ loaded p s t x = withRegister s t (x .register .0) (loadOf p s t (x .location .0
 unfoldable pub exchanged : Program → State → ℕ → Instruction → State
 exchanged p s t x =
     enqueue (withRegister s t (x .register .0) (queuedWord p s (x .location .0))) (lineOf p (x .location .0))
-    (writeSlot (x .word))
+    (writeSlot (x .location .0) (x .word))
 
 -- what an instruction does as it is issued: load, exchange and mfence are done with it; the others wait
 unfoldable pub performed : Program → State → ℕ → Instruction → State
@@ -101,8 +101,8 @@ unfoldable pub issueOf : Program → State → ℕ → State
 issueOf p s t =
     performed p (withIssued s t (issuedOf s t + 1)) t (instructionAt p t (issuedOf s t))
 
--- "A flush leaves only if its location's queue is empty, markers counted (else 27)." "An sfence leaves only if
--- no queue holds a marker of that thread (else 28)."
+-- "A flush leaves only if its location's queue is empty, markers counted (else 27)": its line's. "An sfence
+-- leaves only if no queue holds a marker of that thread (else 28)."
 unfoldable pub effectRule : Program → Parts → ℕ → Entry → ℕ
 effectRule p x t (Store w) = 0
 effectRule p x t (Flush l) = refuse (ltb 0 (getD (x .lengths) (lineOf p (l .0)) 0)) 27 0
@@ -111,7 +111,7 @@ effectRule p x t Sfence = refuse (marked (x .marks) (x .lengths) t) 28 0
 
 -- "A store becomes a write at its queue's end." "A flush-opt becomes a marker at its queue's end."
 unfoldable pub effectOf : Program → State → ℕ → Entry → State
-effectOf p s t (Store w) = enqueue s (lineOf p (w .location .0)) (writeSlot (w .word))
+effectOf p s t (Store w) = enqueue s (lineOf p (w .location .0)) (writeSlot (w .location .0) (w .word))
 effectOf p s t (Flush l) = s
 effectOf p s t (FlushOpt l) = enqueue s (lineOf p (l .0)) (markerSlot t)
 effectOf p s t Sfence = s
@@ -139,14 +139,16 @@ unfoldable pub moveOf : Program → State → ℕ → ℕ → State
 moveOf p s t i = effectOf p (withBuffer s t (without i (buffer s t))) t (entryAt (buffer s t) i)
 
 -- "Persist takes the oldest entry of a location's queue (empty: 29). A write goes to the persistent word; a
--- marker vanishes." By the queue's number.
+-- marker vanishes." It "names a line", and takes the oldest of its queue.
 unfoldable pub persistRule : Parts → ℕ → ℕ
 persistRule x q = refuse (eqb (getD (x .lengths) q 0) 0) 29 0
 
+unfoldable pub settled : State → Slot → State
+settled s h = pick (ltb (h .mark) firstMarker) (withWord s (h .mark) (h .word)) s
+
 unfoldable pub persistFirst : State → ℕ → List Slot → State
 persistFirst s q [] = s
-persistFirst s q (h ∷ rest) =
-    withQueue (withWord s (homeOf q (h .mark)) (wordOr h (wordOf s (homeOf q (h .mark))))) q rest
+persistFirst s q (h ∷ rest) = withQueue (settled s h) q rest
 
 unfoldable pub persistOf : State → ℕ → State
 persistOf s q = persistFirst s q (queue s q)

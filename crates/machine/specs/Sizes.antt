@@ -6,6 +6,7 @@
 --   mostCandidates  the steps that a state can have next
 --   kindRanks       the ranks that a kind of step takes up in the order of steps
 --   mostWork        the most that a program's instructions weigh: 3 each
+--   firstMarker     the least mark of a marker; below it a mark is a write's location
 -- Assumes nothing.
 use Prim.Native.Nat.{ℕ, _+_, _*_}
 use Rattle.cases.specs.Sizes.{mostThreads, mostLocations, mostRegisters, allCode}
@@ -27,3 +28,6 @@ kindRanks = allCode + mostLocations
 
 abbrev pub mostWork : ℕ
 mostWork = 3 * allCode
+
+abbrev pub firstMarker : ℕ
+firstMarker = 128

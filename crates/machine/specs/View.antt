@@ -4,11 +4,11 @@
 --   part base n xs          the first n of xs from base on
 --   put blank base n q xs   xs with q from base on; of the n that stood there, those given up are blank
 --   shift, closeGap         one taken out of a row: those behind it each one down
+--   markOf t                the mark of a marker of thread t
 --   writeSlot, markerSlot   a slot of a queue
 --   slots, wordsOf, marksOf words and marks as slots, and back
---   lineOf p l             the queue that location l's entries go through in the program p
---   homeOf q mark           the location that a write of queue q goes to
---   queue, withQueue        the entries of a queue, oldest first; the state with others there
+--   lineOf p l              the cache line that location l lies on in the program p, and its queue's number
+--   queue, withQueue        the entries of a line's queue, oldest first; the state with others there
 --   buffer, withBuffer      the entries of a store buffer, oldest first; the state with others there
 --   queueLen, bufferLen     how many
 --   queueIn, marksIn, bufferIn, registerIn   the same over a state's arrays, where only those are lent
@@ -23,7 +23,7 @@ use Rattle.cases.specs.Sizes.{mostInstructions, mostRegisters}
 use Rattle.machine.specs.declared.cells.State.{State}
 use Rattle.machine.specs.declared.cells.Waiting.{Waiting}
 use Rattle.machine.specs.declared.cells.Entry.the-variants.{Store}
-use Rattle.machine.specs.Sizes.{room}
+use Rattle.machine.specs.Sizes.{room, firstMarker}
 
 unfoldable pub part {ℓ} : {A : Type ℓ} → ℕ → ℕ → List A → List A
 part base n xs = take n (drop base xs)
@@ -43,17 +43,20 @@ closeGap blank from end xs = set (shift from end xs) (end - 1) blank
 unfoldable pub without {ℓ} : {A : Type ℓ} → ℕ → List A → List A
 without i q = take i q ++ drop (i + 1) q
 
--- "A queue holds writes and flush-opt markers that bear a thread": mark 0 is a write of the word, mark t + 1 a
--- marker of thread t.
+-- "A queue holds writes and flush-opt markers that bear a thread", and "its writes bear locations": the mark of a
+-- write is its location, and from `firstMarker` on a mark is a marker's.
 pub record Slot : Type 0 where
   pub word : ℕ
   pub mark : ℕ
 
-abbrev pub writeSlot : ℕ → Slot
-writeSlot w = record { word = w; mark = 0 }
+abbrev pub markOf : ℕ → ℕ
+markOf t = t + firstMarker
+
+abbrev pub writeSlot : ℕ → ℕ → Slot
+writeSlot l w = record { word = w; mark = l }
 
 abbrev pub markerSlot : ℕ → Slot
-markerSlot t = record { word = 0; mark = t + 1 }
+markerSlot t = record { word = 0; mark = markOf t }
 
 unfoldable pub slots : List ℕ → List ℕ → List Slot
 slots [] ms = []
@@ -69,13 +72,9 @@ marksOf [] = []
 marksOf (h ∷ q) = h .mark ∷ marksOf q
 
 -- Queues
--- which queue a location's entries go through: its own
+-- "There is one queue per line": which line a location lies on
 unfoldable pub lineOf : Program → ℕ → ℕ
 lineOf p l = l
-
--- and, of a write in a queue, by its mark, the location that it goes to: the one whose queue it is
-unfoldable pub homeOf : ℕ → ℕ → ℕ
-homeOf q mark = q
 
 abbrev pub queueLen : State → ℕ → ℕ
 queueLen s q = getD (s .lengths) q 0

@@ -19,10 +19,10 @@ pub struct Waiting {
     pub entry: Entry,
 }
 
-// Queue q holds the first lengths[q] slots from q * ROOM on, a slot a word and a mark side by side: mark 0 is a
-// write of the word, mark t + 1 a marker of thread t. Buffer t holds the first waiting[t] entries from
-// t * INSTRUCTIONS on, and register r of thread t stands at t * REGISTERS + r. Number arrays, because those can
-// be lent: a look then copies nothing.
+// Line q's queue holds the first lengths[q] slots from q * ROOM on, a slot a word and a mark side by side: the
+// mark of a write is its location, that of a marker MARKER and its thread. Buffer t holds the first waiting[t]
+// entries from t * INSTRUCTIONS on, and register r of thread t stands at t * REGISTERS + r. Number arrays,
+// because those can be lent: a look then copies nothing.
 pub struct State {
     pub words: [u32; LOCATIONS],
     pub held: [u32; SLOTS],

@@ -2,9 +2,12 @@
 use crate::cells::Entry;
 use crate::cells::State;
 use crate::cells::Waiting;
+use crate::look;
+use crate::sizes::MARKER;
 use crate::sizes::ROOM;
 use crate::sizes::SLOTS;
 use cases::case::Line;
+use cases::case::Location;
 use cases::case::Program;
 use cases::case::Thread;
 use cases::checks;
@@ -15,11 +18,10 @@ use cases::sizes::THREADS;
 ghost use mathlib.Core.Path.{_≡_};
 ghost use Prim.Native.Nat.{_+_, _<_, _≤_};
 ghost use lib.ListN.{length, getD};
-ghost use lib.Dec.{ltb};
 ghost use Rattle.cases.specs.Sizes.{mostThreads, mostInstructions, mostLocations};
 ghost use Rattle.machine.specs.Sizes.{room, allSlots};
 ghost use Rattle.machine.specs.View.{marksIn, bufferIn, bufferLen};
-ghost use Rattle.machine.specs.Fit.{sumTo, anyFrom, anyOf, strays, strayed, unissued, due};
+ghost use Rattle.machine.specs.Fit.{sumTo, anyFrom, anyOf, strays, strayed, foreign, unissued, due};
 ghost use Rattle.machine.specs.Fit.{threadMisfits, queueMisfits, misfits};
 
 // Does an entry name a location that the program lacks?
@@ -59,22 +61,35 @@ fn has_stray<'a>(
     false
 }
 
-// Does a marker of a queue name a thread that the program lacks?
+// Does a mark not belong in a line's queue: the thread or the location of none, or a location of another line?
+fn is_foreign(p: Program, q: Line, mark: u8) -> bool
+    ensures { λ r. ⌜ r ≡ foreign p (q .0) mark ⌝ }
+{
+    if MARKER <= mark {
+        return p.threads <= mark - MARKER;
+    }
+    if p.locations <= mark {
+        return true;
+    }
+    look::line_of(p, Location(mark)).0 != q.0
+}
+
+// Does one of a queue's marks?
 fn has_foreign<'a>(
+    p: Program,
     marks: &'a [u8; SLOTS],
     lengths: &'a [u8; LOCATIONS],
     q: Line,
-    threads: u8,
 ) -> bool
     requires { ⌜ (q .0 < mostLocations) × (getD (now lengths) (q .0) 0 ≤ room)
         × (length (now marks) ≡ allSlots) ⌝ }
-    ensures { λ r. ⌜ r ≡ anyOf (ltb threads) (marksIn (now (marks .entry)) (now (lengths .entry)) (q .0)) ⌝ }
+    ensures { λ r. ⌜ r ≡ anyOf (foreign p (q .0)) (marksIn (now (marks .entry)) (now (lengths .entry)) (q .0)) ⌝ }
 {
     let base = (q.0 as usize) * ROOM;
     let n = lengths[q.0 as usize] as usize;
     let mut i = 0;
     while i < n {
-        if threads < marks[base + i] {
+        if is_foreign(p, q, marks[base + i]) {
             return true;
         }
         i += 1;
@@ -173,7 +188,7 @@ fn queue_misfits(p: Program, s: State, q: Line, coming: usize) -> bool
     if ROOM < (n as usize) + coming {
         return true;
     }
-    has_foreign(&u.marks, &u.lengths, q, p.threads)
+    has_foreign(p, &u.marks, &u.lengths, q)
 }
 
 fn queues_misfit(p: Program, s: State) -> bool

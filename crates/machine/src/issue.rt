@@ -133,7 +133,7 @@ fn entry_of<'a>(registers: &'a [u32; ALL_REGISTERS], t: Thread, x: Instruction) 
     Entry::Sfence
 }
 
-// The register takes the newest store of the own buffer, else the newest write of the queue, else the
+// The register takes the newest store of the own buffer, else the newest write in the line's queue, else the
 // persistent word.
 fn load(p: Program, s: State, t: Thread, x: Instruction) -> State
     requires { ⌜ (t .0 < mostThreads) × (x .location .0 < mostLocations) × (x .register .0 < mostRegisters)
@@ -144,15 +144,15 @@ fn load(p: Program, s: State, t: Thread, x: Instruction) -> State
     let mut u = s;
     let l = x.location;
     let word = u.words[l.0 as usize];
-    let queued = look::newest_write(&u.held, &u.marks, &u.lengths, look::line_of(p, l), word);
+    let queued = look::newest_write(&u.held, &u.marks, &u.lengths, look::line_of(p, l), l, word);
     let b = u.buffers;
     let found = look::newest_store(b, &u.waiting, t, l, queued);
     u.registers[(t.0 as usize) * REGISTERS + (x.register.0 as usize)] = found;
     u
 }
 
-// The register takes the newest write of the queue, else the persistent word; the instruction's word goes to
-// the queue's end.
+// The register takes the newest write in the line's queue, else the persistent word; the instruction's word goes
+// to the queue's end.
 fn exchange(p: Program, s: State, t: Thread, x: Instruction) -> State
     requires { ⌜ (t .0 < mostThreads) × (x .location .0 < mostLocations) × (x .register .0 < mostRegisters)
         × (lineOf p (x .location .0) < mostLocations) × (queueLen s (lineOf p (x .location .0)) < room) ⌝ }
@@ -162,9 +162,9 @@ fn exchange(p: Program, s: State, t: Thread, x: Instruction) -> State
     let l = x.location;
     let word = u.words[l.0 as usize];
     let q = look::line_of(p, l);
-    let old = look::newest_write(&u.held, &u.marks, &u.lengths, q, word);
+    let old = look::newest_write(&u.held, &u.marks, &u.lengths, q, l, word);
     u.registers[(t.0 as usize) * REGISTERS + (x.register.0 as usize)] = old;
-    change::enqueue(u, q, x.word, 0)
+    change::enqueue(u, q, x.word, l.0)
 }
 
 // The instruction's entry joins the end of the thread's buffer.

@@ -2,6 +2,7 @@
 // buffers go by value because an array of structs can't be lent.
 use crate::cells::Entry;
 use crate::cells::Waiting;
+use crate::sizes::MARKER;
 use crate::sizes::ROOM;
 use crate::sizes::SLOTS;
 use cases::case::Line;
@@ -17,10 +18,9 @@ ghost use Prim.Native.Nat.{_<_, _≤_};
 ghost use lib.ListN.{length, getD, take};
 ghost use Rattle.cases.specs.Sizes.{mostThreads, mostInstructions, mostLocations};
 ghost use Rattle.machine.specs.Sizes.{room, allSlots};
-ghost use Rattle.machine.specs.View.{lineOf, homeOf, queueIn, bufferIn};
+ghost use Rattle.machine.specs.View.{lineOf, queueIn, bufferIn};
 ghost use Rattle.machine.specs.Fit.{Shallow};
-ghost use Rattle.machine.specs.Look.{wordOr, newestWrite, newestStore, markerOf, marked, bars};
-ghost use Rattle.machine.specs.Look.{firstBar};
+ghost use Rattle.machine.specs.Look.{newestWrite, newestStore, markerOf, marked, bars, firstBar};
 
 // Where a marker stands: its queue and its position there.
 pub enum Found {
@@ -28,45 +28,32 @@ pub enum Found {
     Nothing,
 }
 
-// The queue that a location's entries go through: its own, whatever the program.
+// The line that a location lies on: its own, whatever the program.
 pub(crate) fn line_of(p: Program, l: Location) -> Line
     ensures { λ r. ⌜ r .0 ≡ lineOf p (l .0) ⌝ }
 {
     Line(l.0)
 }
 
-// The location that a write of a queue goes to, by its mark: the one whose queue it is.
-pub(crate) fn home_of(q: Line, mark: u8) -> Location
-    ensures { λ r. ⌜ r .0 ≡ homeOf (q .0) mark ⌝ }
-{
-    Location(q.0)
-}
-
-// A write's word; of a marker the word before.
-pub(crate) fn word_or(word: u32, mark: u8, before: u32) -> u32
-    ensures { λ r. ⌜ r ≡ wordOr (record { word = word; mark = mark }) before ⌝ }
-{
-    if mark == 0 { word } else { before }
-}
-
-// The newest write of a queue, else the word given: the first one found from its end.
+// The newest write of a location in a line's queue, else the word given: the first one found from its end.
 pub(crate) fn newest_write<'a>(
     held: &'a [u32; SLOTS],
     marks: &'a [u8; SLOTS],
     lengths: &'a [u8; LOCATIONS],
     q: Line,
+    l: Location,
     other: u32,
 ) -> u32
     requires { ⌜ (q .0 < mostLocations) × (getD (now lengths) (q .0) 0 ≤ room)
         × (length (now held) ≡ allSlots) × (length (now marks) ≡ allSlots) ⌝ }
-    ensures { λ r. ⌜ r
-        ≡ newestWrite (queueIn (now (held .entry)) (now (marks .entry)) (now (lengths .entry)) (q .0)) other ⌝ }
+    ensures { λ r. ⌜ r ≡ newestWrite (l .0)
+        (queueIn (now (held .entry)) (now (marks .entry)) (now (lengths .entry)) (q .0)) other ⌝ }
 {
     let base = (q.0 as usize) * ROOM;
     let mut i = lengths[q.0 as usize] as usize;
     while 0 < i {
         let at = base + i - 1;
-        if marks[at] == 0 {
+        if marks[at] == l.0 {
             return held[at];
         }
         // Last, not first: counted down before the test, the compiled loop is half as long again.
@@ -107,7 +94,7 @@ pub(crate) fn marker<'a>(marks: &'a [u8; SLOTS], lengths: &'a [u8; LOCATIONS], t
     requires { ⌜ (t .0 < mostThreads) × Shallow (now lengths) × (length (now marks) ≡ allSlots) ⌝ }
     ensures { λ r. ⌜ r ≡ markerOf (now (marks .entry)) (now (lengths .entry)) (t .0) ⌝ }
 {
-    let mark = t.0 + 1;
+    let mark = t.0 + MARKER;
     let mut found = Found::Nothing;
     let mut q: u8 = 0;
     'queues: while (q as usize) < LOCATIONS {
@@ -136,7 +123,7 @@ pub(crate) fn is_marked<'a>(marks: &'a [u8; SLOTS], lengths: &'a [u8; LOCATIONS]
     }
 }
 
-// Does an entry keep a flush-opt of the queue behind it?
+// Does an entry keep a flush-opt of the line behind it?
 fn is_bar(p: Program, w: Waiting, q: Line) -> bool
     ensures { λ r. ⌜ r ≡ bars p (q .0) (w .entry) ⌝ }
 {
@@ -149,7 +136,7 @@ fn is_bar(p: Program, w: Waiting, q: Line) -> bool
     }
 }
 
-// The position of the first of a buffer's first i entries that keeps a flush-opt of the queue behind it; i
+// The position of the first of a buffer's first i entries that keeps a flush-opt of the line behind it; i
 // where none does.
 pub(crate) fn first_bar<'a>(
     p: Program,

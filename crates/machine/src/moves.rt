@@ -4,6 +4,7 @@ use crate::cells::State;
 use crate::cells::Waiting;
 use crate::change;
 use crate::look;
+use crate::sizes::MARKER;
 use crate::sizes::ROOM;
 use crate::sizes::SLOTS;
 use cases::case::Line;
@@ -117,9 +118,9 @@ fn take_effect(p: Program, s: State, t: Thread, e: Entry) -> State
     ensures { λ r. ⌜ r ≡ effectOf p s (t .0) e ⌝ }
 {
     match e {
-        Entry::Store(w) => change::enqueue(s, look::line_of(p, w.location), w.word, 0),
+        Entry::Store(w) => change::enqueue(s, look::line_of(p, w.location), w.word, w.location.0),
         Entry::Flush(_) => s,
-        Entry::FlushOpt(l) => change::enqueue(s, look::line_of(p, l), 0, t.0 + 1),
+        Entry::FlushOpt(l) => change::enqueue(s, look::line_of(p, l), 0, t.0 + MARKER),
         Entry::Sfence => s,
     }
 }
@@ -144,7 +145,7 @@ pub(crate) fn move_entry(p: Program, s: State, t: Thread, i: u8) -> State
     take_effect(p, u, t, e)
 }
 
-// The rule that persisting a queue's oldest entry breaks; 0 where it is legal.
+// The rule that persisting the oldest entry of a line's queue breaks; 0 where it is legal.
 pub(crate) fn persist_rule<'a>(lengths: &'a [u8; LOCATIONS], q: Line) -> u8
     requires { ⌜ q .0 < mostLocations ⌝ }
     ensures { λ r. ⌜ r ≡ persistRule (lent [] [] [] [] (now (lengths .entry))) (q .0) ⌝ }
@@ -155,7 +156,7 @@ pub(crate) fn persist_rule<'a>(lengths: &'a [u8; LOCATIONS], q: Line) -> u8
     0
 }
 
-// A queue's oldest entry persisted, where there is one.
+// The oldest entry of a line's queue persisted, where there is one.
 pub(crate) fn persist(s: State, q: Line) -> State
     requires { ⌜ (q .0 < mostLocations) × (0 < queueLen s (q .0)) × (queueLen s (q .0) ≤ room) ⌝ }
     ensures { λ r. ⌜ r ≡ persistOf s (q .0) ⌝ }
@@ -164,13 +165,16 @@ pub(crate) fn persist(s: State, q: Line) -> State
     let at = q.0 as usize;
     let base = at * ROOM;
     let n = u.lengths[at];
-    let home = look::home_of(q, u.marks[base]);
-    let to = home.0 as usize;
-    let word = look::word_or(u.held[base], u.marks[base], u.words[to]);
+    let word = u.held[base];
+    let to = u.marks[base] as usize;
     let end = base + (n as usize);
     change::close_words(&mut u.held, base, end);
     change::close_marks(&mut u.marks, base, end);
     u.lengths[at] = n - 1;
+    // A marker's mark is no location.
+    if LOCATIONS <= to {
+        return u;
+    }
     u.words[to] = word;
     u
 }

@@ -18,3 +18,6 @@ pub const CANDIDATES: usize = THREADS + CODE + LOCATIONS;
 
 // The ranks that a kind of step takes up in the order of steps.
 pub const RANKS: usize = CODE + LOCATIONS;
+
+// The least mark of a marker; below it a mark is a write's location.
+pub const MARKER: u8 = 128;

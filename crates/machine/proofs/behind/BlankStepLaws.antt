@@ -1,5 +1,6 @@
 -- The start of a run is blank behind its entries, a legal step leaves it so, and so does a run. Assumes
 -- nothing.
+use Rattle.cases.proofs.ChoiceLaws.{pick-cases}
 use Prim.Native.Nat.{ℕ, suc, _+_, _*_, _≤_, _<_}
 use mathlib.Core.Path.{_≡_, refl, sym, ap}
 use mathlib.Core.List.{List, [], _∷_, _++_}
@@ -20,13 +21,12 @@ use Rattle.machine.specs.declared.cells.State.{State}
 use Rattle.machine.specs.declared.cells.Entry.{Entry}
 use Rattle.machine.specs.declared.cells.Entry.the-variants.{Store, Flush, FlushOpt, Sfence}
 use Rattle.machine.specs.Sizes.{room, allSlots}
-use Rattle.machine.specs.View.{Slot, lineOf, homeOf, writeSlot, markerSlot, without, queue, queueLen}
+use Rattle.machine.specs.View.{Slot, lineOf, writeSlot, markerSlot, without, queue, queueLen, withQueue}
 use Rattle.machine.specs.View.{withWord, blankWaiting, buffer, wordOf, issuedOf}
 use Rattle.machine.specs.Parts.{partsOf}
 use Rattle.machine.specs.Behind.{BlankBehind}
-use Rattle.machine.specs.Look.{wordOr}
 use Rattle.machine.specs.Rules.{enqueue, await, instructionAt, issueRule, entryOf, loaded, exchanged}
-use Rattle.machine.specs.Rules.{performed, issueOf, effectOf, moveRule, moveOf, persistFirst, persistOf}
+use Rattle.machine.specs.Rules.{performed, issueOf, effectOf, moveRule, moveOf, settled, persistFirst, persistOf}
 use Rattle.machine.specs.Rules.{ruleOf, nextOf, startOf}
 use Rattle.cases.specs.Ranges.{ProgramFits}
 use Rattle.machine.specs.Fit.{Fits, Named}
@@ -94,7 +94,7 @@ module _ (p : Program) (s : State) (t : ℕ) (o : Spare p s t) (blank : BlankBeh
       (await-blank p s t o blank low _)
       (blank-register s blank t _ _)
       (enqueue-blank p _ t (register-spare p s t o _ _) (blank-register s blank t _ _) (lineOf p (l .0))
-      (to (l .0) there) (writeSlot w))
+      (to (l .0) there) (writeSlot (l .0) w))
       (await-blank p s t o blank low _)
       (await-blank p s t o blank low _)
       (await-blank p s t o blank low _)
@@ -102,7 +102,8 @@ module _ (p : Program) (s : State) (t : ℕ) (o : Spare p s t) (blank : BlankBeh
 
   effect-blank : (e : Entry) → Named (p .locations) e → BlankBehind (effectOf p s t e)
   unfolding effectOf Named
-  effect-blank (Store w) h = enqueue-blank p s t o blank _ (to (w .location .0) h) (writeSlot (w .word))
+  effect-blank (Store w) h =
+      enqueue-blank p s t o blank _ (to (w .location .0) h) (writeSlot (w .location .0) (w .word))
   effect-blank (Flush l) h = blank
   effect-blank (FlushOpt l) h = enqueue-blank p s t o blank _ (to (l .0) h) (markerSlot t)
   effect-blank Sfence h = blank
@@ -133,18 +134,20 @@ module _ (p : Program) (s : State) (f : Fits p s) (blank : BlankBehind s) where
 
   -- the oldest entry, the rest
   first-blank : (q : ℕ) → q < linesOf p → (r : List Slot) → queue s q ≡ r → BlankBehind (persistFirst s q r)
-  unfolding persistFirst
+  unfolding persistFirst settled
   first-blank q low [] e = blank
   first-blank q low (h ∷ r) e =
       let z = few-lines p (f .program) in
       let k : length (queue s q) ≡ suc (length r) = ap length e in
       let n = fits-queue-long p s f q (omega arith) in
       let m : queueLen s q ≤ room = fits-queue-within p s f q (omega arith) in
-      let l : ℕ = homeOf q (h .mark) in
-      let w : ℕ = wordOr h (wordOf s l) in
+      let l : ℕ = h .mark in
+      let w : ℕ = h .word in
       let same : queueLen (withWord s l w) q ≡ queueLen s q = unfold withWord in refl in
-      blank-queue (withWord s l w) (sized-word s (f .sized) l w) (blank-word s blank l w) q (omega arith)
-      (omega arith) r (omega arith)
+      pick-cases (λ u. BlankBehind (withQueue u q r)) _ _ s
+      (λ c. blank-queue (withWord s l w) (sized-word s (f .sized) l w) (blank-word s blank l w) q (omega arith)
+      (omega arith) r (omega arith))
+      (λ c. blank-queue s (f .sized) blank q (omega arith) m r (omega arith))
 
   persist-blank : (q : ℕ) → q < linesOf p → BlankBehind (persistOf s q)
   unfolding persistOf

@@ -38,9 +38,9 @@ module _ (p : Program) (s : State) (f : Fits p s) where
   pub fits-buffer-long : (t : ℕ) → t < mostThreads → length (buffer s t) ≡ bufferLen s t
   fits-buffer-long t low = buffer-length s (f .sized) t low (fits-buffer-within t low)
 
-  -- a queue that keeps within the bounds, with markers of threads that there are
+  -- a queue that keeps within the bounds, with entries that belong there
   module _ (q : ℕ) (low : q < linesOf p) (r : List Slot) (few : length r + due p s ≤ room)
-      (borne : AllOf (Borne (p .threads)) (marksOf r)) where
+      (borne : AllOf (Borne p q) (marksOf r)) where
     in-range : q < mostLocations
     in-range = let w = few-lines p (f .program) in omega arith
 
@@ -79,7 +79,7 @@ module _ (p : Program) (s : State) (f : Fits p s) where
             ∙ f .no-queue k h a
 
         bear : (k : ℕ) → k < mostLocations → Dec (k ≡ q)
-            → AllOf (Borne (p .threads)) (marksIn (withQueue s q r .marks) (withQueue s q r .lengths) k)
+            → AllOf (Borne p k) (marksIn (withQueue s q r .marks) (withQueue s q r .lengths) k)
         bear k h (yes e) =
             rw (e, queue-marks-same s (f .sized) q in-range (fits-queue-within q in-range) r short) borne
         bear k h (no e) =

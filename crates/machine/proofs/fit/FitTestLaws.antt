@@ -1,25 +1,26 @@
 -- The test of a state's fit and the facts of it say the same. Assumes nothing.
 use Prim.Native.Nat.{ℕ, _+_, _≤_, _<_}
-use mathlib.Core.Path.{_≡_, refl}
-use mathlib.Core.Bool.{Bool, true, false}
+use mathlib.Core.Path.{_≡_, refl, _∙_}
+use mathlib.Core.Logic.{inl, inr}
+use mathlib.Core.Bool.{Bool, true, false, not}
 use native.Mathlib.Omega.{arith}
-use lib.Dec.{leb, ltb}
-use borrow.Author.Tests.{leb-true, leb-false, lt-leb, le-leb, ltb-false, le-ltb}
+use lib.Dec.{eqb, leb, ltb}
+use borrow.Author.Tests.{leb-true, leb-false, lt-leb, le-leb, ltb-false, lt-ltb, le-ltb, eqb-true, eq-eqb, not-false}
 use Rattle.cases.specs.declared.case.Program.{Program}
 use Rattle.cases.specs.declared.case.Case.{Case}
-use Rattle.cases.specs.Choice.{both}
+use Rattle.cases.specs.Choice.{pick, both, either}
 use Rattle.cases.specs.Sizes.{mostThreads, mostInstructions, mostLocations}
 use Rattle.cases.specs.Writing.{readsBack}
-use Rattle.cases.proofs.ChoiceLaws.{either-false, either-none}
+use Rattle.cases.proofs.ChoiceLaws.{pick-true, pick-false, either-false, either-none, true-not}
 use Rattle.cases.proofs.Promises.{readable-ranged}
 use Rattle.cases.specs.Checks.{countAt, linesOf}
 use Rattle.machine.specs.declared.cells.State.{State}
 use Rattle.machine.specs.declared.cells.Entry.{Entry}
 use Rattle.machine.specs.declared.cells.Entry.the-variants.{Store, Flush, FlushOpt, Sfence}
-use Rattle.machine.specs.Sizes.{room}
-use Rattle.machine.specs.View.{queueLen, marksIn, buffer, bufferLen, issuedOf}
+use Rattle.machine.specs.Sizes.{room, firstMarker}
+use Rattle.machine.specs.View.{markOf, lineOf, queueLen, marksIn, buffer, bufferLen, issuedOf}
 use Rattle.machine.specs.Rules.{startOf}
-use Rattle.machine.specs.Fit.{strays, unissued, due, threadMisfits, queueMisfits, misfits, Sized, Named}
+use Rattle.machine.specs.Fit.{strays, foreign, unissued, due, threadMisfits, queueMisfits, misfits, Sized, Named}
 use Rattle.machine.specs.Fit.{Fits, AllOf, Borne, NamedBy}
 use Rattle.cases.specs.Ranges.{ProgramFits}
 use Rattle.machine.proofs.lists.AnyLaws.{any-none, none-any}
@@ -53,6 +54,28 @@ is-named n (Flush l) h = lt-leb _ _ h
 is-named n (FlushOpt l) h = lt-leb _ _ h
 is-named n Sfence h = refl
 
+-- a mark that is not foreign belongs in the queue, and back: a write is of a location below every marker
+module _ (p : Program) (q : ℕ) where
+  borne-is : (m : ℕ) → foreign p q m ≡ false → Borne p q m
+  unfolding foreign pick
+  borne-is m h = go (ltb m firstMarker) refl h
+    where
+      go : (b : Bool) → ltb m firstMarker ≡ b
+          → pick b (either (leb (p .locations) m) (not (eqb (lineOf p m) q))) (leb (markOf (p .threads)) m) ≡ false
+          → Borne p q m
+      go true e f =
+          let a = either-false _ _ f in
+          inl (leb-false _ _ (a .0), eqb-true _ _ (not-false _ (a .1)))
+      go false e f = inr (ltb-false _ _ e, leb-false _ _ f)
+
+  is-borne : p .locations ≤ firstMarker → (m : ℕ) → Borne p q m → foreign p q m ≡ false
+  unfolding foreign
+  is-borne few m (inl (h, e)) =
+      let k : m < firstMarker = omega arith in
+      pick-true _ _ _ (lt-ltb _ _ k)
+      ∙ either-none _ _ (lt-leb _ _ h) (true-not _ (eq-eqb _ _ e))
+  is-borne few m (inr (h, k)) = pick-false _ _ _ (le-ltb _ _ h) ∙ lt-leb _ _ k
+
 -- a thread's part, and a queue's
 record ThreadFits (p : Program) (s : State) (t : ℕ) : Type 0 where
   few-issued : issuedOf s t ≤ countAt p t
@@ -63,7 +86,7 @@ record ThreadFits (p : Program) (s : State) (t : ℕ) : Type 0 where
 record QueueFits (p : Program) (s : State) (q : ℕ) : Type 0 where
   no-queue : linesOf p ≤ q → queueLen s q ≡ 0
   few-queued : queueLen s q + due p s ≤ room
-  borne : AllOf (Borne (p .threads)) (marksIn (s .marks) (s .lengths) q)
+  borne : AllOf (Borne p q) (marksIn (s .marks) (s .lengths) q)
 
 module _ (p : Program) (s : State) where
   thread-is : (t : ℕ) → threadMisfits p s t ≡ false → ThreadFits p s t
@@ -95,15 +118,15 @@ module _ (p : Program) (s : State) where
       record {
         no-queue = none-is _ _ _ (a .0);
         few-queued = ltb-false _ _ (b .0);
-        borne = none-all (Borne (p .threads)) _ (λ m. ltb-false _ m) _ (b .1);
+        borne = none-all (Borne p q) _ (borne-is p q) _ (b .1);
       }
 
-  is-queue : (q : ℕ) → QueueFits p s q → queueMisfits p s q ≡ false
+  is-queue : (q : ℕ) → p .locations ≤ firstMarker → QueueFits p s q → queueMisfits p s q ≡ false
   unfolding queueMisfits
-  is-queue q f =
+  is-queue q few f =
       either-none _ _ (is-none _ _ _ (f .no-queue))
       (either-none _ _ (le-ltb _ _ (f .few-queued))
-      (all-none (Borne (p .threads)) _ (λ m. le-ltb _ m) _ (f .borne)))
+      (all-none (Borne p q) _ (is-borne p q few) _ (f .borne)))
 
   -- the test is false: the facts hold
   pub fits-is : ProgramFits p → Sized s → misfits p s ≡ false → Fits p s
@@ -132,7 +155,7 @@ module _ (p : Program) (s : State) where
   unfolding misfits
   is-fits f =
       either-none _ _ (none-any _ 0 mostThreads (λ t a b. is-thread t (thread t (omega arith))))
-      (none-any _ 0 mostLocations (λ q a b. is-queue q (queue q (omega arith))))
+      (none-any _ 0 mostLocations (λ q a b. is-queue q few (queue q (omega arith))))
     where
       thread : (t : ℕ) → t < mostThreads → ThreadFits p s t
       thread t k =
@@ -150,6 +173,9 @@ module _ (p : Program) (s : State) where
             few-queued = f .few-queued q k;
             borne = f .borne q k;
           }
+
+      few : p .locations ≤ firstMarker
+      few = let w = f .program .sized .few-locations in omega arith
 
 -- the program of a case that passes 32 fits: with a state that passes 33, and where its runs start
 module _ (c : Case) (readable : readsBack c ≡ true) where

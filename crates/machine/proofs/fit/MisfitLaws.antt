@@ -1,12 +1,13 @@
 -- Laws of `threadMisfits` and `queueMisfits`, for each point of the code that makes these chains of tests.
 -- Loops that ask one after the other are in AnyLaws, loops that sum in SumLaws. Assumes nothing.
-use Prim.Native.Nat.{ℕ, _+_, _≤_, _<_}
+use Rattle.cases.proofs.ChoiceLaws.{pick-here, pick-next, either-here, either-next}
+use Prim.Native.Nat.{ℕ, _+_, _≤_, _<_, _-_}
 use mathlib.Core.Path.{_≡_, refl}
 use mathlib.Core.Logic.{_⊎_, inl, inr}
-use mathlib.Core.Bool.{Bool, true, false}
+use mathlib.Core.Bool.{Bool, true, false, not}
 use native.Mathlib.Omega.{arith}
-use lib.Dec.{leb, ltb}
-use borrow.Author.Tests.{lt-ltb, le-ltb, le-leb, lt-leb}
+use lib.Dec.{eqb, leb, ltb}
+use borrow.Author.Tests.{lt-ltb, le-ltb, le-leb, lt-leb, leb-true, leb-false}
 use mir.Syntax.{w8}
 use mir.Val.{Fits}
 use Rattle.cases.specs.declared.case.Program.{Program}
@@ -14,9 +15,9 @@ use Rattle.cases.specs.Choice.{both, either}
 use Rattle.cases.specs.Sizes.{mostThreads, mostInstructions}
 use Rattle.cases.specs.Checks.{countAt, linesOf}
 use Rattle.machine.specs.declared.cells.State.{State}
-use Rattle.machine.specs.Sizes.{room}
-use Rattle.machine.specs.View.{marksIn, queueLen, buffer, bufferLen, issuedOf}
-use Rattle.machine.specs.Fit.{unissued, due, threadMisfits, queueMisfits, anyOf, strayed}
+use Rattle.machine.specs.Sizes.{room, firstMarker}
+use Rattle.machine.specs.View.{marksIn, queueLen, buffer, bufferLen, issuedOf, markOf, lineOf}
+use Rattle.machine.specs.Fit.{unissued, due, threadMisfits, queueMisfits, anyOf, strayed, foreign}
 use Rattle.machine.proofs.lists.SumLaws.{sum-most}
 
 -- a count is a byte: what that bounds
@@ -84,7 +85,32 @@ module _ (p : Program) (s : State) (t : ℕ) where
           )
           q
 
--- queueMisfits: there is no such queue; too much may come; else a mark of another thread
+-- foreign: a marker's thread; a write of no location; a write by its line
+module _ (p : Program) (q m : ℕ) where
+  pub foreign-marker : firstMarker ≤ m → leb (p .threads) (m - firstMarker) ≡ foreign p q m
+  unfolding foreign
+  foreign-marker h = pick-next _ _ _ _ (le-ltb _ _ h) (same (leb (markOf (p .threads)) m) refl)
+    where
+      same : (b : Bool) → leb (markOf (p .threads)) m ≡ b → leb (p .threads) (m - firstMarker) ≡ b
+      same true e =
+          let d : p .threads + firstMarker ≤ m = leb-true _ _ e in
+          let k : p .threads ≤ m - firstMarker = omega arith in
+          le-leb _ _ k
+      same false e =
+          let d : m < p .threads + firstMarker = leb-false _ _ e in
+          let k : m - firstMarker < p .threads = omega (arith, h) in
+          lt-leb _ _ k
+
+  module _ (h : m < firstMarker) where
+    pub foreign-lacked : p .locations ≤ m → true ≡ foreign p q m
+    unfolding foreign
+    foreign-lacked k = pick-here _ _ _ _ (lt-ltb _ _ h) (either-here _ _ (le-leb _ _ k))
+
+    pub foreign-write : m < p .locations → (r : ℕ) → r ≡ lineOf p m → not (eqb r q) ≡ foreign p q m
+    unfolding foreign
+    foreign-write k r e = rw e (pick-here _ _ _ _ (lt-ltb _ _ h) (either-next _ _ _ (lt-leb _ _ k) refl))
+
+-- queueMisfits: there is no such queue; too much may come; else a mark that does not belong there
 module _ (p : Program) (s : State) (q queues : ℕ) (many : queues ≡ linesOf p) where
   pub queue-misfits-lacked : queues ≤ q → ltb 0 (queueLen s q) ≡ true → true ≡ queueMisfits p s q
   unfolding queueMisfits either
@@ -98,7 +124,7 @@ module _ (p : Program) (s : State) (q queues : ℕ) (many : queues ≡ linesOf p
         rw (← many, lacked-none queues q (queueLen s q) k f g, ← e, lt-ltb room (queueLen s q + n) h)
 
     pub queue-misfits-rest : queueLen s q + n ≤ room → (r : Bool)
-        → r ≡ anyOf (ltb (p .threads)) (marksIn (s .marks) (s .lengths) q)
+        → r ≡ anyOf (foreign p q) (marksIn (s .marks) (s .lengths) q)
         → r ≡ queueMisfits p s q
     unfolding queueMisfits either
     queue-misfits-rest h r w =

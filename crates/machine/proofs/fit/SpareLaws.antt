@@ -158,16 +158,16 @@ module _ (p : Program) (s : State) (t : ℕ) (o : Spare p s t) where
       (all-append (NamedBy (p .locations)) (buffer s t) _ (o .fit .named t (omega arith))
       (unfold AllOf in (named, tt)))
 
-  pub enqueue-fits : (q : ℕ) → q < linesOf p → (h : Slot) → h .mark ≤ p .threads → Fits p (enqueue s q h)
+  pub enqueue-fits : (q : ℕ) → q < linesOf p → (h : Slot) → Borne p q (h .mark) → Fits p (enqueue s q h)
   unfolding enqueue
-  enqueue-fits q low h few =
+  enqueue-fits q low h borne =
       let z = few-lines p (o .fit .program) in
       let n = fits-queue-long p s (o .fit) q (omega arith) in
       let k : length (queue s q ++ (h ∷ [])) ≡ suc (queueLen s q) = simp (length-append, n) (omega arith) in
       let w = o .queues q (omega arith) in
       fits-queue p s (o .fit) q low (queue s q ++ (h ∷ [])) (omega arith)
       (rw (marks-append (queue s q) (h ∷ []), marks-fit p s (o .fit) q (omega arith))
-      (all-append (Borne (p .threads)) _ _ (o .fit .borne q (omega arith)) (unfold AllOf marksOf in (few, tt))))
+      (all-append (Borne p q) _ _ (o .fit .borne q (omega arith)) (unfold AllOf marksOf in (borne, tt))))
 
   pub register-spare : (r w : ℕ) → Spare p (withRegister s t r w) t
   register-spare r w =

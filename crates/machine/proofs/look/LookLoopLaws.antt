@@ -65,37 +65,39 @@ entry-before get xs base n i next h c =
     rw (j, a) at (next (i - 1) (omega arith))
 
 -- newestWrite: of the n slots from base on
-abbrev pub NewestSoFar : List ℕ → List ℕ → ℕ → ℕ → ℕ → Type 0
-NewestSoFar held marks base n i = SilentFrom newestWrite (slots (part base n held) (part base n marks)) n i
+abbrev pub NewestSoFar : ℕ → List ℕ → List ℕ → ℕ → ℕ → ℕ → Type 0
+NewestSoFar l held marks base n i = SilentFrom (newestWrite l) (slots (part base n held) (part base n marks)) n i
 
-newest-more : (h : Slot) (q : List Slot) (w : ℕ) → newestWrite (h ∷ q) w ≡ newestWrite q (wordOr h w)
+newest-more : (l : ℕ) (h : Slot) (q : List Slot) (w : ℕ)
+    → newestWrite l (h ∷ q) w ≡ newestWrite l q (wordOr l h w)
 unfolding newestWrite
-newest-more h q w = refl
+newest-more l h q w = refl
 
-module _ (held marks : List ℕ) (base n : ℕ) (h : base + n ≤ length held) (k : base + n ≤ length marks) where
-  pub newest-start : NewestSoFar held marks base n n
-  unfolding newestWrite
-  newest-start =
-      record { within = omega arith; silent = λ w. rw (slots-end held marks base n h k n (omega arith)) }
+module _ (l : ℕ) (held marks : List ℕ) (base n : ℕ) (h : base + n ≤ length held) (k : base + n ≤ length marks)
+  where
+    pub newest-start : NewestSoFar l held marks base n n
+    unfolding newestWrite
+    newest-start =
+        record { within = omega arith; silent = λ w. rw (slots-end held marks base n h k n (omega arith)) }
 
-  module _ {i : ℕ} (o : NewestSoFar held marks base n i) (c : 0 < i) where
-    newest-before : drop (i - 1) (slots (part base n held) (part base n marks))
-        ≡ record { word = getD held ((base + i) - 1) 0; mark = getD marks ((base + i) - 1) 0 }
-        ∷ drop i (slots (part base n held) (part base n marks))
-    newest-before =
-        entry-before (λ m. record { word = getD held m 0; mark = getD marks m 0 }) _ base n i
-        (slots-next held marks base n h k) (o .within) c
+    module _ {i : ℕ} (o : NewestSoFar l held marks base n i) (c : 0 < i) where
+      newest-before : drop (i - 1) (slots (part base n held) (part base n marks))
+          ≡ record { word = getD held ((base + i) - 1) 0; mark = getD marks ((base + i) - 1) 0 }
+          ∷ drop i (slots (part base n held) (part base n marks))
+      newest-before =
+          entry-before (λ m. record { word = getD held m 0; mark = getD marks m 0 }) _ base n i
+          (slots-next held marks base n h k) (o .within) c
 
-    pub newest-next : getD marks ((base + i) - 1) 0 ≢ 0 → NewestSoFar held marks base n (i - 1)
-    unfolding wordOr
-    newest-next e =
-        silent-next wordOr newestWrite newest-more o newest-before (λ w. pick-false _ _ _ (ne-eqb _ _ e))
+      pub newest-next : getD marks ((base + i) - 1) 0 ≢ l → NewestSoFar l held marks base n (i - 1)
+      unfolding wordOr
+      newest-next e =
+          silent-next (wordOr l) (newestWrite l) (newest-more l) o newest-before (λ w. pick-false _ _ _ (ne-eqb _ _ e))
 
-    pub newest-here : getD marks ((base + i) - 1) 0 ≡ 0 → (other : ℕ)
-        → getD held ((base + i) - 1) 0 ≡ newestWrite (slots (part base n held) (part base n marks)) other
-    unfolding wordOr
-    newest-here e =
-        silent-here wordOr newestWrite newest-more o newest-before _ (λ w. pick-true _ _ _ (eq-eqb _ _ e))
+      pub newest-here : getD marks ((base + i) - 1) 0 ≡ l → (other : ℕ)
+          → getD held ((base + i) - 1) 0 ≡ newestWrite l (slots (part base n held) (part base n marks)) other
+      unfolding wordOr
+      newest-here e =
+          silent-here (wordOr l) (newestWrite l) (newest-more l) o newest-before _ (λ w. pick-true _ _ _ (eq-eqb _ _ e))
 
 -- newestStore: of the n entries from base on
 abbrev pub StoreSoFar : ℕ → List Waiting → ℕ → ℕ → ℕ → Type 0

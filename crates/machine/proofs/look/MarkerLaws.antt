@@ -16,49 +16,49 @@ use Rattle.cases.specs.Sizes.{mostLocations}
 use Rattle.cases.proofs.ChoiceLaws.{never-both}
 use Rattle.machine.specs.declared.look.Found.{Found}
 use Rattle.machine.specs.declared.look.Found.the-variants.{At, Nothing}
-use Rattle.machine.specs.View.{marksIn}
+use Rattle.machine.specs.View.{markOf, marksIn}
 use Rattle.machine.specs.Look.{markerAmong, markerFrom, markerOf, isAt, foundQueue, foundPosition}
 
 module _ (t : ℕ) where
   -- no mark of a list is one of thread t
   abbrev Unmarked : List ℕ → Type 0
-  Unmarked ms = (i : ℕ) → getD ms i 0 ≢ t + 1
+  Unmarked ms = (i : ℕ) → getD ms i 0 ≢ markOf t
 
   -- the first is at position i
   record FirstMark (ms : List ℕ) (i : ℕ) : Type 0 where
     within : i < length ms
-    mark : getD ms i 0 ≡ t + 1
-    none : (k : ℕ) → k < i → getD ms k 0 ≢ t + 1
+    mark : getD ms i 0 ≡ markOf t
+    none : (k : ℕ) → k < i → getD ms k 0 ≢ markOf t
 
   -- one queue's marks: there is a first one, or none and what comes after is the answer
   abbrev InQueue : ℕ → ℕ → List ℕ → Found → Found → Type 0
   InQueue q i ms after x =
       ((j : ℕ) × FirstMark ms j × (x ≡ At (record { 0 = q }) (i + j))) ⊎ (Unmarked ms × (x ≡ after))
 
-  unmarked-next : (m : ℕ) (ms : List ℕ) → m ≢ t + 1 → Unmarked ms → Unmarked (m ∷ ms)
+  unmarked-next : (m : ℕ) (ms : List ℕ) → m ≢ markOf t → Unmarked ms → Unmarked (m ∷ ms)
   unmarked-next m ms e h zero = e
   unmarked-next m ms e h (suc i) = h i
 
-  first-next : (m : ℕ) (ms : List ℕ) (j : ℕ) → m ≢ t + 1 → FirstMark ms j → FirstMark (m ∷ ms) (suc j)
+  first-next : (m : ℕ) (ms : List ℕ) (j : ℕ) → m ≢ markOf t → FirstMark ms j → FirstMark (m ∷ ms) (suc j)
   first-next m ms j e f = record { within = let h = f .within in omega arith; mark = f .mark; none = before }
     where
-      before : (k : ℕ) → k < suc j → getD (m ∷ ms) k 0 ≢ t + 1
+      before : (k : ℕ) → k < suc j → getD (m ∷ ms) k 0 ≢ markOf t
       before zero h = e
       before (suc k) h = f .none k (omega arith)
 
   in-queue : (q i : ℕ) (ms : List ℕ) (after : Found) → InQueue q i ms after (markerAmong t q i ms after)
   unfolding markerAmong pick
   in-queue q i [] after = inr ((λ k e. omega arith), refl)
-  in-queue q i (m ∷ ms) after = go (eqb m (t + 1)) refl (in-queue q (suc i) ms after)
+  in-queue q i (m ∷ ms) after = go (eqb m (markOf t)) refl (in-queue q (suc i) ms after)
     where
-      later : m ≢ t + 1 → InQueue q (suc i) ms after (markerAmong t q (suc i) ms after)
+      later : m ≢ markOf t → InQueue q (suc i) ms after (markerAmong t q (suc i) ms after)
           → InQueue q i (m ∷ ms) after (markerAmong t q (suc i) ms after)
       later n (inl (j, f, e)) =
           let same : suc i + j ≡ i + suc j = omega arith in
           inl (suc j, first-next m ms j n f, e ∙ ap (λ k. At (record { 0 = q }) k) same)
       later n (inr (h, e)) = inr (unmarked-next m ms n h, e)
 
-      go : (b : Bool) → eqb m (t + 1) ≡ b → InQueue q (suc i) ms after (markerAmong t q (suc i) ms after)
+      go : (b : Bool) → eqb m (markOf t) ≡ b → InQueue q (suc i) ms after (markerAmong t q (suc i) ms after)
           → InQueue q i (m ∷ ms) after (pick b (At (record { 0 = q }) i) (markerAmong t q (suc i) ms after))
       go true e r =
           let same : i ≡ i + 0 = omega arith in
@@ -154,24 +154,24 @@ module _ (marks lengths : List ℕ) (t : ℕ) where
       × (foundPosition (markerOf marks lengths t)
       < length (marksIn marks lengths (foundQueue (markerOf marks lengths t))))
       × (getD (marksIn marks lengths (foundQueue (markerOf marks lengths t)))
-      (foundPosition (markerOf marks lengths t)) 0 ≡ t + 1)
+      (foundPosition (markerOf marks lengths t)) 0 ≡ markOf t)
   marker-stands h =
       let f = stood h in
       rw (f .is) (f .low, f .first .within, f .first .mark)
 
   pub marker-first : isAt (markerOf marks lengths t) ≡ true
-      → ((q i : ℕ) → q < foundQueue (markerOf marks lengths t) → getD (marksIn marks lengths q) i 0 ≢ t + 1)
+      → ((q i : ℕ) → q < foundQueue (markerOf marks lengths t) → getD (marksIn marks lengths q) i 0 ≢ markOf t)
       × ((i : ℕ) → i < foundPosition (markerOf marks lengths t)
-      → getD (marksIn marks lengths (foundQueue (markerOf marks lengths t))) i 0 ≢ t + 1)
+      → getD (marksIn marks lengths (foundQueue (markerOf marks lengths t))) i 0 ≢ markOf t)
   marker-first h =
       let f = stood h in
       rw (f .is) ((λ q i a. f .none q (omega arith) a i), f .first .none)
 
   pub marker-none : isAt (markerOf marks lengths t) ≡ false
-      → (q i : ℕ) → q < mostLocations → getD (marksIn marks lengths q) i 0 ≢ t + 1
+      → (q i : ℕ) → q < mostLocations → getD (marksIn marks lengths q) i 0 ≢ markOf t
   marker-none h q i low = go looked
     where
       go : InQueues t marks lengths 0 mostLocations (markerOf marks lengths t)
-          → getD (marksIn marks lengths q) i 0 ≢ t + 1
+          → getD (marksIn marks lengths q) i 0 ≢ markOf t
       go (inl f) = absurd (never-both (ap isAt (f .is)) h)
       go (inr f) = f .0 q (omega arith) low i

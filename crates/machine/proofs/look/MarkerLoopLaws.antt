@@ -15,7 +15,7 @@ use Rattle.cases.specs.Sizes.{mostLocations}
 use Rattle.machine.specs.declared.look.Found.{Found}
 use Rattle.machine.specs.declared.look.Found.the-variants.{At, Nothing}
 use Rattle.machine.specs.Sizes.{room, allSlots}
-use Rattle.machine.specs.View.{marksIn}
+use Rattle.machine.specs.View.{markOf, marksIn}
 use Rattle.machine.specs.Fit.{Shallow}
 use Rattle.machine.specs.Look.{markerAmong, markerFrom, markerOf}
 use Rattle.machine.proofs.lists.PartLaws.{part-next, part-end}
@@ -26,7 +26,7 @@ pub record MarkerQueuesSoFar (marks lengths : List ℕ) (mark q : ℕ) (found : 
   pub shallow : Shallow lengths
   pub within : q ≤ mostLocations
   pub none : found ≡ Nothing
-  pub rest : (t : ℕ) → mark ≡ t + 1
+  pub rest : (t : ℕ) → mark ≡ markOf t
       → markerFrom marks lengths t (mostLocations - q) q ≡ markerOf marks lengths t
 
 -- and within queue q: its marks from position i on, and the queues behind it, say what all queues say
@@ -37,7 +37,7 @@ pub record MarkerMarksSoFar (marks lengths : List ℕ) (mark q n i : ℕ) (found
   pub few : n ≤ room
   pub counted : n ≡ getD lengths q 0
   pub none : found ≡ Nothing
-  pub rest : (t : ℕ) → mark ≡ t + 1
+  pub rest : (t : ℕ) → mark ≡ markOf t
       → markerAmong t q i (drop i (marksIn marks lengths q))
       (markerFrom marks lengths t (mostLocations - (q + 1)) (q + 1))
       ≡ markerOf marks lengths t
@@ -71,7 +71,7 @@ module _ {marks lengths : List ℕ} {mark q : ℕ} {found : Found}
         rest = λ t k. marker-from-next marks lengths t mostLocations q h ∙ o .rest t k;
       }
 
-  pub marker-end : (t : ℕ) → mark ≡ t + 1 → mostLocations ≤ q → found ≡ markerOf marks lengths t
+  pub marker-end : (t : ℕ) → mark ≡ markOf t → mostLocations ≤ q → found ≡ markerOf marks lengths t
   unfolding markerFrom
   marker-end t k h =
       let e : mostLocations - q ≡ 0 = omega arith in
@@ -85,7 +85,7 @@ module _ {marks lengths : List ℕ} {mark q n i : ℕ} {found : Found}
     unfolding marksIn
     marks-at = part-next (q * room) (getD lengths q 0) i marks 0 (omega arith) (omega arith)
 
-    marker-among-next : (t : ℕ) (after : Found) → eqb (getD marks (q * room + i) 0) (t + 1) ≡ false
+    marker-among-next : (t : ℕ) (after : Found) → eqb (getD marks (q * room + i) 0) (markOf t) ≡ false
         → markerAmong t q (i + 1) (drop (i + 1) (marksIn marks lengths q)) after
         ≡ markerAmong t q i (drop i (marksIn marks lengths q)) after
     unfolding markerAmong pick
@@ -104,7 +104,7 @@ module _ {marks lengths : List ℕ} {mark q n i : ℕ} {found : Found}
           rest = λ t e. marker-among-next t _ (ne-eqb _ _ (λ p. f (p ∙ sym e))) ∙ o .rest t e;
         }
 
-    pub marker-here : (t : ℕ) → mark ≡ t + 1 → getD marks (q * room + i) 0 ≡ mark
+    pub marker-here : (t : ℕ) → mark ≡ markOf t → getD marks (q * room + i) 0 ≡ mark
         → At (record { 0 = q }) i ≡ markerOf marks lengths t
     unfolding markerAmong pick
     marker-here t e p = rw (marks-at, eq-eqb _ _ (p ∙ e)) at (o .rest t e)

@@ -3,30 +3,36 @@
 use Prim.Native.Nat.{ℕ, _+_, _*_, _≤_, _<_}
 use mathlib.Core.Path.{_≡_, refl, sym, ap, _∙_}
 use mathlib.Core.List.{List, [], _∷_}
+use mathlib.Core.Bool.{false}
 use native.Mathlib.Omega.{arith}
 use native.Mathlib.Nat.{add-zero}
+use native.Mathlib.Decide.{ℕ-discrete}
 use lib.ListN.{length, getD, drop}
+use lib.Seq.{getD-set-same, getD-set-other}
+use lib.Dec.{eqb}
+use Rattle.cases.specs.Choice.{pick}
 use Rattle.cases.specs.declared.case.Location.{Location}
 use Rattle.cases.specs.declared.case.Write.{Write}
 use Rattle.cases.specs.declared.case.Program.{Program}
 use Rattle.cases.specs.Sizes.{mostInstructions, mostLocations}
-use Rattle.cases.proofs.ChoiceLaws.{pick-here, pick-next, refuse-here, refuse-next}
+use Rattle.cases.proofs.ChoiceLaws.{pick-true, pick-cases, pick-here, pick-next, refuse-here, refuse-next}
 use borrow.Author.Tests.{eq-eqb, ne-eqb, lt-leb, lt-ltb, le-ltb}
 use Rattle.machine.specs.declared.cells.State.{State}
 use Rattle.machine.specs.declared.cells.Waiting.{Waiting}
 use Rattle.machine.specs.declared.cells.Entry.{Entry}
 use Rattle.machine.specs.declared.cells.Entry.the-variants.{Store, Flush, FlushOpt}
-use Rattle.machine.specs.Sizes.{room, allSlots}
-use Rattle.machine.specs.View.{lineOf, homeOf, without, marksIn, queueIn, queue, queueLen, withQueue}
+use Rattle.machine.specs.Sizes.{room, allSlots, firstMarker}
+use Rattle.machine.specs.View.{Slot, lineOf, without, marksIn, queueIn, queue, queueLen, withQueue}
 use Rattle.machine.specs.View.{wordOf, withWord, blankWaiting, bufferIn, buffer, bufferLen, withBuffer}
 use Rattle.machine.specs.Parts.{Parts, lent}
 use Rattle.machine.specs.Look.{wordOr}
 use Rattle.machine.specs.Rules.{entryAt, effectRule, effectOf, passRule, moveRule, moveOf, persistFirst}
-use Rattle.machine.specs.Rules.{persistOf}
+use Rattle.machine.specs.Rules.{settled, persistOf}
 use Rattle.cases.specs.Ranges.{ProgramFits}
 use Rattle.machine.specs.Fit.{Named, Roomy}
 use Rattle.machine.proofs.lists.PartLaws.{getD-part}
-use Rattle.machine.proofs.view.LineOfLaws.{line-low, home-low}
+use Rattle.machine.proofs.lists.PutLaws.{set-beyond}
+use Rattle.machine.proofs.view.LineOfLaws.{line-low}
 use Rattle.machine.proofs.rules.LentLaws.{effect-lent}
 use Rattle.machine.proofs.view.SlotLaws.{slots-next}
 
@@ -116,9 +122,32 @@ pub move-taken : (p : Program) (s : State) (t i : ℕ) (u r : State) → i < buf
 unfolding moveOf
 move-taken p s t i u r h e f = f ∙ rw (e, move-entry-is (s .buffers) (s .waiting) t i h)
 
--- the location that a write of a queue goes to is one that there is room for
-pub home-there : (q mark : ℕ) → q < mostLocations → (l : ℕ) → l ≡ homeOf q mark → l < mostLocations
-home-there q mark h l e = rw e (home-low q mark h)
+-- settled: a word is written where there is such a location, and nowhere else
+module _ (s : State) (h : Slot) (long : length (s .words) ≡ mostLocations) where
+  pub settled-write : h .mark < mostLocations → settled s h ≡ withWord s (h .mark) (h .word)
+  unfolding settled
+  settled-write low =
+      let k : h .mark < firstMarker = omega arith in
+      pick-true _ _ _ (lt-ltb _ _ k)
+
+  pub settled-none : mostLocations ≤ h .mark → settled s h ≡ s
+  unfolding settled withWord
+  settled-none high = pick-cases (λ u. u ≡ s) _ _ s (λ c. rw (set-beyond (s .words) (h .mark) (h .word) (omega arith))) (λ c. refl)
+
+  -- what a slot makes of the word of a location
+  pub settled-word : (l : ℕ) → l < mostLocations → wordOf (settled s h) l ≡ wordOr l h (wordOf s l)
+  unfolding wordOr
+  settled-word l low = go (ℕ-discrete (h .mark) l)
+    where
+      go : Dec (h .mark ≡ l) → wordOf (settled s h) l ≡ pick (eqb (h .mark) l) (h .word) (wordOf s l)
+      go (yes e) =
+          rw (settled-write (omega arith), e, eq-eqb l l refl)
+          (unfold withWord pick in getD-set-same (s .words) l _ 0 (omega arith))
+      go (no e) =
+          rw (ne-eqb _ _ e) (unfold settled in
+          pick-cases (λ u. wordOf u l ≡ pick false (h .word) (wordOf s l)) _ _ s
+          (λ c. unfold withWord pick in getD-set-other (s .words) _ l _ 0 (λ z. e (sym z)))
+          (λ c. unfold pick in refl))
 
 -- persistOf: the oldest entry is taken out, then its word is written
 module _ (s : State) (q : ℕ) (low : q < mostLocations) (some : 0 < queueLen s q) (fits : queueLen s q ≤ room)
@@ -131,10 +160,18 @@ module _ (s : State) (q : ℕ) (low : q < mostLocations) (some : 0 < queueLen s 
       rw add-zero
       at (slots-next (s .held) (s .marks) (q * room) (queueLen s q) (omega arith) (omega arith) 0 some)
 
-  pub persist-some : (u : State) (l w : ℕ) → u ≡ withQueue s q (drop 1 (queue s q))
-      → l ≡ homeOf q (getD (s .marks) (q * room) 0)
-      → w
-      ≡ wordOr (record { word = getD (s .held) (q * room) 0; mark = getD (s .marks) (q * room) 0 }) (wordOf s l)
-      → withWord u l w ≡ persistOf s q
-  unfolding persistOf persistFirst withQueue withWord
-  persist-some u l w e g f = rw (e, f, g) (sym (ap (persistFirst s q) oldest))
+  abbrev first : Slot
+  first = record { word = getD (s .held) (q * room) 0; mark = getD (s .marks) (q * room) 0 }
+
+  persist-first : persistOf s q ≡ withQueue (settled s first) q (drop 1 (queue s q))
+  unfolding persistOf
+  persist-first = ap (persistFirst s q) oldest ∙ (unfold persistFirst in refl)
+
+  module _ (long : length (s .words) ≡ mostLocations) (u : State) (e : u ≡ withQueue s q (drop 1 (queue s q))) where
+    pub persist-write : getD (s .marks) (q * room) 0 < mostLocations
+        → withWord u (getD (s .marks) (q * room) 0) (getD (s .held) (q * room) 0) ≡ persistOf s q
+    unfolding withQueue withWord
+    persist-write low = rw (e, persist-first, settled-write s first long low) refl
+
+    pub persist-marker : mostLocations ≤ getD (s .marks) (q * room) 0 → u ≡ persistOf s q
+    persist-marker high = rw (e, persist-first, settled-none s first long high) refl

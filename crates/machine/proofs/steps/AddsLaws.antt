@@ -134,7 +134,8 @@ module _ (p : Program) (s : State) (t : ℕ) (o : Spare p s t) (low : t < p .thr
       (adds-await p s t o low _)
       (adds-register s _ t _ _ _ _ (adds-none _ t))
       (adds-register s _ t _ _ _ _
-      (adds-enqueue p _ t (register-spare p s t o _ _) (lineOf p (l .0)) (to (l .0) there) (writeSlot w)))
+      (adds-enqueue p _ t (register-spare p s t o _ _) (lineOf p (l .0)) (to (l .0) there)
+      (writeSlot (l .0) w)))
       (adds-await p s t o low _)
       (adds-await p s t o low _)
       (adds-await p s t o low _)
@@ -143,7 +144,7 @@ module _ (p : Program) (s : State) (t : ℕ) (o : Spare p s t) (low : t < p .thr
   pub effect-adds : (e : Entry) → Named (p .locations) e
       → Adds s (effectOf p s t e) t [] (λ q. enters p t q e)
   unfolding effectOf Named enters
-  effect-adds (Store w) h = adds-enqueue p s t o _ (to (w .location .0) h) (writeSlot (w .word))
+  effect-adds (Store w) h = adds-enqueue p s t o _ (to (w .location .0) h) (writeSlot (w .location .0) (w .word))
   effect-adds (Flush l) h = adds-none s t
   effect-adds (FlushOpt l) h = adds-enqueue p s t o _ (to (l .0) h) (markerSlot t)
   effect-adds Sfence h = adds-none s t

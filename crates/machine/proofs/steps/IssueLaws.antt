@@ -1,4 +1,5 @@
 -- Issue: what an instruction does keeps the fit, and lowers the work left by one. Assumes nothing.
+use mathlib.Core.Logic.{inl}
 use Prim.Native.Nat.{ℕ, _+_, _≤_, _<_}
 use mathlib.Core.Path.{_≡_, refl, _∙_}
 use native.Mathlib.Omega.{arith}
@@ -43,7 +44,8 @@ module _ (p : Program) (s : State) (t : ℕ) (o : Spare p s t) (low : t < p .thr
       (await-fits p s t o low _ there)
       (await-fits p s t o low _ there)
       (fits-register p s (o .fit) t _ _)
-      (enqueue-fits p _ t (register-spare p s t o _ _) (lineOf p (l .0)) to (writeSlot w) (omega arith))
+      (enqueue-fits p _ t (register-spare p s t o _ _) (lineOf p (l .0)) to (writeSlot (l .0) w)
+      (inl (there, refl)))
       (await-fits p s t o low (Flush l) there)
       (await-fits p s t o low (FlushOpt l) there)
       (await-fits p s t o low Sfence tt)
@@ -64,7 +66,7 @@ module _ (p : Program) (s : State) (t : ℕ) (o : Spare p s t) (low : t < p .thr
       let n : queueLen (withRegister s t (r .0) v) (lineOf p (l .0)) < room
       = unfold withRegister in omega arith in
       let e = work-enqueue p (withRegister s t (r .0) v) (f .fit) (lineOf p (l .0)) (omega arith) n
-      (writeSlot w) in
+      (writeSlot (l .0) w) in
       each-operation (λ op. work p (performed p s t (of op l r w)) + 1 ≡ work p s + unissuedWeight op)
       (rw (work-await p s (o .fit) t (omega arith) (omega arith)) (omega arith))
       (rw (work-await p s (o .fit) t (omega arith) (omega arith)) (omega arith))
@@ -105,7 +107,7 @@ module _ (p : Program) (s : State) (f : Fits p s) (t : ℕ) (legal : issueRule p
 -- what a load's register takes, from the queue's word and then the buffer's
 pub load-is : (p : Program) (s : State) (t : ℕ) (x : Instruction) (q queued found : ℕ)
     → q ≡ lineOf p (x .location .0)
-    → queued ≡ newestWrite (queue s q) (wordOf s (x .location .0))
+    → queued ≡ newestWrite (x .location .0) (queue s q) (wordOf s (x .location .0))
     → found ≡ newestStore (x .location .0) (buffer s t) queued
     → withRegister s t (x .register .0) found ≡ loaded p s t x
 unfolding loaded loadOf queuedWord

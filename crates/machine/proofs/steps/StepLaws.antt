@@ -1,7 +1,7 @@
 -- A legal step keeps the fit and lowers the work left by its cost. Assumes nothing.
 use Prim.Native.Nat.{ℕ, suc, _+_, _<_}
 use mathlib.Core.Path.{_≡_, refl, sym, ap, _∙_}
-use mathlib.Core.Logic.{_≢_}
+use mathlib.Core.Logic.{_≢_, inl, inr}
 use mathlib.Core.Bool.{Bool, true, false}
 use mathlib.Core.List.{List, [], _∷_}
 use native.Mathlib.Omega.{arith}
@@ -14,17 +14,16 @@ use Rattle.cases.specs.Choice.{pick}
 use Rattle.cases.specs.Operations.{issue, move, persist}
 use Rattle.cases.specs.Sizes.{mostLocations}
 use Rattle.cases.specs.Checks.{linesOf}
-use Rattle.cases.proofs.ChoiceLaws.{refuse-none}
+use Rattle.cases.proofs.ChoiceLaws.{refuse-none, pick-cases}
 use Rattle.cases.proofs.Promises.{thread-low}
 use Rattle.machine.specs.declared.cells.State.{State}
 use Rattle.machine.specs.declared.cells.Entry.{Entry}
 use Rattle.machine.specs.declared.cells.Entry.the-variants.{Store, Flush, FlushOpt, Sfence}
-use Rattle.machine.specs.View.{Slot, lineOf, homeOf, writeSlot, markerSlot, marksOf, queue, queueLen}
+use Rattle.machine.specs.View.{Slot, lineOf, writeSlot, markerSlot, marksOf, queue, queueLen, withQueue}
 use Rattle.machine.specs.View.{buffer, bufferLen, blankWaiting, wordOf, withWord}
 use Rattle.machine.specs.Parts.{partsOf}
-use Rattle.machine.specs.Look.{wordOr}
 use Rattle.machine.specs.Rules.{enqueue, issueRule, issueOf, effectOf, entryAt, moveRule, moveOf}
-use Rattle.machine.specs.Rules.{persistRule, persistFirst, persistOf, ruleIn, ruleOf, nextOf}
+use Rattle.machine.specs.Rules.{persistRule, settled, persistFirst, persistOf, ruleIn, ruleOf, nextOf}
 use Rattle.machine.specs.Fit.{Fits, Named, due, unissued, AllOf, Borne, NamedBy}
 use Rattle.machine.specs.Work.{waitingWeight, work, cost}
 use Rattle.machine.proofs.view.LineOfLaws.{few-lines, line-there}
@@ -43,9 +42,11 @@ module _ (p : Program) (s : State) (t : ℕ) (o : Spare p s t) (low : t < p .thr
 
   effect-fits : (e : Entry) → Named (p .locations) e → Fits p (effectOf p s t e)
   unfolding effectOf Named
-  effect-fits (Store w) h = enqueue-fits p s t o _ (to (w .location .0) h) (writeSlot (w .word)) (omega arith)
+  effect-fits (Store w) h =
+      enqueue-fits p s t o _ (to (w .location .0) h) (writeSlot (w .location .0) (w .word)) (inl (h, refl))
   effect-fits (Flush l) h = o .fit
-  effect-fits (FlushOpt l) h = enqueue-fits p s t o _ (to (l .0) h) (markerSlot t) (omega arith)
+  effect-fits (FlushOpt l) h =
+      enqueue-fits p s t o _ (to (l .0) h) (markerSlot t) (inr (omega arith, omega arith))
   effect-fits Sfence h = o .fit
 
   -- an entry more in a location's queue
@@ -89,15 +90,25 @@ module _ (p : Program) (s : State) (f : Fits p s) (t i : ℕ) (low : t < p .thre
       ∙ work-without p s f t i blankWaiting (omega arith) move-there
 
 -- Persist
-borne-rest : (n : ℕ) (h : Slot) (q : List Slot) → AllOf (Borne n) (marksOf (h ∷ q))
-    → AllOf (Borne n) (marksOf q)
+borne-apart : (p : Program) (q : ℕ) (h : Slot) (r : List Slot) → AllOf (Borne p q) (marksOf (h ∷ r))
+    → Borne p q (h .mark) × AllOf (Borne p q) (marksOf r)
 unfolding marksOf AllOf
-borne-rest n h q b = b .1
+borne-apart p q h r b = b
+
+module _ (p : Program) (s : State) (f : Fits p s) (q : ℕ) (low : q < linesOf p) where
+  in-range : q < mostLocations
+  in-range = let w = few-lines p (f .program) in omega arith
+
+  -- the oldest entry and the rest belong there
+  pub queue-borne : (h : Slot) (r : List Slot) → queue s q ≡ h ∷ r
+      → Borne p q (h .mark) × AllOf (Borne p q) (marksOf r)
+  queue-borne h r e =
+      borne-apart p q h r (rw (sym (marks-fit p s f q in-range) ∙ ap marksOf e) at (f .borne q in-range))
 
 module _ (p : Program) (s : State) (f : Fits p s) (q : ℕ) (low : q < linesOf p)
     (legal : persistRule (partsOf s) q ≡ 0) where
-  in-range : q < mostLocations
-  in-range = let w = few-lines p (f .program) in omega arith
+  range : q < mostLocations
+  range = in-range p s f q low
 
   pub persist-there : 0 < queueLen s q
   unfolding persistRule
@@ -105,36 +116,39 @@ module _ (p : Program) (s : State) (f : Fits p s) (q : ℕ) (low : q < linesOf p
 
   -- the oldest entry, the rest, and what becomes of them
   first-fits : (r : List Slot) → queue s q ≡ r → Fits p (persistFirst s q r)
-  unfolding persistFirst
+  unfolding persistFirst settled
   first-fits [] e = f
   first-fits (h ∷ r) e =
       let k : length (queue s q) ≡ suc (length r) = ap length e in
-      let n = fits-queue-long p s f q in-range in
-      let l = homeOf q (h .mark) in
-      let x = wordOr h (wordOf s l) in
-      let d : due p (withWord s l x) ≡ due p s = unfold withWord due unissued in refl in
-      let w = f .few-queued q in-range in
-      let b : AllOf (Borne (p .threads)) (marksOf (h ∷ r))
-      = rw (sym (marks-fit p s f q in-range) ∙ ap marksOf e) at (f .borne q in-range) in
-      fits-queue p _ (fits-word p s f l x) q low r (omega arith) (borne-rest (p .threads) h r b)
+      let n = fits-queue-long p s f q range in
+      let w = f .few-queued q range in
+      let b = queue-borne p s f q low h r e in
+      pick-cases (λ u. Fits p (withQueue u q r)) _ _ s
+      (λ c.
+      let d : due p (withWord s (h .mark) (h .word)) ≡ due p s = unfold withWord due unissued in refl in
+      fits-queue p _ (fits-word p s f (h .mark) (h .word)) q low r (omega arith) (b .1))
+      (λ c. fits-queue p s f q low r (omega arith) (b .1))
 
   first-work : (r : List Slot) → queue s q ≡ r → work p (persistFirst s q r) + 1 ≡ work p s
-  unfolding persistFirst
+  unfolding persistFirst settled
   first-work [] e =
       let k : length (queue s q) ≡ 0 = ap length e in
-      let n = fits-queue-long p s f q in-range in
+      let n = fits-queue-long p s f q range in
       let h = persist-there in
       absurd (omega arith)
   first-work (h ∷ r) e =
       let k : length (queue s q) ≡ suc (length r) = ap length e in
-      let n = fits-queue-long p s f q in-range in
-      let m = fits-queue-within p s f q in-range in
-      let l = homeOf q (h .mark) in
-      let x = wordOr h (wordOf s l) in
+      let n = fits-queue-long p s f q range in
+      let m = fits-queue-within p s f q range in
+      pick-cases (λ u. work p (withQueue u q r) + 1 ≡ work p s) _ _ s
+      (λ c.
+      let l = h .mark in
+      let x = h .word in
       let v = work-word p s f l x in
       let u : queueLen (withWord s l x) q ≡ queueLen s q = unfold withWord in refl in
-      let w = work-queue p (withWord s l x) (fits-word p s f l x) q in-range r (omega arith) in
-      omega arith
+      let w = work-queue p (withWord s l x) (fits-word p s f l x) q range r (omega arith) in
+      omega arith)
+      (λ c. let w = work-queue p s f q range r (omega arith) in omega arith)
 
   pub persist-fits : Fits p (persistOf s q)
   unfolding persistOf

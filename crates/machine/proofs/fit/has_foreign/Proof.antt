@@ -1,9 +1,9 @@
 -- `has_foreign` meets its contract. Assumes nothing.
 use Prim.Native.Nat.{_-_}
 use native.Mathlib.Omega.{arith}
-use lib.Dec.{ltb}
-use borrow.Author.Tests.{lt-ltb, le-ltb}
+use Rattle.cases.proofs.ChoiceLaws.{told}
 use Rattle.machine.specs.View.{marksIn}
+use Rattle.machine.specs.Fit.{foreign}
 use Rattle.machine.proofs.lists.AnyLaws.{AnySoFar, any-of-start, any-of-next, any-of-here, any-of-end}
 use borrow.Author.Needs.{needs}
 use Rattle.machine.proofs.fit.has_foreign.Statement.{statement}
@@ -11,10 +11,10 @@ use Rattle.machine.proofs.fit.has_foreign.Tie as tie
 
 -- the marks still to look at say what the queue's marks say
 abbrev Inv-loop : tie.InvT-loop
-Inv-loop marks lengths threads base n i₀ i = AnySoFar (ltb threads) marks base n i
+Inv-loop p marks lengths q base n i₀ i = AnySoFar (foreign p (q .0)) marks base n i
 
 abbrev μ-loop : tie.MeasureT-loop
-μ-loop marks lengths threads base n i₀ i = n - i
+μ-loop p marks lengths q base n i₀ i = n - i
 
 cast-base : tie.Need-cast-base Inv-loop μ-loop
 cast-base c = search needs
@@ -34,16 +34,20 @@ cast-n-2 c = search needs
 loop-holds : tie.Need-loop-holds Inv-loop μ-loop
 loop-holds c = any-of-start _ _ _ _ (omega arith)
 
-add-if1 : tie.Need-add-if1 Inv-loop μ-loop
-add-if1 c = search needs
+add-is-foreign : tie.Need-add-is-foreign Inv-loop μ-loop
+add-is-foreign c = search needs
 
-element-copy-out-if1 : tie.Need-element-copy-out-if1 Inv-loop μ-loop
-element-copy-out-if1 c = search needs
+element-copy-out-is-foreign : tie.Need-element-copy-out-is-foreign Inv-loop μ-loop
+element-copy-out-is-foreign c = search needs
+
+is-foreign-requires : tie.Need-is-foreign-requires Inv-loop μ-loop
+is-foreign-requires c κs = search needs
 
 returns : tie.Need-returns Inv-loop μ-loop
 unfolding marksIn
 returns c =
-    any-of-here (c .before .before .before .loop .inv) 0 (omega arith) (lt-ltb _ _ (c .if1 .taken))
+    let l = c .before .before .before .before .loop in
+    any-of-here (l .inv) 0 (omega arith) (told _ _ _ (c .before .is-foreign .ensures) (c .if1 .taken))
 
 add-i : tie.Need-add-i Inv-loop μ-loop
 add-i c = search needs
@@ -53,7 +57,8 @@ loop-less c = search needs
 
 loop-again : tie.Need-loop-again Inv-loop μ-loop
 loop-again c =
-    any-of-next (c .before .before .before .loop .inv) 0 (omega arith) (le-ltb _ _ (c .if1 .left))
+    let l = c .before .before .before .before .loop in
+    any-of-next (l .inv) 0 (omega arith) (told _ _ _ (c .before .is-foreign .ensures) (c .if1 .left))
 
 returns-2 : tie.Need-returns-2 Inv-loop μ-loop
 unfolding marksIn
@@ -71,8 +76,9 @@ has-foreign-spec =
     element-copy-out-n
     cast-n-2
     loop-holds
-    add-if1
-    element-copy-out-if1
+    add-is-foreign
+    element-copy-out-is-foreign
+    is-foreign-requires
     returns
     add-i
     loop-less

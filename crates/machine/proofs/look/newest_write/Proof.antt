@@ -6,12 +6,12 @@ use borrow.Author.Needs.{needs}
 use Rattle.machine.proofs.look.newest_write.Statement.{statement}
 use Rattle.machine.proofs.look.newest_write.Tie as tie
 
--- the slots from position i on hold no write
+-- the slots from position i on hold no write of that location
 abbrev Inv-loop : tie.InvT-loop
-Inv-loop held marks lengths other base i₀ i = NewestSoFar held marks base i₀ i
+Inv-loop held marks lengths l other base i₀ i = NewestSoFar (l .0) held marks base i₀ i
 
 abbrev μ-loop : tie.MeasureT-loop
-μ-loop held marks lengths other base i₀ i = i
+μ-loop held marks lengths l other base i₀ i = i
 
 cast-base : tie.Need-cast-base Inv-loop μ-loop
 cast-base c = search needs
@@ -29,7 +29,7 @@ cast-i-2 : tie.Need-cast-i-2 Inv-loop μ-loop
 cast-i-2 c = search needs
 
 loop-holds : tie.Need-loop-holds Inv-loop μ-loop
-loop-holds c = newest-start _ _ _ _ (omega arith) (omega arith)
+loop-holds c = newest-start _ _ _ _ _ (omega arith) (omega arith)
 
 add-at : tie.Need-add-at Inv-loop μ-loop
 add-at c = search needs
@@ -49,8 +49,8 @@ element-copy-out-result c = search needs
 returns : tie.Need-returns Inv-loop μ-loop
 unfolding queueIn marksIn
 returns c =
-    let l = c .before .before .before .before .loop in
-    newest-here _ _ _ _ (omega arith) (omega arith) (l .inv) (omega arith) (c .before .if1 .taken) _
+    let o = c .before .before .before .before .before .loop in
+    newest-here _ _ _ _ _ (omega arith) (omega arith) (o .inv) (omega arith) (c .before .if1 .taken) _
 
 sub-i : tie.Need-sub-i Inv-loop μ-loop
 sub-i c = search needs
@@ -60,8 +60,8 @@ loop-less c = search needs
 
 loop-again : tie.Need-loop-again Inv-loop μ-loop
 loop-again c =
-    let l = c .before .before .before .loop in
-    newest-next _ _ _ _ (omega arith) (omega arith) (l .inv) (omega arith) (c .if1 .left)
+    let o = c .before .before .before .before .loop in
+    newest-next _ _ _ _ _ (omega arith) (omega arith) (o .inv) (omega arith) (c .if1 .left)
 
 returns-2 : tie.Need-returns-2 Inv-loop μ-loop
 unfolding queueIn marksIn
