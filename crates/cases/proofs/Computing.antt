@@ -8,20 +8,21 @@ use Rattle.cases.specs.Record.{asInstruction, asStep, recordOf, openNo, 
 use Rattle.cases.specs.Checks.{kindRank, misplaced, disordered, outside, beyond, leftOver, headerOut}
 use Rattle.cases.specs.Checks.{usesRegister, usesWord, instructionOut, instructionLeft, passedOut}
 use Rattle.cases.specs.Checks.{linesOf, stepOut, stepLeft, faultOf}
-use Rattle.cases.specs.Draft.{emptyCase, withSizes, withFirst, withInstruction, withWant, withPassed}
-use Rattle.cases.specs.Draft.{withStep, withProgram, withAsk, withRun, blankDraft, addOf}
+use Rattle.cases.specs.Lines.{row, ownLines}
+use Rattle.cases.specs.Draft.{emptyCase, withSizes, withHeader, withFirst, withInstruction, withWant}
+use Rattle.cases.specs.Draft.{withPassed, withStep, withProgram, withAsk, withRun, blankDraft, addOf}
 use Rattle.cases.specs.Reading.{refusedOf, endedOf, readFrom, readOf}
 use Rattle.cases.specs.Seats.{headerSeat, firstSeat, instructionSeat, wantSeat, passedSeat, stepSeat}
 use Rattle.cases.specs.Seats.{seatOf, seatBytes, bytesAt, each, encodeOf}
-use Rattle.cases.specs.Writing.{sameList, sameInstruction, sameStep, sameProgram, sameAsk, sameRun}
-use Rattle.cases.specs.Writing.{sameCase, readsAs, readsBack}
+use Rattle.cases.specs.Writing.{sameList, sameInstruction, sameStep, sameSizes, sameProgram, sameAsk}
+use Rattle.cases.specs.Writing.{sameRun, sameCase, readsAs, readsBack}
 
 -- readOf, and what it takes to know a record's fault
 unfoldable pub reading-computes : ℕ
 unfolding pick both either refuse half wordAt payloadOf asHeader asWrite asInstruction asStep recordOf openNo
     sizeOf kindRank misplaced disordered outside beyond leftOver headerOut usesRegister usesWord instructionOut
-    instructionLeft passedOut linesOf stepOut stepLeft faultOf emptyCase withSizes withFirst withInstruction
-    withWant withPassed withStep withProgram withAsk withRun blankDraft addOf refusedOf endedOf readFrom readOf
+    instructionLeft passedOut linesOf stepOut stepLeft faultOf row ownLines emptyCase withSizes
+    withHeader withFirst withInstruction withWant withPassed withStep withProgram withAsk withRun blankDraft addOf refusedOf endedOf readFrom readOf
 reading-computes = 0
 
 -- the bytes of records
@@ -37,6 +38,6 @@ writing-computes = 0
 
 -- readsBack
 unfoldable pub testing-computes : ℕ
-unfolding reading-computes writing-computes sameList sameInstruction sameStep sameProgram sameAsk sameRun
-    sameCase readsAs readsBack
+unfolding reading-computes writing-computes sameList sameInstruction sameStep sameSizes sameProgram sameAsk
+    sameRun sameCase readsAs readsBack
 testing-computes = 0

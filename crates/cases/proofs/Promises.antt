@@ -23,7 +23,7 @@ use Rattle.cases.specs.Checks.{linesOf, limitsOf, stepFault, faultOf}
 use Rattle.cases.specs.Draft.{noStep, emptyCase, runWith, withRun, blankDraft, addOf}
 use Rattle.cases.specs.Reading.{numberOf, offsetOf, refusedOf, readFrom, readOf, unreadOf}
 use Rattle.cases.specs.Seats.{encodeOf, stepsBytes}
-use Rattle.cases.specs.Ranges.{ProgramFits, Ranged}
+use Rattle.cases.specs.Ranges.{ProgramSized, ProgramFits, Ranged}
 use Rattle.cases.specs.Writing.{readsAs, readsBack, wroteOf, writtenOf}
 use Rattle.cases.proofs.ChoiceLaws.{both-true}
 use Rattle.cases.proofs.draft.RecordFitLaws as RecordFitLaws
@@ -133,8 +133,8 @@ read-ranged s h =
     let d = round-trip s .sound h in
     rw (sym (d .3)) at (sound-ranged (d .0) (d .1) (d .2))
 
--- a program with no more than the most locations has no more queues than that
-pub few-lines : (p : Program) → p .locations ≤ mostLocations → linesOf p ≤ mostLocations
+-- a program has no more lines than there may be locations
+pub few-lines : (p : Program) → ProgramSized p → linesOf p ≤ mostLocations
 few-lines = RecordFitLaws.few-lines
 
 -- a thread of a program that fits is one that there may be

@@ -1,9 +1,12 @@
--- A record more (specs/Draft, Checks), and what holds of a draft after each.
+-- A record more (specs/Draft, Checks, Lines), and what holds of a draft after each.
+-- row: a number for each location; own: a line each
+pub mod LineLaws
 -- first, instruction, want, passed, step: a part of the case with one more, same and other
 pub mod WithLaws
 -- count, counted: the counts of instructions; Behind
 pub mod CountLaws
--- draft, seated: a record comes in turn and finds its seat: first, instruction, want, passed, step; rank
+-- draft, seated: a record comes in turn and finds its seat: header, first, instruction, want, passed, step;
+-- rank
 pub mod DraftLaws
 -- RecordFits, SeatFits: record, seat, instruction, step are in range, Grown; field, outside, few-lines
 pub mod RecordFitLaws

@@ -11,7 +11,7 @@
 --   usesLocation, usesRegister, usesWord
 --                    which fields an operation uses
 --   countAt p t      how many instructions thread t of the program p has
---   linesOf p       how many queues the program p has
+--   linesOf p        how many lines the program p has, each with its queue
 --   Limits, limitsOf p
 --                    what a step may name, and what a step of the program p may
 --   faultOf d r      0, or the number of the first fault of record r behind the draft d
@@ -98,11 +98,11 @@ countAt p t = getD (p .counts) t 0
 unfoldable pub passedOut : Program → Thread → ℕ → Bool
 passedOut p t n = either (leb (p .threads) (t .0)) (ltb (countAt p (t .0)) n)
 
--- how many queues a program has: one for each location
+-- how many lines a program has: one queue for each
 unfoldable pub linesOf : Program → ℕ
-linesOf p = p .locations
+linesOf p = p .lines
 
--- what a step may name: so many threads, so many queues
+-- what a step may name: so many threads, so many lines
 pub record Limits : Type 0 where
   pub threads : ℕ
   pub lines : ℕ

@@ -2,6 +2,7 @@
 -- may come next in that kind.
 --   emptyCase    "the fixed empty one: one thread, one location, no further records"
 --   noInstruction, noStep   what stands in an array where the case has nothing
+--   withHeader   the case with what the program's record says: its version, and withSizes
 --   withSizes, withFirst, withInstruction, withWant, withPassed, withStep
 --                a part of the case with what one record says
 --   withProgram, withAsk, withRun   a case with another such part
@@ -26,6 +27,7 @@ use Rattle.cases.specs.declared.record.Header.{Header}
 use Rattle.cases.specs.declared.record.Record.{Record}
 use Rattle.cases.specs.declared.record.Record.the-variants.{Declare, First, Instruct, Want, Passed, Take}
 use Rattle.cases.specs.Sizes.{mostThreads, mostInstructions, mostLocations, mostSteps, allCode}
+use Rattle.cases.specs.Lines.{ownLines}
 use Rattle.cases.specs.Checks.{countAt}
 
 abbrev pub noInstruction : Instruction
@@ -37,9 +39,12 @@ noStep = record { thread = record { 0 = 0 }; code = 0; position = 0; location = 
 unfoldable pub emptyCase : Case
 emptyCase =
     record {
+      version = 1;
       program = record {
         threads = 1;
         locations = 1;
+        lines = 1;
+        line = replicate mostLocations 0;
         first = replicate mostLocations 0;
         counts = replicate mostThreads 0;
         code = replicate allCode noInstruction;
@@ -52,11 +57,14 @@ emptyCase =
       run = record { count = 0; steps = replicate mostSteps noStep };
     }
 
+-- a line each
 unfoldable pub withSizes : Program → Header → Program
 withSizes p h =
     record {
       threads = h .threads;
       locations = h .locations;
+      lines = h .locations;
+      line = ownLines (h .locations);
       first = p .first;
       counts = p .counts;
       code = p .code;
@@ -67,6 +75,8 @@ withFirst p w =
     record {
       threads = p .threads;
       locations = p .locations;
+      lines = p .lines;
+      line = p .line;
       first = set (p .first) (w .location .0) (w .word);
       counts = p .counts;
       code = p .code;
@@ -78,6 +88,8 @@ withInstruction p t x =
     record {
       threads = p .threads;
       locations = p .locations;
+      lines = p .lines;
+      line = p .line;
       first = p .first;
       counts = set (p .counts) (t .0) (countAt p (t .0) + 1);
       code = set (p .code) (t .0 * mostInstructions + countAt p (t .0)) x;
@@ -101,20 +113,23 @@ unfoldable pub runWith : List Step → Run
 runWith ks = record { count = length ks; steps = ks ++ replicate (mostSteps - length ks) noStep }
 
 unfoldable pub withProgram : Case → Program → Case
-withProgram c p = record { program = p; ask = c .ask; run = c .run }
+withProgram c p = record { version = c .version; program = p; ask = c .ask; run = c .run }
 
 unfoldable pub withAsk : Case → Ask → Case
-withAsk c a = record { program = c .program; ask = a; run = c .run }
+withAsk c a = record { version = c .version; program = c .program; ask = a; run = c .run }
 
 unfoldable pub withRun : Case → Run → Case
-withRun c r = record { program = c .program; ask = c .ask; run = r }
+withRun c r = record { version = c .version; program = c .program; ask = c .ask; run = r }
+
+unfoldable pub withHeader : Case → Header → Case
+withHeader c h =
+    record { version = h .version; program = withSizes (c .program) h; ask = c .ask; run = c .run }
 
 unfoldable pub blankDraft : Draft
 blankDraft = record { case = emptyCase; kind = 0; next = 0 }
 
 unfoldable pub addOf : Draft → Record → Draft
-addOf d (Declare h) =
-    record { case = withProgram (d .case) (withSizes (d .case .program) h); kind = 1; next = 0 }
+addOf d (Declare h) = record { case = withHeader (d .case) h; kind = 1; next = 0 }
 addOf d (First w) =
     record {
       case = withProgram (d .case) (withFirst (d .case .program) w);

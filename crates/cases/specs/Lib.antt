@@ -3,6 +3,7 @@ pub mod Sizes
 pub mod Operations
 pub mod Choice
 pub mod Bytes
+pub mod Lines
 pub mod Record
 pub mod Checks
 pub mod Draft

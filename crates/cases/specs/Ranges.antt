@@ -22,11 +22,13 @@ use Rattle.cases.specs.Draft.{noInstruction, noStep}
 
 -- the arrays are as long as their types say, which a list alone doesn't
 pub record ProgramSized (p : Program) : Type 0 where
+  pub line-long : length (p .line) ≡ mostLocations
   pub first-long : length (p .first) ≡ mostLocations
   pub counts-long : length (p .counts) ≡ mostThreads
   pub code-long : length (p .code) ≡ allCode
   pub few-threads : p .threads ≤ mostThreads
   pub few-locations : p .locations ≤ mostLocations
+  pub few-lines : p .lines ≤ mostLocations
   pub few-instructions : (t : ℕ) → countAt p t ≤ mostInstructions
 
 pub record AskSized (a : Ask) : Type 0 where
@@ -44,8 +46,10 @@ pub record InstructionFits (p : Program) (x : Instruction) : Type 0 where
   pub low-location : x .location .0 < p .locations
   pub low-register : x .register .0 < mostRegisters
 
+-- every location that there is room for lies on a line of the program
 pub record ProgramFits (p : Program) : Type 0 where
   pub sized : ProgramSized p
+  pub lines : (l : ℕ) → l < mostLocations → getD (p .line) l 0 < p .lines
   pub instructions : (t i : ℕ) → i < countAt p t
       → (t < p .threads) × InstructionFits p (getD (p .code) (t * mostInstructions + i) noInstruction)
 

@@ -48,8 +48,13 @@ fromSteps = fromPassed + mostThreads
 abbrev pub seats : ℕ
 seats = fromSteps + mostSteps
 
-unfoldable pub headerSeat : Program → Seat
-headerSeat p = Holds (Declare (record { version = 1; threads = p .threads; locations = p .locations }))
+unfoldable pub headerSeat : Case → Seat
+headerSeat c =
+    Holds (Declare (record {
+      version = c .version;
+      threads = c .program .threads;
+      locations = c .program .locations;
+    }))
 
 -- "A location without a kind 2 holds 0"
 unfoldable pub firstSeat : Program → ℕ → Seat
@@ -79,7 +84,7 @@ stepSeat r k = pick (leb (r .count) k) Empty (Holds (Take (getD (r .steps) k noS
 
 unfoldable pub seatOf : Case → ℕ → Seat
 seatOf c k =
-    pick (ltb k fromFirsts) (headerSeat (c .program))
+    pick (ltb k fromFirsts) (headerSeat c)
     (pick (ltb k fromCode) (firstSeat (c .program) (k - fromFirsts))
     (pick (ltb k fromWants) (instructionSeat (c .program) (k - fromCode))
     (pick (ltb k fromPassed) (wantSeat (c .ask) (k - fromWants))

@@ -1,6 +1,6 @@
 -- Document 01, "Refusal numbers": writing, and 32, "a case in memory that no byte string reads as".
 --   wroteNo, wroteLength   the number that an answer stands for, and the length
---   sameList, sameFlag, sameInstruction, sameStep, sameProgram, sameAsk, sameRun, sameCase
+--   sameList, sameFlag, sameInstruction, sameStep, sameSizes, sameProgram, sameAsk, sameRun, sameCase
 --                    the two are the same in every field; sameList by a test of two elements
 --   readsBack c      the case's file reads as the case: 32 where it does not
 --   wroteOf c out    what writing the case into the lent bytes `out` answers
@@ -56,13 +56,20 @@ sameStep x y =
     (both (eqb (x .position) (y .position))
     (eqb (x .location .0) (y .location .0))))
 
-unfoldable pub sameProgram : Program → Program → Bool
-sameProgram p q =
+-- what the program's record says
+unfoldable pub sameSizes : Program → Program → Bool
+sameSizes p q =
     both (eqb (p .threads) (q .threads))
     (both (eqb (p .locations) (q .locations))
+    (both (eqb (p .lines) (q .lines))
+    (sameList eqb (p .line) (q .line))))
+
+unfoldable pub sameProgram : Program → Program → Bool
+sameProgram p q =
+    both (sameSizes p q)
     (both (sameList eqb (p .first) (q .first))
     (both (sameList eqb (p .counts) (q .counts))
-    (sameList sameInstruction (p .code) (q .code)))))
+    (sameList sameInstruction (p .code) (q .code))))
 
 unfoldable pub sameAsk : Ask → Ask → Bool
 sameAsk a b =
@@ -75,9 +82,10 @@ sameRun r s = both (eqb (r .count) (s .count)) (sameList sameStep (r .steps) (s 
 
 unfoldable pub sameCase : Case → Case → Bool
 sameCase c d =
-    both (sameProgram (c .program) (d .program))
+    both (eqb (c .version) (d .version))
+    (both (sameProgram (c .program) (d .program))
     (both (sameAsk (c .ask) (d .ask))
-    (sameRun (c .run) (d .run)))
+    (sameRun (c .run) (d .run))))
 
 -- the bytes s read as the case c
 unfoldable pub readsAs : List ℕ → Case → Bool

@@ -35,10 +35,13 @@ pub struct Step {
     pub location: Location,
 }
 
-// Instruction i of thread t stands at t * INSTRUCTIONS + i; a location without a first content holds 0.
+// Location l lies on line line[l]; behind the program's locations that is 0. Instruction i of thread t stands at
+// t * INSTRUCTIONS + i; a location without a first content holds 0.
 pub struct Program {
     pub threads: u8,
     pub locations: u8,
+    pub lines: u8,
+    pub line: [u8; LOCATIONS],
     pub first: [u32; LOCATIONS],
     pub counts: [u8; THREADS],
     pub code: [Instruction; CODE],
@@ -56,7 +59,9 @@ pub struct Run {
     pub steps: [Step; STEPS],
 }
 
+// The version is the file's alone: no layer above looks at it.
 pub struct Case {
+    pub version: u16,
     pub program: Program,
     pub ask: Ask,
     pub run: Run,

@@ -189,11 +189,11 @@ fn is_passed_out(p: Program, t: Thread, n: u8) -> bool
     count(p, t) < n
 }
 
-// How many queues the program has: a persist names one by its number.
+// How many lines the program has, each with its queue: a persist names one by its number.
 pub fn lines_of(p: Program) -> u8
     ensures { λ r. ⌜ r ≡ linesOf p ⌝ }
 {
-    p.locations
+    p.lines
 }
 
 fn is_step_out(p: Program, k: Step) -> bool

@@ -21,6 +21,7 @@ ghost use Prim.Native.Nat.{_<_, _≤_};
 ghost use Rattle.cases.specs.declared.record.Record.the-variants.{Declare, First, Instruct};
 ghost use Rattle.cases.specs.declared.record.Record.the-variants.{Want, Passed, Take};
 ghost use Rattle.cases.specs.Sizes.{mostThreads, mostInstructions, mostLocations, mostSteps};
+ghost use Rattle.cases.specs.Lines.{ownLines};
 ghost use Rattle.cases.specs.Checks.{countAt, faultOf};
 ghost use Rattle.cases.specs.Draft.{emptyCase, blankDraft, addOf};
 
@@ -49,9 +50,12 @@ pub fn empty_case() -> Case
         location: Location(0),
     };
     Case {
+        version: 1,
         program: Program {
             threads: 1,
             locations: 1,
+            lines: 1,
+            line: [0u8; LOCATIONS],
             first: [0u32; LOCATIONS],
             counts: [0u8; THREADS],
             code: [none; CODE],
@@ -78,15 +82,37 @@ pub(crate) fn blank_draft() -> Draft
     }
 }
 
+// A line each for so many locations.
+fn own_lines(n: u8) -> [u8; LOCATIONS]
+    requires { ⌜ n ≤ mostLocations ⌝ }
+    ensures { λ r. ⌜ r ≡ ownLines n ⌝ }
+{
+    let mut line = [0u8; LOCATIONS];
+    let mut l: u8 = 0;
+    while l < n {
+        line[l as usize] = l;
+        l = l + 1;
+    }
+    line
+}
+
 fn add_header(d: Draft, h: Header) -> Draft
+    requires { ⌜ h .locations ≤ mostLocations ⌝ }
     ensures { λ r. ⌜ r ≡ addOf d (Declare h) ⌝ }
 {
     let c = d.case;
     let mut p = c.program;
     p.threads = h.threads;
     p.locations = h.locations;
+    p.lines = h.locations;
+    let line = own_lines(h.locations);
+    p.line = line;
     Draft {
-        case: Case { program: p, ..c },
+        case: Case {
+            version: h.version,
+            program: p,
+            ..c
+        },
         kind: 1,
         next: 0,
     }

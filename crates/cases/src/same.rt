@@ -16,6 +16,7 @@ ghost use Rattle.cases.specs.Writing.{
   sameFlag,
   sameInstruction,
   sameStep,
+  sameSizes,
   sameProgram,
   sameAsk,
   sameRun,
@@ -23,6 +24,19 @@ ghost use Rattle.cases.specs.Writing.{
 };
 
 fn same_words(a: [u32; LOCATIONS], b: [u32; LOCATIONS]) -> bool
+    ensures { λ r. ⌜ r ≡ sameList eqb a b ⌝ }
+{
+    let mut i: usize = 0;
+    while i < LOCATIONS {
+        if a[i] != b[i] {
+            return false;
+        }
+        i = i + 1;
+    }
+    true
+}
+
+fn same_lines(a: [u8; LOCATIONS], b: [u8; LOCATIONS]) -> bool
     ensures { λ r. ⌜ r ≡ sameList eqb a b ⌝ }
 {
     let mut i: usize = 0;
@@ -129,13 +143,27 @@ fn same_steps(a: [Step; STEPS], b: [Step; STEPS]) -> bool
     true
 }
 
-fn same_program(p: Program, q: Program) -> bool
-    ensures { λ r. ⌜ r ≡ sameProgram p q ⌝ }
+fn same_sizes(p: Program, q: Program) -> bool
+    ensures { λ r. ⌜ r ≡ sameSizes p q ⌝ }
 {
     if p.threads != q.threads {
         return false;
     }
     if p.locations != q.locations {
+        return false;
+    }
+    if p.lines != q.lines {
+        return false;
+    }
+    let x = p.line;
+    let y = q.line;
+    same_lines(x, y)
+}
+
+fn same_program(p: Program, q: Program) -> bool
+    ensures { λ r. ⌜ r ≡ sameProgram p q ⌝ }
+{
+    if !same_sizes(p, q) {
         return false;
     }
     let x = p.first;
@@ -185,6 +213,9 @@ fn same_run(r: Run, s: Run) -> bool
 pub(crate) fn same_case(c: Case, d: Case) -> bool
     ensures { λ r. ⌜ r ≡ sameCase c d ⌝ }
 {
+    if c.version != d.version {
+        return false;
+    }
     let p = c.program;
     let q = d.program;
     if !same_program(p, q) {

@@ -49,11 +49,12 @@ pub enum Seat {
     Empty,
 }
 
-fn header_seat(p: Program) -> Seat
-    ensures { λ r. ⌜ r ≡ headerSeat p ⌝ }
+fn header_seat(c: Case) -> Seat
+    ensures { λ r. ⌜ r ≡ headerSeat c ⌝ }
 {
+    let p = c.program;
     Seat::Holds(Record::Declare(Header {
-        version: 1,
+        version: c.version,
         threads: p.threads,
         locations: p.locations,
     }))
@@ -136,7 +137,7 @@ fn seat_at(c: Case, k: usize) -> Seat
     let p = c.program;
     let a = c.ask;
     if k < FROM_FIRSTS {
-        return header_seat(p);
+        return header_seat(c);
     }
     if k < FROM_CODE {
         return first_seat(p, k - FROM_FIRSTS);

@@ -54,17 +54,20 @@ module _ (d : Draft) (front : ℕ) (s : Sound d front) where
         other = λ j n. seat-same (addOf d (First w) .case) (d .case) j (λ z. refl)
             (λ l z. first-other program w l (λ q. n (omega arith)))
             (λ m z. refl) (λ l z. refl) (λ t z. refl) (λ i z. refl);
-        grown = record { same-threads = refl; same-locations = refl; more = λ t. omega arith };
+        grown = record { same-threads = refl; same-locations = refl; same-lines = refl; more = λ t. omega arith };
         fit = in-range .0;
         sized = record {
           of-program = record {
+            line-long = sized .line-long;
             first-long = simp length-set (sized .first-long);
             counts-long = sized .counts-long;
             code-long = sized .code-long;
             few-threads = sized .few-threads;
             few-locations = sized .few-locations;
+            few-lines = sized .few-lines;
             few-instructions = sized .few-instructions;
           };
+          on-lines = s .sized .on-lines;
           some-threads = s .sized .some-threads;
           some-locations = s .sized .some-locations;
           of-ask = s .sized .of-ask;
@@ -101,17 +104,20 @@ module _ (d : Draft) (front : ℕ) (s : Sound d front) where
         other = λ j n. seat-same (addOf d (Instruct t x) .case) (d .case) j (λ z. refl) (λ l z. refl)
             (λ m z. instruction-other program t x m low (λ q. n (omega arith)))
             (λ l z. refl) (λ u z. refl) (λ i z. refl);
-        grown = record { same-threads = refl; same-locations = refl; more = count-more program t low };
+        grown = record { same-threads = refl; same-locations = refl; same-lines = refl; more = count-more program t low };
         fit = (in-range .0, clean .0);
         sized = record {
           of-program = record {
+            line-long = sized .line-long;
             first-long = sized .first-long;
             counts-long = simp length-set (sized .counts-long);
             code-long = simp length-set (sized .code-long);
             few-threads = sized .few-threads;
             few-locations = sized .few-locations;
+            few-lines = sized .few-lines;
             few-instructions = count-few program t low few (sized .few-instructions);
           };
+          on-lines = s .sized .on-lines;
           some-threads = s .sized .some-threads;
           some-locations = s .sized .some-locations;
           of-ask = s .sized .of-ask;

@@ -4,7 +4,6 @@ use mathlib.Core.Path.{_≡_, refl, ap, _∙_}
 use mathlib.Core.List.{[]}
 use mathlib.Core.Bool.{false}
 use lib.Dec.{leb·zero}
-use borrow.Author.Tests.{eqb-true, not-false}
 use native.Mathlib.Omega.{arith}
 use Rattle.cases.specs.declared.draft.Draft.{Draft}
 use Rattle.cases.specs.declared.record.Header.{Header}
@@ -16,7 +15,8 @@ use Rattle.cases.specs.Sizes.{mostThreads, mostInstructions, mostLocatio
 use Rattle.cases.specs.Choice.{pick, refuse}
 use Rattle.cases.specs.Record.{recordBytes}
 use Rattle.cases.specs.Checks.{misplaced, headerOut, faultOf}
-use Rattle.cases.specs.Draft.{emptyCase, blankDraft, addOf, withProgram, withSizes}
+use Rattle.cases.specs.Lines.{ownLines}
+use Rattle.cases.specs.Draft.{emptyCase, blankDraft, addOf, withHeader, withSizes}
 use Rattle.cases.specs.Seats.{headerSeat, firstSeat, instructionSeat}
 use Rattle.cases.specs.Seats.{wantSeat, passedSeat, stepSeat}
 use Rattle.cases.specs.Seats.{seats, seatOf, seatBytes, bytesAt, encodeOf}
@@ -24,6 +24,7 @@ use Rattle.cases.proofs.ChoiceLaws.{either-false, refuse-none}
 use Rattle.cases.proofs.ArrayLaws.{getD-blank}
 use Rattle.cases.proofs.seats.EachLaws.{each-more, each-none}
 use Rattle.cases.proofs.seats.SeatLaws.{seat-cases, seat-header}
+use Rattle.cases.proofs.draft.LineLaws.{row-long, own-low}
 use Rattle.cases.proofs.draft.RecordFitLaws.{RecordFits, SeatFits, outside-low}
 use Rattle.cases.proofs.draft.SoundLaws.{Sound}
 
@@ -45,13 +46,12 @@ module _ (h : Header) (fit : headerOut h ≡ false) where
 
   -- the program's record stands at its seat, every other seat is empty, and what stands there is in range
   begun-here : seatOf (begun .case) 0 ≡ Holds (Declare h)
-  unfolding addOf withProgram withSizes headerSeat headerOut
+  unfolding addOf withHeader withSizes headerSeat
   begun-here =
-      let v : h .version ≡ 1 = eqb-true (h .version) 1 (not-false _ (either-false _ _ fit .0)) in
-      seat-header (begun .case) 0 refl ∙ rw (← v)
+      seat-header (begun .case) 0 refl
 
   begun-blank : (j : ℕ) → 1 ≤ j → seatOf (begun .case) j ≡ Empty
-  unfolding addOf withProgram withSizes blankDraft emptyCase
+  unfolding addOf withHeader withSizes blankDraft emptyCase
       firstSeat instructionSeat wantSeat passedSeat stepSeat pick
   begun-blank j low =
       seat-cases (λ (x : Seat). x ≡ Empty) (begun .case) j
@@ -77,7 +77,7 @@ module _ (h : Header) (fit : headerOut h ≡ false) where
 
   -- the draft is sound, and the next record comes behind seat 0
   pub begun-sound : Sound begun 1
-  unfolding addOf withProgram withSizes blankDraft emptyCase headerOut
+  unfolding addOf withHeader withSizes blankDraft emptyCase headerOut ownLines
   begun-sound =
       let e = either-false _ _ (either-false _ _ fit .1) in
       let t = outside-low (h .threads) mostThreads (e .0) in
@@ -85,13 +85,16 @@ module _ (h : Header) (fit : headerOut h ≡ false) where
       record {
         sized = record {
           of-program = record {
+            line-long = row-long _ (h .locations);
             first-long = refl;
             counts-long = refl;
             code-long = refl;
             few-threads = t .1;
             few-locations = l .1;
+            few-lines = l .1;
             few-instructions = λ u. omega (arith, getD-blank {A = ℕ} mostThreads u 0);
           };
+          on-lines = λ i low. own-low (h .locations) i (l .0) (l .1);
           some-threads = t .0;
           some-locations = l .0;
           of-ask = record { wanted-long = refl; want-long = refl; passed-long = refl };

@@ -91,7 +91,7 @@ record-are p s some (Passed t n) f =
     (byte (t .0) (omega (arith, leb-false (p .threads) (t .0) (e .0), s .few-threads))
     (byte n (omega (arith, ltb-false (countAt p (t .0)) n (e .1), s .few-instructions (t .0))) none))
 record-are p s some (Take k) f =
-    let i = step-low (limitsOf p) k (s .few-threads) (few-lines p (s .few-locations)) (f .0) (f .1) in
+    let i = step-low (limitsOf p) k (s .few-threads) (few-lines p s) (f .0) (f .1) in
     joined (joined (half-are 4) (half-are 6))
     (byte (k .thread .0) (omega (arith, i .1))
     (byte (k .code) (omega (arith, i .0))

@@ -20,7 +20,8 @@ use Rattle.cases.specs.Choice.{pick, both, either, refuse}
 use Rattle.cases.specs.Record.{kindOf}
 use Rattle.cases.specs.Checks.{kindRank, misplaced, disordered, headerOut, instructionOut, passedOut}
 use Rattle.cases.specs.Checks.{countAt, faultOf}
-use Rattle.cases.specs.Draft.{withSizes, withFirst, withInstruction, withProgram, withAsk, withRun, addOf}
+use Rattle.cases.specs.Draft.{withHeader, withSizes, withFirst, withInstruction, withProgram, withAsk}
+use Rattle.cases.specs.Draft.{withRun, addOf}
 use Rattle.cases.proofs.ChoiceLaws.{either-false, refuse-none}
 use Rattle.cases.proofs.draft.RecordFitLaws.{outside-low}
 
@@ -84,7 +85,7 @@ draft-kind d (Take k) = refl
 
 pub draft-run : (d : Draft) (r : Record) → kindRank (kindOf r) < kindRank 6
     → addOf d r .case .run ≡ d .case .run
-unfolding addOf withProgram withAsk
+unfolding addOf withProgram withAsk withHeader
 draft-run d (Declare h) low = refl
 draft-run d (First w) low = refl
 draft-run d (Instruct t x) low = refl
@@ -93,7 +94,7 @@ draft-run d (Passed t n) low = refl
 draft-run d (Take k) low = absurd (omega arith)
 
 -- a faultless record of the program has at most the most threads and locations
-header-sizes : (d : Draft) (h : Header) → faultOf d (Declare h) ≡ 0
+pub header-sizes : (d : Draft) (h : Header) → faultOf d (Declare h) ≡ 0
     → (h .threads ≤ mostThreads) × (h .locations ≤ mostLocations)
 unfolding faultOf headerOut
 header-sizes d h e =
@@ -151,7 +152,7 @@ module _ (d : Draft) (few : d .case .program .threads ≤ mostThreads)
   pub draft-sizes : (r : Record) → faultOf d r ≡ 0
       → (addOf d r .case .program .threads ≤ mostThreads)
       × (addOf d r .case .program .locations ≤ mostLocations)
-  unfolding addOf withProgram withAsk withRun withSizes withFirst withInstruction
+  unfolding addOf withProgram withAsk withRun withHeader withSizes withFirst withInstruction
   draft-sizes (Declare h) e = header-sizes d h e
   draft-sizes (First w) e = (few, near)
   draft-sizes (Instruct t x) e = (few, near)

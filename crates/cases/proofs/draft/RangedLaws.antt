@@ -103,7 +103,11 @@ module _ (d : Draft) (front : ℕ) (s : Sound d front) where
   pub sound-ranged : Ranged (d .case)
   sound-ranged =
       record {
-        program = record { sized = s .sized .of-program; instructions = instruction-ranged };
+        program = record {
+          sized = s .sized .of-program;
+          lines = s .sized .on-lines;
+          instructions = instruction-ranged;
+        };
         ask = s .sized .of-ask;
         run = s .sized .of-run;
         some-threads = s .sized .some-threads;

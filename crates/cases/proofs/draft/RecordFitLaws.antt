@@ -22,7 +22,7 @@ use Rattle.cases.specs.Choice.{both, either}
 use Rattle.cases.specs.Checks.{outside, beyond, leftOver, countAt, headerOut, instructionOut}
 use Rattle.cases.specs.Checks.{instructionLeft, passedOut, linesOf, Limits, limitsOf, stepOut, stepLeft}
 use Rattle.cases.specs.Checks.{usesLocation, usesRegister}
-use Rattle.cases.specs.Ranges.{InstructionFits}
+use Rattle.cases.specs.Ranges.{InstructionFits, ProgramSized}
 use Rattle.cases.proofs.ChoiceLaws.{either-false}
 use Rattle.cases.specs.Operations.{lastOperation, move, persist, lastCode}
 
@@ -54,21 +54,22 @@ outside-low x most h =
     let e = either-false _ _ h in
     (ltb-false x 1 (e .0), ltb-false most x (e .1))
 
--- a program that has as many threads and locations, and no fewer instructions
+-- a program that has as many threads, locations and lines, and no fewer instructions
 pub record Grown (p q : Program) : Type 0 where
   pub same-threads : q .threads ≡ p .threads
   pub same-locations : q .locations ≡ p .locations
+  pub same-lines : q .lines ≡ p .lines
   pub more : (t : ℕ) → getD (p .counts) t 0 ≤ getD (q .counts) t 0
 
 -- a step of the grown one may name the same
 limits-grown : (p q : Program) → Grown p q → limitsOf q ≡ limitsOf p
 unfolding linesOf
-limits-grown p q g = λ i. record { threads = g .same-threads i; lines = g .same-locations i }
+limits-grown p q g = λ i. record { threads = g .same-threads i; lines = g .same-lines i }
 
--- a program with no more than the most locations has no more queues than that
-pub few-lines : (p : Program) → p .locations ≤ mostLocations → linesOf p ≤ mostLocations
+-- a program has no more lines than there may be locations
+pub few-lines : (p : Program) → ProgramSized p → linesOf p ≤ mostLocations
 unfolding linesOf
-few-lines p h = h
+few-lines p s = s .few-lines
 
 -- what fits a program fits the grown one
 pub record-grown : (p q : Program) → Grown p q → (r : Record) → RecordFits p r → RecordFits q r

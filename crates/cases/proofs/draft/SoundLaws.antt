@@ -14,7 +14,7 @@ use Rattle.cases.specs.declared.draft.Draft.{Draft}
 use Rattle.cases.specs.declared.record.Record.{Record}
 use Rattle.cases.specs.declared.seats.Seat.{Seat}
 use Rattle.cases.specs.declared.seats.Seat.the-variants.{Holds, Empty}
-use Rattle.cases.specs.Sizes.{mostInstructions}
+use Rattle.cases.specs.Sizes.{mostInstructions, mostLocations}
 use Rattle.cases.specs.Record.{recordBytes}
 use Rattle.cases.specs.Checks.{kindRank}
 use Rattle.cases.specs.Draft.{addOf}
@@ -24,9 +24,10 @@ use Rattle.cases.specs.Ranges.{ProgramSized, AskSized, RunSized}
 use Rattle.cases.proofs.seats.EachLaws.{each-more}
 use Rattle.cases.proofs.draft.RecordFitLaws.{RecordFits, SeatFits, Grown, record-grown, seat-grown}
 
--- how long the arrays are, and how much they hold at least and at most
+-- how long the arrays are, how much they hold at least and at most, and that the locations lie on the lines
 pub record SoundSized (c : Case) : Type 0 where
   pub of-program : ProgramSized (c .program)
+  pub on-lines : (l : ℕ) → l < mostLocations → getD (c .program .line) l 0 < c .program .lines
   pub some-threads : 1 ≤ c .program .threads
   pub some-locations : 1 ≤ c .program .locations
   pub of-ask : AskSized (c .ask)

@@ -18,7 +18,7 @@ use Rattle.cases.specs.declared.case.Run.{Run}
 use Rattle.cases.specs.declared.case.Case.{Case}
 use Rattle.cases.specs.Choice.{both}
 use Rattle.cases.specs.Writing.{sameList, sameFlag, sameInstruction, sameStep}
-use Rattle.cases.specs.Writing.{sameProgram, sameAsk, sameRun, sameCase}
+use Rattle.cases.specs.Writing.{sameSizes, sameProgram, sameAsk, sameRun, sameCase}
 use Rattle.cases.proofs.ChoiceLaws.{both-true}
 
 -- a loop has compared the first i of n elements: what is still to compare says what the whole lists say
@@ -109,18 +109,30 @@ step-is x y h =
     λ i. record { thread = record { 0 = p i }; code = q i; position = r i; location = record { 0 = s i } }
 
 program-is : (p q : Program) → sameProgram p q ≡ true → p ≡ q
-unfolding sameProgram
+unfolding sameProgram sameSizes
 program-is p q h =
-    let threads = both-true _ _ h in
+    let sizes = both-true _ _ h in
+    let threads = both-true _ _ (sizes .0) in
     let locations = both-true _ _ (threads .1) in
-    let first = both-true _ _ (locations .1) in
+    let lines = both-true _ _ (locations .1) in
+    let first = both-true _ _ (sizes .1) in
     let counts = both-true _ _ (first .1) in
     let t = eqb-true _ _ (threads .0) in
     let l = eqb-true _ _ (locations .0) in
+    let k = eqb-true _ _ (lines .0) in
+    let r = same-is eqb eqb-true (p .line) (q .line) (lines .1) in
     let f = same-is eqb eqb-true (p .first) (q .first) (first .0) in
     let n = same-is eqb eqb-true (p .counts) (q .counts) (counts .0) in
     let x = same-is sameInstruction instruction-is (p .code) (q .code) (counts .1) in
-    λ i. record { threads = t i; locations = l i; first = f i; counts = n i; code = x i }
+    λ i. record {
+      threads = t i;
+      locations = l i;
+      lines = k i;
+      line = r i;
+      first = f i;
+      counts = n i;
+      code = x i;
+    }
 
 ask-is : (a b : Ask) → sameAsk a b ≡ true → a ≡ b
 unfolding sameAsk
@@ -144,12 +156,14 @@ run-is r s h =
 pub case-is : (c d : Case) → sameCase c d ≡ true → c ≡ d
 unfolding sameCase
 case-is c d h =
-    let program = both-true _ _ h in
+    let version = both-true _ _ h in
+    let program = both-true _ _ (version .1) in
     let ask = both-true _ _ (program .1) in
+    let v = eqb-true _ _ (version .0) in
     let p = program-is _ _ (program .0) in
     let a = ask-is _ _ (ask .0) in
     let r = run-is _ _ (ask .1) in
-    λ i. record { program = p i; ask = a i; run = r i }
+    λ i. record { version = v i; program = p i; ask = a i; run = r i }
 
 -- and the test calls each thing the same as itself
 same-self : {A : Type 0} (e : A → A → Bool) → ((x : A) → e x x ≡ true) → (a : List A) → sameList e a a ≡ true
@@ -173,7 +187,7 @@ unfolding sameStep both
 step-self x = simp number-self
 
 program-self : (p : Program) → sameProgram p p ≡ true
-unfolding sameProgram both
+unfolding sameProgram sameSizes both
 program-self p = simp (number-self, same-self eqb number-self, same-self sameInstruction instruction-self)
 
 ask-self : (a : Ask) → sameAsk a a ≡ true
@@ -187,4 +201,4 @@ run-self r = simp (number-self, same-self sameStep step-self)
 -- so a case is the same as itself
 pub case-self : (c : Case) → sameCase c c ≡ true
 unfolding sameCase both
-case-self c = simp (program-self, ask-self, run-self)
+case-self c = simp (number-self, program-self, ask-self, run-self)

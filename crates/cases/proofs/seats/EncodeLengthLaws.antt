@@ -54,14 +54,14 @@ step-width : (r : Run) (k : ℕ) → Within (stepSeat r k) 8
 unfolding stepSeat seatBytes recordBytes payloadBytes halfBytes
 step-width r k = pick-cases (λ (x : Seat). Within x 8) _ _ _ (λ e. omega arith) (λ e. omega arith)
 
-header-width : (p : Program) → Within (headerSeat p) 8
+header-width : (c : Case) → Within (headerSeat c) 8
 unfolding headerSeat seatBytes recordBytes payloadBytes halfBytes
-header-width p = omega arith
+header-width c = omega arith
 
 seat-width : (c : Case) (k : ℕ) → length (bytesAt c k) ≤ width k
 unfolding bytesAt seatOf width
 seat-width c k =
-    pick-pair Within (ltb k fromFirsts) _ _ _ _ (header-width (c .program))
+    pick-pair Within (ltb k fromFirsts) _ _ _ _ (header-width c)
     (pick-pair Within (ltb k fromCode) _ _ _ _ (first-width (c .program) (k - fromFirsts))
     (pick-pair Within (ltb k fromWants) _ _ _ _ (instruction-width (c .program) (k - fromCode))
     (pick-pair Within (ltb k fromPassed) _ _ _ _ (want-width (c .ask) (k - fromWants))

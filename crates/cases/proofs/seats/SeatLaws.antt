@@ -15,7 +15,7 @@ use Rattle.cases.proofs.ChoiceLaws.{pick-cases}
 
 -- seatOf: the seats of each kind
 module _ (c : Case) (k : ℕ) where
-  pub seat-header : k ≡ 0 → seatOf c k ≡ headerSeat (c .program)
+  pub seat-header : k ≡ 0 → seatOf c k ≡ headerSeat c
   unfolding seatOf pick
   seat-header e = rw e
 
@@ -77,7 +77,7 @@ module _ (c : Case) (k : ℕ) where
 
 -- what holds of each part at a seat holds of what stands there
 pub seat-cases {ℓ} : (P : Seat → Type ℓ) (c : Case) (j : ℕ)
-    → (j ≡ 0 → P (headerSeat (c .program)))
+    → (j ≡ 0 → P (headerSeat c))
     → ((l : ℕ) → j ≡ fromFirsts + l → l < mostLocations → P (firstSeat (c .program) l))
     → ((m : ℕ) → j ≡ fromCode + m → m < allCode → P (instructionSeat (c .program) m))
     → ((l : ℕ) → j ≡ fromWants + l → l < mostLocations → P (wantSeat (c .ask) l))
@@ -100,7 +100,7 @@ seat-cases P c j header first code want passed steps =
 
 -- two cases have the same at a seat, if the part that it belongs to has
 pub seat-same : (c d : Case) (j : ℕ)
-    → (j ≡ 0 → headerSeat (c .program) ≡ headerSeat (d .program))
+    → (j ≡ 0 → headerSeat c ≡ headerSeat d)
     → ((l : ℕ) → j ≡ fromFirsts + l → firstSeat (c .program) l ≡ firstSeat (d .program) l)
     → ((m : ℕ) → j ≡ fromCode + m → instructionSeat (c .program) m ≡ instructionSeat (d .program) m)
     → ((l : ℕ) → j ≡ fromWants + l → wantSeat (c .ask) l ≡ wantSeat (d .ask) l)

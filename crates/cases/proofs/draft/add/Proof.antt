@@ -1,6 +1,6 @@
 -- `add` meets its contract: a faultless record of each kind finds its seat. Assumes nothing.
 use Rattle.cases.proofs.draft.DraftLaws.{first-seated, instruction-seated, want-seated, passed-seated}
-use Rattle.cases.proofs.draft.DraftLaws.{step-seated}
+use Rattle.cases.proofs.draft.DraftLaws.{step-seated, header-sizes}
 use borrow.Author.Needs.{needs}
 use Rattle.cases.proofs.draft.add.Statement.{statement}
 use Rattle.cases.proofs.draft.add.Tie as tie
@@ -9,7 +9,9 @@ enum-known-r : tie.Need-enum-known-r
 enum-known-r c = search needs
 
 add-header-requires : tie.Need-add-header-requires
-add-header-requires c κs = search needs
+add-header-requires c κs =
+    let a = c .before .before .before in
+    header-sizes (a .args .d) _ (rw (c .before .r .given .1) at (a .pre .2)) .1
 
 enum-known-r-2 : tie.Need-enum-known-r-2
 enum-known-r-2 c = search needs

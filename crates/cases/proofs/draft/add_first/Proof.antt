@@ -14,12 +14,12 @@ mul-p c = search needs
 element-write-p : tie.Need-element-write-p
 element-write-p c = search needs
 
-add-t14 : tie.Need-add-t14
-add-t14 c = search needs
+add-t15 : tie.Need-add-t15
+add-t15 c = search needs
 
 returns : tie.Need-returns
 unfolding addOf withProgram withFirst
 returns c = refl
 
 pub add-first-spec : {M : Type 1} → statement M
-add-first-spec = tie.close (tie.spec cast-p mul-p element-write-p add-t14 returns)
+add-first-spec = tie.close (tie.spec cast-p mul-p element-write-p add-t15 returns)

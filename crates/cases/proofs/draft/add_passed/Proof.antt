@@ -11,12 +11,12 @@ cast-a c = search needs
 element-write-a : tie.Need-element-write-a
 element-write-a c = search needs
 
-add-t13 : tie.Need-add-t13
-add-t13 c = search needs
+add-t14 : tie.Need-add-t14
+add-t14 c = search needs
 
 returns : tie.Need-returns
 unfolding addOf withAsk withPassed
 returns c = refl
 
 pub add-passed-spec : {M : Type 1} → statement M
-add-passed-spec = tie.close (tie.spec cast-a element-write-a add-t13 returns)
+add-passed-spec = tie.close (tie.spec cast-a element-write-a add-t14 returns)

@@ -20,8 +20,8 @@ mul-a c = search needs
 element-write-a-2 : tie.Need-element-write-a-2
 element-write-a-2 c = search needs
 
-add-t16 : tie.Need-add-t16
-add-t16 c = search needs
+add-t17 : tie.Need-add-t17
+add-t17 c = search needs
 
 returns : tie.Need-returns
 unfolding addOf withAsk withWant
@@ -29,4 +29,4 @@ returns c = refl
 
 pub add-want-spec : {M : Type 1} → statement M
 add-want-spec =
-    tie.close (tie.spec cast-a element-write-a cast-a-2 mul-a element-write-a-2 add-t16 returns)
+    tie.close (tie.spec cast-a element-write-a cast-a-2 mul-a element-write-a-2 add-t17 returns)
