@@ -5,8 +5,7 @@ pub mod LineLaws
 pub mod WithLaws
 -- count, counted: the counts of instructions; Behind
 pub mod CountLaws
--- draft, seated: a record comes in turn and finds its seat: header, first, instruction, want, passed, step;
--- rank
+-- draft, seated: a record comes in turn, finds its seat: header, first, instruction, want, passed, step; rank
 pub mod DraftLaws
 -- RecordFits, SeatFits: record, seat, instruction, step are in range, Grown; field, outside, few-lines
 pub mod RecordFitLaws
