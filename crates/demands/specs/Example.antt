@@ -13,6 +13,7 @@ use Rattle.cases.specs.declared.case.Instruction.{Instruction}
 use Rattle.cases.specs.declared.case.Case.{Case}
 use Rattle.cases.specs.Sizes.{mostThreads, mostInstructions, mostLocations, allCode}
 use Rattle.cases.specs.Operations.{storeWord}
+use Rattle.cases.specs.Lines.{ownLines}
 use Rattle.cases.specs.Draft.{noInstruction, emptyCase}
 
 -- store word w to location l
@@ -24,9 +25,12 @@ unfoldable pub example : Case
 unfolding emptyCase
 example =
     record {
+      version = 1;
       program = record {
         threads = 2;
         locations = 3;
+        lines = 3;
+        line = ownLines 3;
         first = replicate mostLocations 0;
         counts = 2 ∷ 1 ∷ replicate (mostThreads - 2) 0;
         code = storing 0 500 ∷ storing 1 1 ∷ replicate (mostInstructions - 2) noInstruction
@@ -40,9 +44,12 @@ unfoldable pub threadless : Case
 unfolding emptyCase
 threadless =
     record {
+      version = 1;
       program = record {
         threads = 0;
         locations = 1;
+        lines = 1;
+        line = emptyCase .program .line;
         first = emptyCase .program .first;
         counts = emptyCase .program .counts;
         code = emptyCase .program .code;

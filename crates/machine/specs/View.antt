@@ -74,7 +74,7 @@ marksOf (h ∷ q) = h .mark ∷ marksOf q
 -- Queues
 -- "There is one queue per line": which line a location lies on
 unfoldable pub lineOf : Program → ℕ → ℕ
-lineOf p l = l
+lineOf p l = getD (p .line) l 0
 
 abbrev pub queueLen : State → ℕ → ℕ
 queueLen s q = getD (s .lengths) q 0

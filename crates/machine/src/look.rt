@@ -28,11 +28,16 @@ pub enum Found {
     Nothing,
 }
 
-// The line that a location lies on: its own, whatever the program.
+// The line that a location lies on; 0 for a location that no program has, so that nobody needs to ask first.
 pub(crate) fn line_of(p: Program, l: Location) -> Line
     ensures { λ r. ⌜ r .0 ≡ lineOf p (l .0) ⌝ }
 {
-    Line(l.0)
+    let at = l.0 as usize;
+    if LOCATIONS <= at {
+        return Line(0);
+    }
+    let q = p;
+    Line(q.line[at])
 }
 
 // The newest write of a location in a line's queue, else the word given: the first one found from its end.

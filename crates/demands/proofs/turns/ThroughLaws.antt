@@ -189,13 +189,13 @@ module _ (p : Program) (registers : List ℕ) (t : ℕ) (low : t < p .threads) (
   unfolding carried joins exchanges enters isBarrier entryOf both either pick
   behind =
       each-operation Behind
-      (λ b q. (_, refl, through-queued p v t low _ (waits _ b q) own (writeSlot w) own-there (λ k. refl)))
+      (λ b q. (_, refl, through-queued p v t low _ (waits _ b q) own (writeSlot (l .0) w) own-there (λ k. refl)))
       (λ b q. (_, refl, through-queued p v t low _ (waits _ b q) own _ own-there (λ k. refl)))
       (λ b q. ([], refl, through-none p v (quiet b q)))
       (λ b q. (
         _,
         refl,
-        through-persist p v own (writeSlot w) own-there
+        through-persist p v own (writeSlot (l .0) w) own-there
             (record { fit = fit; buffers = empty b; queues = q }),
       ))
       (λ b q. (_, refl, through-left p v t low _ (waits _ b q) (λ k. refl)))

@@ -45,10 +45,13 @@ sub-n c = search needs
 cast-n : tie.Need-cast-n Inv-loop μ-loop
 cast-n c = search needs
 
+-- as many instructions as their array is long
+sized : (o : tie.Start Inv-loop μ-loop) → length (o .args .p .code) ≡ allCode
+sized o = search unmapped
+
 loop-holds : tie.Need-loop-holds Inv-loop μ-loop
 loop-holds c =
-    let o = c .before .before .before in
-    let k : length (o .args .p .code) ≡ allCode = search unmapped in
+    let k = sized (c .before .before .before) in
     (omega arith, weigh-start _ _ _ _ _ (omega arith))
 
 add-x : tie.Need-add-x Inv-loop μ-loop
