@@ -1,5 +1,6 @@
 -- The words that the demands add to those of the layers.
 pub mod Order
 pub mod Writes
+pub mod Entered
 pub mod Carried
 pub mod Example

@@ -24,7 +24,7 @@ use Rattle.machine.specs.Ptso.{ptso}
 use Rattle.demands.specs.Writes.{writes, fixedFrom, fixedOf, LastWrite, Unwritten, Alone}
 use Rattle.demands.proofs.writes.LastLaws.{Settles}
 use Rattle.machine.specs.Joins.{lastOr}
-use Rattle.demands.proofs.writes.StoresLaws.{storesOf, fixesFrom}
+use Rattle.demands.proofs.writes.StoresLaws.{gathered, fixesFrom}
 use Rattle.demands.proofs.writes.ComingLaws.{coming}
 use Rattle.demands.proofs.writes.SettleLaws.{newest, run-settles, run-keeps}
 use Rattle.demands.proofs.writes.LastWriteLaws.{NoWriteFrom, LastWriteFrom, last-or-none, fixes-last}
@@ -39,7 +39,7 @@ module _ (p : Program) (fits : ProgramFits p) where
   -- where nothing waits in a thread's buffer and it has issued nothing, all it has to come is in its program
   pub unissued-coming : (s : State) (ks : List Step) (l t : ℕ) → buffer s t ≡ [] → issuedOf s t ≡ 0
       → coming p s ks l t ≡ fixesFrom p t l (fixedFrom p s ks t) 0 (countAt p t)
-  unfolding coming storesOf
+  unfolding coming gathered
   unissued-coming s ks l t b e = let n : countAt p t - 0 ≡ countAt p t = omega arith in rw (b, e, n) refl
 
   start-coming : (ks : List Step) (l t : ℕ)

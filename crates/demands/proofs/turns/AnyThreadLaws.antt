@@ -20,7 +20,7 @@ use Rattle.demands.specs.Writes.{fixedFrom, fixedOf, Writer, LastWrite}
 use Rattle.demands.specs.Carried.{carriedAll, othersFrom, lastRun}
 use Rattle.demands.proofs.writes.LastLaws.{Settles}
 use Rattle.machine.specs.Joins.{lastOr}
-use Rattle.demands.proofs.writes.StoresLaws.{storesOf, fixesFrom}
+use Rattle.demands.proofs.writes.StoresLaws.{gathered, fixesFrom}
 use Rattle.demands.proofs.writes.ComingLaws.{coming}
 use Rattle.demands.proofs.writes.SettleLaws.{Done, newest, run-settles}
 use Rattle.demands.proofs.writes.LastWriteLaws.{fixes-last, fixes-unwritten, writer-last, last-one}
@@ -72,7 +72,7 @@ module _ (p : Program) (fits : ProgramFits p) where
 
     -- the other threads have nothing to come, so that what stands there is t's
     others-none : (k : ℕ) → k < p .threads → k ≢ t → coming p middle (carriedAll p t) l k ≡ []
-    unfolding coming storesOf fixesFrom
+    unfolding coming gathered fixesFrom
     others-none k h e =
         let n : countAt p k - issuedOf middle k ≡ 0 = let m = first .3 .past k h e in omega arith in
         rw (first .3 .quiet .buffers k h, n) refl

@@ -20,7 +20,7 @@ use Rattle.machine.specs.Next.{moveStep, persistStep}
 use Rattle.machine.proofs.Effects.{move-within, move-first-or, move-issued, move-buffer, move-buffer-other}
 use Rattle.machine.proofs.Effects.{move-words, move-word, persist-issued, persist-buffer, persist-words}
 use Rattle.demands.specs.Writes.{issuesAt, fixedFrom}
-use Rattle.demands.proofs.writes.StoresLaws.{storesOf, fixesFrom, stores-without, fixes-same}
+use Rattle.demands.proofs.writes.StoresLaws.{storesOf, fixesFrom, gathered-without, fixes-same}
 use Rattle.demands.proofs.fixed.IssuesLaws.{fixed-next, move-issues, persist-issues}
 use Rattle.cases.proofs.Promises.{thread-low}
 
@@ -105,7 +105,7 @@ module _ (p : Program) (s : State) (f : Fits p s) (ks : List Step) (l : ℕ) (th
               coming-taken p s (moveStep t i) ks l t (storeOf l (entryAt (buffer s t) i)) (move-issues s t i t)
               (move-issued p s f t i low legal t)
               (rw (move-buffer p s f t i low legal)
-              (stores-without l (buffer s t) i (move-within p s f t i low legal) first-or));
+              (gathered-without (storeOf l) (buffer s t) i (move-within p s f t i low legal) first-or));
           other = λ k h n.
               coming-taken p s (moveStep t i) ks l k [] (move-issues s t i k)
               (move-issued p s f t i low legal k)

@@ -14,13 +14,13 @@ use Rattle.cases.specs.Operations.{exchange}
 use Rattle.machine.specs.declared.cells.State.{State}
 use Rattle.machine.specs.View.{buffer, issuedOf}
 use Rattle.machine.specs.Rules.{instructionAt, ruleOf, nextOf}
-use Rattle.machine.specs.Joins.{joins, swapOf, lastOr}
+use Rattle.machine.specs.Joins.{joins, storeOf, swapOf, lastOr}
 use Rattle.machine.specs.Fit.{Fits}
 use Rattle.machine.specs.Next.{issueStep, moveStep, persistStep}
 use Rattle.machine.proofs.Effects.{step-kinds, issue-left, issue-issued, issue-issued-other, issue-buffer}
 use Rattle.machine.proofs.Effects.{issue-buffer-other, issue-words, issue-word, exchange-alone}
 use Rattle.demands.specs.Writes.{fixedFrom}
-use Rattle.demands.proofs.writes.StoresLaws.{storesOf, fixesFrom, stores-append, fixes-same}
+use Rattle.demands.proofs.writes.StoresLaws.{storesOf, fixesFrom, gathered, gathered-append, fixes-same}
 use Rattle.demands.proofs.writes.StoresLaws.{stores-split, stores-apart}
 use Rattle.demands.proofs.fixed.IssuesLaws.{fixed-here, fixed-next, issues-here, issues-later}
 use Rattle.demands.proofs.fixed.IssuesLaws.{issues-other}
@@ -69,7 +69,7 @@ module _ (p : Program) (s : State) (f : Fits p s) (ks : List Step) (l : ℕ) (th
 
     alone : ((storesOf l (buffer s t) ≡ []) × (storesOf l (joins (s .registers) t next) ≡ []))
         ⊎ (swapOf l next ≡ [])
-    unfolding storesOf
+    unfolding gathered
     alone =
         go (stores-apart s t l (next .location) (next .register) (next .word) (next .operation)
         (fits .some-operation) (fits .low-operation))
@@ -91,7 +91,7 @@ module _ (p : Program) (s : State) (f : Fits p s) (ks : List Step) (l : ℕ) (th
           queued = sym (issue-words p s f t low legal l there);
           kept = issue-word p s f t low legal l;
           here =
-              rw (fixes-next, issue-buffer p s f t low legal, stores-append l (buffer s t))
+              rw (fixes-next, issue-buffer p s f t low legal, gathered-append (storeOf l) (buffer s t))
               (swap (storesOf l (buffer s t)) _ _ _ alone);
           other = λ k h n.
               coming-taken p s (issueStep t) ks l k [] (λ i. issues-other s t k i (λ e. n (sym e)))

@@ -18,7 +18,7 @@ use Rattle.machine.specs.Ptso.{ptso}
 use Rattle.machine.proofs.Promises.{step-fits, line-there}
 use Rattle.demands.proofs.writes.LastLaws.{last-append, append-empty, cons-some, Settles, settles-before}
 use Rattle.machine.specs.Joins.{lastOr, onWay, writesOf}
-use Rattle.demands.proofs.writes.StoresLaws.{storesOf, fixesFrom}
+use Rattle.demands.proofs.writes.StoresLaws.{gathered, fixesFrom}
 use Rattle.demands.proofs.writes.ComingLaws.{coming, Passing}
 use Rattle.demands.proofs.writes.PassingLaws.{step-passing}
 
@@ -46,7 +46,7 @@ module _ (p : Program) (l : ℕ) (low : l < p .locations) where
   -- where all is done, what is there stays
   done-settles : (u : State) → ProgramFits p → Done p u
       → Settles (p .threads) (coming p u [] l) (newest p u l) (wordOf u l)
-  unfolding Settles newest coming onWay writesOf storesOf lastOr fixesFrom
+  unfolding Settles newest coming onWay writesOf gathered lastOr fixesFrom
   done-settles u g d =
       inl (
         (λ t h.

@@ -15,15 +15,20 @@ use Rattle.cases.specs.Choice.{pick, both, either}
 use Rattle.cases.specs.Operations.{lastOperation, firstOperation, exchange}
 use Rattle.machine.specs.declared.cells.State.{State}
 use Rattle.machine.specs.declared.cells.Waiting.{Waiting}
+use Rattle.machine.specs.declared.cells.Entry.{Entry}
 use Rattle.machine.specs.View.{without, registerIn}
 use Rattle.machine.specs.Rules.{instructionAt, entryAt, entryOf, isBarrier}
 use Rattle.machine.specs.Joins.{joins, onlyIf, storeOf, swapOf}
 use Rattle.machine.proofs.OperationLaws.{each-operation, of}
 use Rattle.demands.specs.Writes.{isWrite, writes, fixedBy}
 
-unfoldable pub storesOf : ℕ → List Waiting → List ℕ
-storesOf l [] = []
-storesOf l (w ∷ b) = storeOf l (w .entry) ++ storesOf l b
+-- what f says of each entry that waits, joined
+unfoldable pub gathered : {A : Type 0} → (Entry → List A) → List Waiting → List A
+gathered f [] = []
+gathered f (w ∷ b) = f (w .entry) ++ gathered f b
+
+abbrev pub storesOf : ℕ → List Waiting → List ℕ
+storesOf l b = gathered (storeOf l) b
 
 -- the n instructions of thread t from the i-th on, where instruction j fixes the word f j
 unfoldable pub fixesFrom : Program → ℕ → ℕ → (ℕ → ℕ) → ℕ → ℕ → List ℕ
@@ -31,23 +36,24 @@ fixesFrom p t l f i zero = []
 fixesFrom p t l f i (suc n) = onlyIf (writes (instructionAt p t i) l) (f i) ++ fixesFrom p t l f (suc i) n
 
 -- one behind another
-pub stores-append : (l : ℕ) (b c : List Waiting) → storesOf l (b ++ c) ≡ storesOf l b ++ storesOf l c
-unfolding storesOf
-stores-append l [] c = refl
-stores-append l (w ∷ b) c =
-    rw (stores-append l b c) (sym (append-assoc (storeOf l (w .entry)) (storesOf l b) (storesOf l c)))
+pub gathered-append : {A : Type 0} (f : Entry → List A) (b c : List Waiting)
+    → gathered f (b ++ c) ≡ gathered f b ++ gathered f c
+unfolding gathered
+gathered-append f [] c = refl
+gathered-append f (w ∷ b) c =
+    rw (gathered-append f b c) (sym (append-assoc (f (w .entry)) (gathered f b) (gathered f c)))
 
--- an entry taken out that is the first, or no store to l
-pub stores-without : (l : ℕ) (b : List Waiting) (i : ℕ) → i < length b
-    → (i ≡ 0) ⊎ (storeOf l (entryAt b i) ≡ [])
-    → storesOf l b ≡ storeOf l (entryAt b i) ++ storesOf l (without i b)
-unfolding storesOf without
-stores-without l [] i h o = absurd (omega arith)
-stores-without l (w ∷ b) zero h o = refl
-stores-without l (w ∷ b) (suc i) h (inl e) = absurd (omega arith)
-stores-without l (w ∷ b) (suc i) h (inr e) =
-    let r = stores-without l b i (omega arith) (inr e) in
-    rw (add-one, e) (ap (λ x. storeOf l (w .entry) ++ x) (rw (e, add-one) at r))
+-- an entry taken out that is the first, or one of which nothing is said
+pub gathered-without : {A : Type 0} (f : Entry → List A) (b : List Waiting) (i : ℕ) → i < length b
+    → (i ≡ 0) ⊎ (f (entryAt b i) ≡ [])
+    → gathered f b ≡ f (entryAt b i) ++ gathered f (without i b)
+unfolding gathered without
+gathered-without f [] i h o = absurd (omega arith)
+gathered-without f (w ∷ b) zero h o = refl
+gathered-without f (w ∷ b) (suc i) h (inl e) = absurd (omega arith)
+gathered-without f (w ∷ b) (suc i) h (inr e) =
+    let r = gathered-without f b i (omega arith) (inr e) in
+    rw (add-one, e) (ap (λ x. f (w .entry) ++ x) (rw (e, add-one) at r))
 
 -- words that are the same to the last
 pub fixes-same : (p : Program) (t l : ℕ) (f g : ℕ → ℕ) (i n : ℕ) → ((j : ℕ) → i ≤ j → f j ≡ g j)
@@ -67,7 +73,7 @@ module _ (s : State) (t l : ℕ) (m : Location) (r : Register) (w : ℕ) where
   stored v = sym (append-nil (onlyIf (eqb (m .0) l) v ++ []) ∙ append-nil (onlyIf (eqb (m .0) l) v))
 
   pub stores-split : (op : ℕ) → firstOperation ≤ op → op ≤ lastOperation → Splits op
-  unfolding writes isWrite both either fixedBy joins isBarrier swapOf entryOf storesOf storeOf onlyIf pick
+  unfolding writes isWrite both either fixedBy joins isBarrier swapOf entryOf gathered storeOf onlyIf pick
   stores-split =
       each-operation Splits
       (stored w)
