@@ -28,8 +28,9 @@ extern "C" {
 
 enum {
     /* The longest case file; a longer input is refused. */
-    GARLUVENI_CASE_BYTES = 1328,
-    /* A step as it is stored: a record of kind 6, that is 4, 0, 6, 0, thread, code, position, location. */
+    GARLUVENI_CASE_BYTES = 1336,
+    /* A step as it is stored: a record of kind 6, that is 4, 0, 6, 0, thread, code, position, location. A
+     * persist names a cache line there; in a case of version 1 that is the location's number. */
     GARLUVENI_STEP_BYTES = 8,
     /* No run is longer than its program's full length, and no full length is above this. */
     GARLUVENI_STEPS = 96,
@@ -42,12 +43,12 @@ enum garluveni_answers {
     /* Reading refusals; the place is the offset of the faulty record. */
     GARLUVENI_CUT = 1,         /* fewer than 4 bytes where a record must start, or payload cut */
     GARLUVENI_KIND = 2,        /* kind not 1 to 6 */
-    GARLUVENI_LENGTH = 3,      /* length not the one for that kind */
+    GARLUVENI_LENGTH = 3,      /* length not the one for that kind, or for that version and count of locations */
     GARLUVENI_ORDER = 4,       /* first record not kind 1, kind 1 again, or a kind lower than the one before */
     GARLUVENI_RANGE = 5,       /* a field out of range */
     GARLUVENI_RISING = 6,      /* rising or not-falling order broken */
     GARLUVENI_INSTRUCTION = 7, /* ninth instruction of a thread */
-    GARLUVENI_UNUSED = 8,      /* unused field not 0; a first content of 0; a passed count of 0 */
+    GARLUVENI_UNUSED = 8,      /* unused field not 0; a first content of 0; a passed count of 0; lines out of order */
     GARLUVENI_STEP = 9,        /* ninety-seventh step record */
 
     /* Rules of the machine, from the judge; the place is the index of the first illegal step, from 0. */
@@ -57,9 +58,9 @@ enum garluveni_answers {
     GARLUVENI_NO_ENTRY = 24,          /* move: no entry at the position */
     GARLUVENI_NOT_FIRST = 25,         /* move: behind position 0, and not a flush-opt */
     GARLUVENI_BARRED = 26,            /* move: a flush-opt behind an entry that it may not pass */
-    GARLUVENI_QUEUE_NOT_EMPTY = 27,   /* move of a flush: its location's queue is not empty */
+    GARLUVENI_QUEUE_NOT_EMPTY = 27,   /* move of a flush: its line's queue is not empty */
     GARLUVENI_MARKER_LEFT = 28,       /* move of an sfence: a marker of the thread is in a queue */
-    GARLUVENI_QUEUE_EMPTY = 29,       /* persist: the location's queue is empty */
+    GARLUVENI_QUEUE_EMPTY = 29,       /* persist: the line's queue is empty */
 
     /* From the question alone. */
     GARLUVENI_SHORT = 31,        /* 'steps' is shorter than 8 bytes times the program's full length */
