@@ -15,6 +15,7 @@ pub enum What {
     TooLong(String),
     RegisterName(String),
     NamedTwice(String),
+    OnLineAlready(String, usize),
     Again(&'static str, usize),
     AgainOf(&'static str, String, usize),
     NoLocations,
@@ -22,6 +23,7 @@ pub enum What {
     NextThread(usize),
     NoSuchThread(String, usize),
     NoSuchNumber(String, usize),
+    NoSuchLine(String, usize),
     Outside(&'static str),
     MostLocations,
     MostThreads,
@@ -75,6 +77,10 @@ impl fmt::Display for What {
             What::TooLong(name) => write!(out, "the name '{name}' is longer than 24 characters"),
             What::RegisterName(name) => write!(out, "'{name}' is a register and names no location"),
             What::NamedTwice(name) => write!(out, "'{name}' is named twice"),
+            What::OnLineAlready(name, line) => write!(
+                out,
+                "'{name}' has its cache line already, on line {line}: name all that share it there"
+            ),
             What::Again(word, line) => write!(out, "'{word}' is there already, on line {line}"),
             What::AgainOf(word, of, line) => {
                 write!(out, "'{word} {of}' is there already, on line {line}")
@@ -102,6 +108,10 @@ impl What {
             What::NoSuchNumber(name, last) => write!(
                 out,
                 "there is no location {name}: the last is number {last}"
+            ),
+            What::NoSuchLine(name, last) => write!(
+                out,
+                "there is no cache line {name}: the last is number {last}"
             ),
             What::Outside("run") => write!(out, "expected 'run' before a step"),
             What::Outside(_) => write!(out, "expected 'thread' before an instruction"),

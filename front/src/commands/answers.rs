@@ -68,7 +68,7 @@ pub fn say_unfit(file: &File, unfit: &Unfit) {
 }
 
 pub fn say_refused(given: &Given, outcome: Option<&Outcome>) {
-    if let Some(Outcome::Refused { number, offset }) = outcome {
-        output::say(&report::refused(&given.file, *number, *offset));
+    if let Some(Outcome::Refused(refused)) = outcome {
+        output::say(&report::refused(&given.file, refused));
     }
 }

@@ -51,9 +51,7 @@ fn json_line<'a>(
     match (read, outcome) {
         (Err(Unfit::Mistakes(mistakes)), _) => objects::bad_text(&file, command, mistakes),
         (Err(Unfit::Unread(trouble)), _) => objects::unread(&file, command, &trouble.to_string()),
-        (_, Some(Outcome::Refused { number, offset })) => {
-            objects::refused(&file, command, *number, *offset)
-        }
+        (_, Some(Outcome::Refused(refused))) => objects::refused(&file, command, refused),
         (_, Some(outcome)) => {
             let status = status(outcome);
             stories

@@ -25,9 +25,7 @@ pub fn tell(
                 Outcome::Answer(answer, run) => {
                     report::words(&story(programs, given, (*answer, run.clone()), budget)?)
                 }
-                Outcome::Refused { number, offset } => {
-                    report::refused(&given.file, *number, *offset)
-                }
+                Outcome::Refused(refused) => report::refused(&given.file, refused),
             };
             output::print(words.as_bytes())?;
             Ok(status(outcome))

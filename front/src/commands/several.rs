@@ -6,7 +6,7 @@ use super::statuses::{graver, status, NO_ANSWER};
 use crate::desk::{programs::Programs, Given, Outcome, Unfit};
 use crate::messages::Trouble;
 use crate::output;
-use crate::story::Answer;
+use crate::story::{Answer, Refusal};
 use crate::tell::report;
 
 struct Table<'a> {
@@ -79,7 +79,7 @@ fn line(read: &Result<Given, Unfit>, outcome: Option<&Outcome>) -> (&'static str
         (Err(Unfit::Mistakes(mistakes)), _) => {
             ("bad text", format!(", {}", report::many(mistakes.len())))
         }
-        (_, Some(Outcome::Refused { number, offset })) => {
+        (_, Some(Outcome::Refused(Refusal { number, offset, .. }))) => {
             ("refused", format!(", number {number} at offset {offset}"))
         }
         (Ok(given), Some(Outcome::Answer(answer, run))) => {

@@ -11,7 +11,7 @@ pub fn status(outcome: &Outcome) -> u8 {
         Outcome::Answer(Answer::Unreachable | Answer::Legal, _) => 0,
         Outcome::Answer(Answer::Reached | Answer::Illegal { .. }, _) => 1,
         Outcome::Answer(Answer::Undecided, _) => 2,
-        Outcome::Refused { .. } => NO_ANSWER,
+        Outcome::Refused(_) => NO_ANSWER,
     }
 }
 

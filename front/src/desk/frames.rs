@@ -6,7 +6,7 @@ use crate::messages::Trouble;
 use crate::sizes;
 use crate::story::state::State;
 
-/// Reading looks at no byte behind 1,340, so that a longer file is answered by so many.
+/// Reading looks at no byte behind the longest file and one record more, so that a longer file is answered by so many.
 const MOST_INPUT: usize = 2048;
 const JUDGE: u32 = 2_147_483_648;
 const QUESTION: u32 = JUDGE + 3;

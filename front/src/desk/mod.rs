@@ -8,13 +8,13 @@ use crate::case::{Case, Step};
 use crate::files::File;
 use crate::messages::{Mistake, Trouble};
 use crate::output;
-use crate::story::{lives, Answer, Story};
+use crate::story::{lives, Answer, Refusal, Story};
 use crate::text::parse;
 use frames::{Asked, Judged, Verdict};
 use programs::Programs;
 use std::io::Read;
 
-/// A text of more bytes is not looked at; records are decided by their first 1,340.
+/// A text of more bytes is not looked at; records are decided by their first ones, far fewer.
 const MOST_BYTES: u64 = 1 << 20;
 
 /// A file that is a case, or may be one: of records the proved reader decides.
@@ -35,10 +35,7 @@ pub enum Unfit {
 pub enum Outcome {
     /// The answer, and the run that reaches.
     Answer(Answer, Vec<Step>),
-    Refused {
-        number: u32,
-        offset: usize,
-    },
+    Refused(Refusal),
 }
 
 impl Given {
@@ -69,6 +66,15 @@ impl Given {
         self.text
             .clone()
             .unwrap_or_else(|| records::case_of(&self.bytes))
+    }
+
+    fn refused(&self, number: u32, offset: usize) -> Outcome {
+        let is_lined = records::is_lined(&self.bytes, offset);
+        Outcome::Refused(Refusal {
+            number,
+            offset,
+            is_lined,
+        })
     }
 }
 
@@ -103,7 +109,7 @@ pub fn ask(
             Asked::Reached(run) => Outcome::Answer(Answer::Reached, run),
             Asked::Unreachable => Outcome::Answer(Answer::Unreachable, Vec::new()),
             Asked::Undecided => Outcome::Answer(Answer::Undecided, Vec::new()),
-            Asked::Refused { number, offset } => Outcome::Refused { number, offset },
+            Asked::Refused { number, offset } => given[i].refused(number, offset),
         };
         each(i, outcome)
     })
@@ -119,7 +125,7 @@ pub fn judge(programs: &Programs, given: &[&Given], each: &mut Each) -> Result<(
             Verdict::Illegal { index, rule } => {
                 Outcome::Answer(Answer::Illegal { index, rule }, run())
             }
-            Verdict::Refused { number, offset } => Outcome::Refused { number, offset },
+            Verdict::Refused { number, offset } => given[i].refused(number, offset),
         };
         each(i, outcome)
     })

@@ -8,13 +8,14 @@ pub fn is_records(bytes: &[u8]) -> bool {
     bytes.len() >= 4 && bytes[2] == 1 && bytes[3] == 0
 }
 
+/// Whether the record at that offset is a program record that is not of version 1, as far as it is there.
+pub fn is_lined(bytes: &[u8], offset: usize) -> bool {
+    offset == 0 && bytes.get(4..6).is_some_and(|version| version != [1, 0])
+}
+
 pub fn bytes_of(case: &Case) -> Vec<u8> {
     let mut out = Vec::new();
-    put(
-        &mut out,
-        1,
-        &[1, 0, case.threads.len() as u8, case.names.len() as u8],
-    );
+    put(&mut out, 1, &program_bytes(case));
     for (at, word) in case
         .first
         .iter()
@@ -49,6 +50,17 @@ fn put(out: &mut Vec<u8>, kind: u8, payload: &[u8]) {
 
 fn with_word(front: &[u8], word: u32) -> Vec<u8> {
     [front, &word.to_le_bytes()].concat()
+}
+
+/// In version 2 a line byte for each location stands behind the counts.
+fn program_bytes(case: &Case) -> Vec<u8> {
+    let (threads, locations) = (case.threads.len() as u8, case.names.len() as u8);
+    let lines = if case.version == 1 {
+        &[]
+    } else {
+        &case.lines[..]
+    };
+    [&[case.version, 0, threads, locations], lines].concat()
 }
 
 fn instruction_bytes(thread: u8, one: &Instruction) -> Vec<u8> {
@@ -86,7 +98,7 @@ fn put_steps(out: &mut Vec<u8>, run: &[Step]) {
         let payload = match *step {
             Step::Issue { thread } => [thread, 0, 0, 0],
             Step::Move { thread, position } => [thread, 1, position, 0],
-            Step::Persist { at } => [0, 2, 0, at],
+            Step::Persist { line } => [0, 2, 0, line],
         };
         put(out, 6, &payload);
     }
@@ -96,7 +108,11 @@ fn put_steps(out: &mut Vec<u8>, run: &[Step]) {
 pub fn case_of(bytes: &[u8]) -> Case {
     let byte = |at: usize| bytes.get(at).copied().unwrap_or(0);
     let (threads, locations) = (byte(6).min(4) as usize, byte(7).min(8) as usize);
+    let version = byte(4);
+    let line = |at: usize| if version == 1 { at as u8 } else { byte(8 + at) };
     let mut case = Case {
+        version,
+        lines: (0..locations).map(line).collect(),
         names: NAMES[..locations]
             .iter()
             .map(|name| name.to_string())
@@ -148,10 +164,10 @@ fn instruction_in(operation: u8, at: u8, register: u8, word: u32) -> Instruction
 }
 
 pub fn step_in(payload: [u8; 4]) -> Step {
-    let [thread, code, position, at] = payload;
+    let [thread, code, position, line] = payload;
     match code {
         0 => Step::Issue { thread },
         1 => Step::Move { thread, position },
-        _ => Step::Persist { at },
+        _ => Step::Persist { line },
     }
 }

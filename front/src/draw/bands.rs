@@ -12,7 +12,7 @@ struct Stretch {
 }
 
 pub fn draw(ink: &mut Ink, plan: &Plan) {
-    for at in 0..plan.queues.len() {
+    for at in 0..plan.bands.len() {
         let stretches = stretches(plan, at);
         let ends = stretches
             .iter()
@@ -40,23 +40,21 @@ fn stretches(plan: &Plan, at: usize) -> Vec<Stretch> {
             .touched(row)
             .filter(|&one| plan.lives[one].persisted == Some(row));
         let Some(one) = persisted else { continue };
-        let kind = plan.lives[one].kind;
-        if let (Some(word), Some(here)) = (kind.word(), kind.queue()) {
-            if here as usize == at {
-                all.push(Stretch {
-                    top: plan.middle(row) - 12,
-                    word,
-                    look: look(&plan.lives, one),
-                });
-            }
+        match plan.lives[one].kind.write() {
+            Some((here, word)) if here as usize == at => all.push(Stretch {
+                top: plan.middle(row) - 12,
+                word,
+                look: look(&plan.lives, one),
+            }),
+            _ => {}
         }
     }
     all
 }
 
 fn stretch(ink: &mut Ink, plan: &Plan, at: usize, one: &Stretch, height: i32) {
-    let column = &plan.queues[at];
-    let (left, width) = (column.band, column.right - column.band);
+    let band = &plan.bands[at];
+    let (left, width) = (band.left, band.right - band.left);
     let middle = left + width / 2;
     ink.add(&format!(r#"<g class="band {}">"#, one.look));
     ink.rect("panel", left, one.top, width, height, 0);

@@ -47,7 +47,7 @@ fn cut(ink: &mut Ink, plan: &Plan, words: &str, label: [&str; 2]) -> i32 {
 fn waiting(plan: &Plan) -> Vec<Vec<usize>> {
     let buffers =
         (0..plan.buffers.len()).map(|thread| lives::buffer(&plan.lives, thread, plan.legal));
-    let queues = (0..plan.queues.len()).map(|at| lives::queue(&plan.lives, at, plan.legal));
+    let queues = (0..plan.queues.len()).map(|line| lives::queue(&plan.lives, line, plan.legal));
     buffers.chain(queues).collect()
 }
 
@@ -78,7 +78,7 @@ fn lost(ink: &mut Ink, plan: &Plan, top: i32) -> i32 {
 fn lost_column(ink: &mut Ink, plan: &Plan, index: usize, entries: &[usize], top: i32) {
     let case = &plan.story.case;
     let queue = index.checked_sub(plan.buffers.len());
-    let column = queue.map_or_else(|| &plan.buffers[index], |at| &plan.queues[at]);
+    let column = queue.map_or_else(|| &plan.buffers[index], |line| &plan.queues[line]);
     for (row, &one) in entries.iter().take(LOST_MOST).enumerate() {
         let life = &plan.lives[one];
         let full = format!("{} is lost", words::entry(case, life.kind, words::FULL));
@@ -108,31 +108,30 @@ fn lost_column(ink: &mut Ink, plan: &Plan, index: usize, entries: &[usize], top:
 
 fn memory(ink: &mut Ink, plan: &Plan, top: i32) -> i32 {
     let top = top + 4;
-    for at in 0..plan.queues.len() {
+    for at in 0..plan.bands.len() {
         word(ink, plan, at, top);
     }
     let wanted = plan.story.case.wants.iter().any(Option::is_some);
     top + if wanted { 78 } else { 58 }
 }
 
-/// A persistent word at the end, as large as its column allows, with the look of the write that brought it.
+/// A persistent word at the end, as large as its room allows, with the look of the write that brought it.
 fn word(ink: &mut Ink, plan: &Plan, at: usize, top: i32) {
-    let column = &plan.queues[at];
-    let middle = (column.left + column.right) / 2;
+    let (room, middle) = (&plan.bands[at], plan.bands[at].middle());
     let last = lives::newest(&plan.lives, at, plan.legal);
     let look = last.map_or("still".to_string(), |one| look(&plan.lives, one));
     let held = plan.story.states[plan.legal].words[at];
     let text = held.to_string();
-    let size = ((column.width() - 8) * 10 / (text.len() as i32 * 6)).min(30);
+    let size = ((room.width() - 8) * 10 / (text.len() as i32 * 6)).min(30);
     ink.add(&format!(r#"<g class="end {look}">"#));
-    ink.rect("box", column.left, top, column.width(), 56, 6);
+    ink.rect("box", room.room, top, room.width(), 56, 6);
     let name = &plan.story.case.names[at];
     ink.text_within(
         middle,
         top + 15,
         "mono mid small",
         name,
-        (column.width() - 4) / 7,
+        (room.width() - 4) / 7,
     );
     ink.add(&format!(
         r#"<text x="{middle}" y="{}" class="mono mid strong" style="font-size:{size}px">{text}</text>"#,
@@ -160,7 +159,8 @@ fn not_possible(ink: &mut Ink, plan: &Plan, index: usize, rule: u32) -> i32 {
     if let Some(step) = step {
         stopped(ink, plan, step, top);
     }
-    let why = wrap(&rules::sentence(rule), 12, plan.width - 2 * MARGIN);
+    let why = rules::sentence(&plan.story.case, rule);
+    let why = wrap(&why, 12, plan.width - 2 * MARGIN);
     for (row, line) in why.iter().enumerate() {
         ink.text(MARGIN, top + height + 20 + 16 * row as i32, "soft", line);
     }
@@ -180,7 +180,7 @@ fn stopped(ink: &mut Ink, plan: &Plan, step: Step, y: i32) {
             .buffers
             .get(thread as usize)
             .map(|column| column.lane_of(position as usize)),
-        Step::Persist { at } => plan.queues.get(at as usize).map(|column| column.lane),
+        Step::Persist { line } => plan.queues.get(line as usize).map(|column| column.lane),
     };
     if let Some(lane) = lane {
         ink.cross("cross", lane, y - 8);

@@ -4,15 +4,16 @@ use super::ink::{chip_width, Ink, CHIP_OVER};
 use super::plan::{Column, Plan, ROW};
 use super::words;
 use crate::story::lives::{self, Kind, Life};
+use std::ops::Range;
 
 /// The classes that give an entry one look on its whole way: its location's colour, and every second write a double line.
 pub fn look(lives: &[Life], one: usize) -> String {
     let kind = lives[one].kind;
-    let same = |life: &&Life| life.kind.word().is_some() && life.kind.queue() == kind.queue();
     match kind {
         Kind::Sfence => "fence".to_string(),
         Kind::Flush { at } | Kind::FlushOpt { at } => format!("c{at} mark"),
         Kind::Store { at, .. } | Kind::Exchange { at, .. } => {
+            let same = |life: &&Life| life.is_write_to(at as usize);
             let before = lives[..one].iter().filter(same).count();
             format!("c{at} w{}", before % 2)
         }
@@ -50,12 +51,11 @@ fn buffer_wait(plan: &Plan, one: usize) -> String {
 
 fn queue_wait(plan: &Plan, one: usize) -> String {
     let life = &plan.lives[one];
-    let (Some(at), Some(from)) = (life.kind.queue(), life.moved) else {
+    let (Some(line), Some(from)) = (life.queue, life.moved) else {
         return String::new();
     };
-    let at = at as usize;
-    let entries = |steps| lives::queue(&plan.lives, at, steps);
-    wait(plan, &plan.queues[at], from, life.persisted, |steps| {
+    let entries = |steps| lives::queue(&plan.lives, line, steps);
+    wait(plan, &plan.queues[line], from, life.persisted, |steps| {
         place(&entries(steps), one)
     })
 }
@@ -103,11 +103,11 @@ pub fn arrows(ink: &mut Ink, plan: &Plan) {
             (_, Some(row)) => move_arrow(ink, plan, one, row, &look),
             _ => {}
         }
-        if let (Some(row), Some(at)) = (life.persisted, life.kind.queue()) {
-            let column = &plan.queues[at as usize];
-            match life.kind.word() {
-                Some(_) => arrow(ink, &look, column.lane, plan.middle(row), column.band),
-                None => ring(ink, &look, column.lane, plan.middle(row)),
+        if let (Some(row), Some(line)) = (life.persisted, life.queue) {
+            let (lane, y) = (plan.queues[line].lane, plan.middle(row));
+            match life.kind.write() {
+                Some((at, _)) => arrow(ink, &look, lane, y, plan.bands[at as usize].left),
+                None => ring(ink, &look, lane, y),
             }
         }
     }
@@ -116,11 +116,11 @@ pub fn arrows(ink: &mut Ink, plan: &Plan) {
 /// From the buffer to the entry's chip in the queue; an exchange comes from what it shows in its thread's column.
 fn move_arrow(ink: &mut Ink, plan: &Plan, one: usize, row: usize, look: &str) {
     let life = &plan.lives[one];
-    let Some(at) = life.kind.queue().map(usize::from) else {
+    let Some(line) = life.queue else {
         return;
     };
-    let queue = &plan.queues[at];
-    let lane = queue.lane_of(plan.story.states[row].queues[at].len());
+    let queue = &plan.queues[line];
+    let lane = queue.lane_of(plan.story.states[row].queues[line].len());
     let end = lane + CHIP_OVER - chip_width(&words::held(&plan.story.case, life));
     let thread = life.thread as usize;
     let buffer = &plan.buffers[thread];
@@ -138,22 +138,34 @@ fn move_arrow(ink: &mut Ink, plan: &Plan, one: usize, row: usize, look: &str) {
     arrow(ink, look, buffer.lane_of(position), plan.middle(row), end);
 }
 
-/// Where a move crosses the bands of other locations it is dotted: it goes past them.
+/// Where an arrow crosses the bands of other locations it is dotted: it goes past them.
 pub fn past(ink: &mut Ink, plan: &Plan) {
     for (one, life) in plan.lives.iter().enumerate() {
-        let (Some(at), Some(row)) = (life.kind.queue(), life.moved) else {
+        let (Some(line), Some(row)) = (life.queue, life.moved) else {
             continue;
         };
-        let look = look(&plan.lives, one);
-        let crossed = plan.queues[..at as usize].iter();
-        let y = plan.middle(row);
-        crossed.for_each(|queue| {
-            ink.path(
-                &format!("line past {look}"),
-                &format!("M{} {y}H{}", queue.band + 2, queue.right),
-            )
-        });
+        let (look, queue) = (look(&plan.lives, one), &plan.queues[line]);
+        cross(ink, plan, &look, row, 0..queue.left);
+        if let (Some((at, _)), Some(row)) = (life.kind.write(), life.persisted) {
+            let own = plan.bands[at as usize].left;
+            cross(ink, plan, &look, row, queue.left..own);
+        }
     }
+}
+
+/// Over each band of that stretch, in a row.
+fn cross(ink: &mut Ink, plan: &Plan, look: &str, row: usize, stretch: Range<i32>) {
+    let crossed = plan
+        .bands
+        .iter()
+        .filter(|band| stretch.contains(&band.left));
+    let y = plan.middle(row);
+    crossed.for_each(|band| {
+        ink.path(
+            &format!("line past {look}"),
+            &format!("M{} {y}H{}", band.left + 2, band.right),
+        )
+    });
 }
 
 fn arrow(ink: &mut Ink, look: &str, lane: i32, middle: i32, end: i32) {

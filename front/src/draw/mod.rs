@@ -166,7 +166,7 @@ mod tests {
     fn a_step_that_is_not_possible_ends_the_picture() {
         let mut story = outage();
         story.answer = Answer::Illegal { index: 5, rule: 29 };
-        story.run.push(crate::case::Step::Persist { at: 1 });
+        story.run.push(crate::case::Step::Persist { line: 1 });
         let drawn = svg(&story);
         assert!(drawn.contains("P1 is not possible here") && drawn.contains("breaks rule 29"));
         assert!(!drawn.contains("POWER CUT") && !drawn.contains("chip gone"));

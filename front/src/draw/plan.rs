@@ -1,4 +1,4 @@
-//! Where everything stands in the picture: a column for each buffer and each location, a row for each step.
+//! Where everything stands in the picture: a column for each buffer and each cache line, a row for each step.
 
 use super::ink::{chip_width, columns, small_width, wrap, CHIP_OVER};
 use super::words;
@@ -30,8 +30,27 @@ pub struct Column {
     pub right: i32,
     /// The lane of position 0.
     pub lane: i32,
-    /// The left end of the persistent word's band, which ends where the column does; a buffer has none.
+    /// Where the persistent words' bands begin, the last of which ends where the column does; a buffer has none.
     pub band: i32,
+}
+
+/// A location's persistent word.
+#[derive(Clone, Copy)]
+pub struct Band {
+    pub left: i32,
+    pub right: i32,
+    /// Where the room for its name begins: with its line's queue where the location has the line to itself.
+    pub room: i32,
+}
+
+impl Band {
+    pub fn middle(&self) -> i32 {
+        (self.room + self.right) / 2
+    }
+
+    pub fn width(&self) -> i32 {
+        self.right - self.room
+    }
 }
 
 impl Column {
@@ -52,7 +71,10 @@ pub struct Plan<'a> {
     /// The width of the steps' labels.
     pub labels: i32,
     pub buffers: Vec<Column>,
+    /// By cache line.
     pub queues: Vec<Column>,
+    /// By location.
+    pub bands: Vec<Band>,
     pub width: i32,
     pub verdict: Vec<String>,
     /// The top of the columns' heads.
@@ -68,6 +90,7 @@ impl<'a> Plan<'a> {
             labels: 0,
             buffers: Vec::new(),
             queues: Vec::new(),
+            bands: Vec::new(),
             width: 0,
             verdict: Vec::new(),
             top: 0,
@@ -101,9 +124,15 @@ impl<'a> Plan<'a> {
         let buffers: Vec<i32> = (0..self.story.case.threads.len())
             .map(|one| self.buffer_room(one))
             .collect();
-        let locations = 0..self.story.case.names.len();
-        let queues: Vec<(i32, i32)> = locations
-            .map(|at| (self.queue_room(at), self.band_width(at)))
+        let lines = self.story.case.by_line();
+        let rooms = lines.iter().enumerate();
+        let queues: Vec<(i32, i32)> = rooms
+            .map(|(line, locations)| {
+                (
+                    self.queue_room(line, locations),
+                    self.bands_width(locations),
+                )
+            })
             .collect();
         let taken: i32 = buffers.iter().map(|room| room + GAP).sum::<i32>()
             + queues
@@ -134,6 +163,30 @@ impl<'a> Plan<'a> {
             left = right + GAP;
         }
         self.width = left - GAP + MARGIN;
+        self.place_bands(&lines);
+    }
+
+    /// The bands of a line side by side, behind its queue.
+    fn place_bands(&mut self, lines: &[Vec<usize>]) {
+        let none = Band {
+            left: 0,
+            right: 0,
+            room: 0,
+        };
+        self.bands = vec![none; self.story.case.names.len()];
+        for (column, locations) in self.queues.iter().zip(lines) {
+            let mut left = column.band;
+            for &at in locations {
+                let right = left + self.band_width(at);
+                let room = if locations.len() > 1 {
+                    left
+                } else {
+                    column.left
+                };
+                self.bands[at] = Band { left, right, room };
+                left = right + STUB;
+            }
+        }
     }
 
     /// The width that a buffer's column needs: each chip stands left of the lanes in use.
@@ -152,37 +205,54 @@ impl<'a> Plan<'a> {
         (most + STUB + 2 * GAP - 1).max(78)
     }
 
-    /// The width that a location's queue needs, the arrow to the band included.
-    fn queue_room(&self, at: usize) -> i32 {
-        let joins = |life: &&Life| life.kind.queue().map(usize::from) == Some(at);
+    /// The width that a line's queue needs, the arrow to its first band included.
+    fn queue_room(&self, line: usize, locations: &[usize]) -> i32 {
         let room = |life: &Life| {
             let before = life
                 .moved
-                .map_or(0, |index| self.story.states[index].queues[at].len());
+                .map_or(0, |index| self.story.states[index].queues[line].len());
             before as i32 * PITCH + chip_width(&words::held(&self.story.case, life))
         };
         let moved = self
             .lives
             .iter()
-            .filter(joins)
+            .filter(|life| life.queue == Some(line))
             .filter(|life| life.moved.is_some());
-        let name = columns(&self.story.case.names[at]).min(14) * 8;
-        let held = self.story.states.last().map(|state| state.words[at]);
-        let want = self.story.case.wants[at].filter(|&want| Some(want) != held);
-        let wanted = want.map_or(0, |want| columns(&format!("wanted {want}")) * 8);
-        let least = name.max(wanted) + 10 - self.band_width(at);
+        let least = match locations {
+            [at] => self.head_width(*at) - self.band_width(*at),
+            _ => columns(&words::line(line)) * 8 + 10,
+        };
         (moved.map(room).max().unwrap_or(0) + 2 * STUB)
             .max(42)
             .max(least)
     }
 
+    /// The width that a location's name needs, and what is wanted of it.
+    fn head_width(&self, at: usize) -> i32 {
+        let name = columns(&self.story.case.names[at]).min(14) * 8;
+        let held = self.story.states.last().map(|state| state.words[at]);
+        let want = self.story.case.wants[at].filter(|&want| Some(want) != held);
+        let wanted = want.map_or(0, |want| columns(&format!("wanted {want}")) * 8);
+        name.max(wanted) + 10
+    }
+
+    fn bands_width(&self, locations: &[usize]) -> i32 {
+        let bands: i32 = locations.iter().map(|at| self.band_width(*at)).sum();
+        bands + STUB * (locations.len() as i32 - 1)
+    }
+
+    /// The width of a persistent word; on a shared line its name stands above it alone.
     fn band_width(&self, at: usize) -> i32 {
         let words = self
             .story
             .states
             .iter()
             .map(|state| columns(&state.words[at].to_string()));
-        (words.max().unwrap_or(0) * 8 + 8).max(44)
+        let least = match self.story.case.is_shared(self.story.case.line_of(at as u8)) {
+            true => self.head_width(at),
+            false => 44,
+        };
+        (words.max().unwrap_or(0) * 8 + 8).max(44).max(least)
     }
 
     /// What an issue shows in its thread's buffer: the entry, or what a load or an exchange brings, or the mfence.

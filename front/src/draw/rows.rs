@@ -39,9 +39,11 @@ pub fn heads(ink: &mut Ink, plan: &Plan) {
 }
 
 fn queue_heads(ink: &mut Ink, plan: &Plan, y: i32) {
-    for column in &plan.queues {
+    for (column, locations) in plan.queues.iter().zip(plan.story.case.by_line()) {
         ink.text((column.left + column.band) / 2, y, "sub mid", "queue");
-        ink.text((column.band + column.right) / 2, y, "sub mid", "memory");
+        for band in locations.iter().map(|at| plan.bands[*at]) {
+            ink.text((band.left + band.right) / 2, y, "sub mid", "memory");
+        }
     }
 }
 
@@ -54,15 +56,25 @@ fn names(ink: &mut Ink, plan: &Plan, y: i32) {
             &format!("thread {thread}"),
         );
     }
+    line_names(ink, plan, y);
     location_names(ink, plan, y);
 }
 
 fn location_names(ink: &mut Ink, plan: &Plan, y: i32) {
-    for (at, column) in plan.queues.iter().enumerate() {
+    for (at, band) in plan.bands.iter().enumerate() {
         let class = format!("strong mono mid name c{at}");
-        let most = (column.width() - 4) / 8;
+        let most = (band.width() - 4) / 8;
         let name = &plan.story.case.names[at];
-        ink.text_within((column.left + column.right) / 2, y, &class, name, most);
+        ink.text_within(band.middle(), y, &class, name, most);
+    }
+}
+
+/// A line that locations share has a name of its own, above its queue.
+fn line_names(ink: &mut Ink, plan: &Plan, y: i32) {
+    let lines = plan.queues.iter().enumerate();
+    for (line, column) in lines.filter(|(line, _)| plan.story.case.is_shared(*line)) {
+        let middle = (column.left + column.band) / 2;
+        ink.text(middle, y, "strong mid", &words::line(line));
     }
 }
 
@@ -125,10 +137,10 @@ fn issue_chip(ink: &mut Ink, plan: &Plan, row: usize, thread: usize) {
 fn queue_chip(ink: &mut Ink, plan: &Plan, row: usize) {
     let Some(one) = plan.touched(row) else { return };
     let life = &plan.lives[one];
-    let (Some(at), true) = (life.kind.queue().map(usize::from), life.moved == Some(row)) else {
+    let (Some(line), true) = (life.queue, life.moved == Some(row)) else {
         return;
     };
-    let lane = plan.queues[at].lane_of(plan.story.states[row].queues[at].len());
+    let lane = plan.queues[line].lane_of(plan.story.states[row].queues[line].len());
     let text = words::held(&plan.story.case, life);
     ink.chip(
         &look(&plan.lives, one),

@@ -26,9 +26,16 @@ pub fn entry(case: &Case, kind: Kind, most: i32) -> String {
     }
 }
 
-/// An entry as it waits in a queue, whose location is known there; a marker names its thread where there are several.
+/// A cache line that several locations share, by its number, as the steps have it.
+pub fn line(number: usize) -> String {
+    format!("line {number}")
+}
+
+/// An entry as it waits in a queue: a write names its location where others share the line, a marker its thread where there are several.
 pub fn held(case: &Case, life: &Life) -> String {
+    let is_shared = life.queue.is_some_and(|line| case.is_shared(line));
     match life.kind.word() {
+        Some(_) if is_shared => entry(case, life.kind, SHORT),
         Some(word) => word.to_string(),
         None if case.threads.len() == 1 => "marker".to_string(),
         None => format!("marker {}", life.thread),
@@ -45,6 +52,9 @@ pub fn deed(story: &Story, index: usize, life: Option<&Life>, most: i32) -> Stri
             layout::instruction_by(&|at| name(case, at, most), one)
         }
         (Step::Move { .. }, Some(life)) => match life.kind {
+            Kind::FlushOpt { at } if case.is_shared(case.line_of(at)) => {
+                format!("marker to {}'s line", name(case, at, most))
+            }
             Kind::FlushOpt { at } => format!("marker to {}", name(case, at, most)),
             Kind::Flush { .. } | Kind::Sfence => format!("{} done", entry(case, life.kind, most)),
             _ => format!("{} moves", entry(case, life.kind, most)),

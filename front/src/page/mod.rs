@@ -66,6 +66,7 @@ fn data(story: &Story, told: &[String]) -> String {
         .map(|(steps, state)| state_data(story, &lives, steps, state));
     map(&[
         ("names", list(case.names.iter().map(|name| text(name)))),
+        ("lines", list(case.by_line().iter().map(numbers))),
         ("threads", list(case.threads.iter().map(program))),
         ("wants", list(wants)),
         (
@@ -76,6 +77,10 @@ fn data(story: &Story, told: &[String]) -> String {
         ("states", list(states)),
         ("end", end(story, &lives)),
     ])
+}
+
+fn numbers(locations: &Vec<usize>) -> String {
+    list(locations.iter().map(usize::to_string))
 }
 
 /// The legal steps with their sentences, then the one that is not possible.
@@ -93,7 +98,8 @@ fn steps(story: &Story, told: &[String]) -> Vec<String> {
             .run
             .get(index)
             .map_or(String::new(), |taken| layout::short_step(taken));
-        let say = format!("{name} is not possible here. {}", rules::sentence(rule));
+        let why = rules::sentence(&story.case, rule);
+        let say = format!("{name} is not possible here. {why}");
         all.push(map(&[("code", text(&name)), ("say", text(&say))]));
     }
     all
@@ -105,16 +111,17 @@ fn state_data(story: &Story, lives: &[Life], steps: usize, state: &State) -> Str
         let shown = |one: usize| words::entry(case, lives[one].kind, words::FULL);
         entries(lives, &lives::buffer(lives, thread, steps), shown)
     };
-    let queue = |at| {
+    let queue = |line| {
         let shown = |one: usize| words::held(case, &lives[one]);
-        entries(lives, &lives::queue(lives, at, steps), shown)
+        entries(lives, &lives::queue(lives, line, steps), shown)
     };
     let threads = 0..case.threads.len();
     let locations = 0..case.names.len();
+    let lines = 0..case.by_line().len();
     map(&[
         ("issued", list(state.issued.iter().map(usize::to_string))),
         ("buffers", list(threads.clone().map(buffer))),
-        ("queues", list(locations.clone().map(queue))),
+        ("queues", list(lines.map(queue))),
         (
             "words",
             list(locations.map(|at| word_data(lives, steps, at, state.words[at]))),
@@ -220,7 +227,7 @@ mod tests {
     fn a_step_that_is_not_possible_comes_last() {
         let mut story = outage();
         story.answer = Answer::Illegal { index: 5, rule: 29 };
-        story.run.push(crate::case::Step::Persist { at: 1 });
+        story.run.push(crate::case::Step::Persist { line: 1 });
         let page = page(&story);
         assert!(page.contains("P1 is not possible here. Rule 29: "));
         assert!(!page.contains("A power cut here"));

@@ -31,12 +31,20 @@
     const left = under(make("div"), make("h4", "", "program"), list);
     return under(make("section", "card thread"), make("h3", "", `thread ${thread}`), under(make("div", "sides"), left, right));
   };
-  const locationCard = (name, at) => {
-    const queue = under(make("div"), make("h4", "waits", "queue"), marked("div", "chips", "queue", at));
-    const memory = under(make("div", "memory"), make("h4", "", "memory"), marked("div", "word", "word", at));
-    const want = marked("p", "want", "want", at);
-    return under(make("section", `card location c${at}`), make("h3", "", name), under(make("div", "flow"), queue, memory), want);
+  const queueOf = (line) => under(make("div"), make("h4", "waits", "queue"), marked("div", "chips", "queue", line));
+  const memoryOf = (at) => under(make("div", "memory"), make("h4", "", "memory"), marked("div", "word", "word", at));
+  const wantOf = (at) => marked("p", "want", "want", at);
+  const locationCard = (at, line) => {
+    const flow = under(make("div", "flow"), queueOf(line), memoryOf(at));
+    return under(make("section", `card location c${at}`), make("h3", "", story.names[at]), flow, wantOf(at));
   };
+  // one queue, and a word for each location that shares the line
+  const sharedCard = (locations, line) => {
+    const word = (at) => under(make("div", `location c${at}`), make("h3", "", story.names[at]), memoryOf(at), wantOf(at));
+    const words = under(make("div", "words"), ...locations.map(word));
+    return under(make("section", "card shared"), make("h3", "", `line ${line}`), queueOf(line), words);
+  };
+  const lineCard = (locations, line) => (locations.length > 1 ? sharedCard(locations, line) : locationCard(locations[0], line));
 
   const stateAt = (step) => story.states[Math.min(Math.max(step, 0), story.states.length - 1)];
   const stopped = (step) => step >= story.states.length;
@@ -82,9 +90,10 @@
     all("program").forEach((list, thread) => fillProgram(list, state.issued[thread], before.issued[thread]));
     all("buffer").forEach((place, thread) => fillChips(place, state.buffers[thread], before.buffers[thread], lost));
     all("registers").forEach((place, thread) => fillRegisters(place, state.registers[thread], before.registers[thread]));
-    all("queue").forEach((place, at) => fillChips(place, state.queues[at], before.queues[at], lost));
-    all("word").forEach((place, at) => fillWord(place, state.words[at], before.words[at]));
-    all("want").forEach((place, at) => fillWant(place, story.wants[at], state.words[at]));
+    all("queue").forEach((place, line) => fillChips(place, state.queues[line], before.queues[line], lost));
+    // by their numbers: those that share a line stand together
+    all("word").forEach((place) => fillWord(place, state.words[place.dataset.word], before.words[place.dataset.word]));
+    all("want").forEach((place) => fillWant(place, story.wants[place.dataset.want], state.words[place.dataset.want]));
     find("end").hidden = !lost;
   };
   // what changed must be seen, also where the cards are longer than the screen; at the end what the power cut leaves
@@ -122,7 +131,7 @@
   const fromHash = () => (/^#\d{1,3}$/.test(location.hash) ? Number(location.hash.slice(1)) : 0);
 
   find("threads").append(...story.threads.map(threadCard));
-  find("locations").append(...story.names.map(locationCard));
+  find("locations").append(...story.lines.map(lineCard));
   find("slider").max = last;
   if (story.end) {
     find("end-left").textContent = story.end.left;

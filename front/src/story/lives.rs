@@ -11,6 +11,8 @@ pub struct Life {
     /// The index of its instruction in the thread.
     pub instruction: usize,
     pub kind: Kind,
+    /// The cache line whose queue it goes to; a flush and an sfence go to none.
+    pub queue: Option<usize>,
     pub issued: usize,
     pub moved: Option<usize>,
     pub persisted: Option<usize>,
@@ -26,20 +28,24 @@ pub enum Kind {
 }
 
 impl Kind {
-    /// The location whose queue it goes to; a flush and an sfence go to none.
-    pub fn queue(self) -> Option<u8> {
+    /// The location by whose line it goes to a queue; a flush and an sfence go to none.
+    fn joins(self) -> Option<u8> {
         match self {
-            Kind::Store { at, .. } | Kind::FlushOpt { at } | Kind::Exchange { at, .. } => Some(at),
-            Kind::Flush { .. } | Kind::Sfence => None,
+            Kind::FlushOpt { at } => Some(at),
+            _ => self.write().map(|(at, _)| at),
         }
     }
 
-    /// The word that it brings to memory; only writes have one.
-    pub fn word(self) -> Option<u32> {
+    /// The location that it writes, and the word that it brings to memory; only writes have them.
+    pub fn write(self) -> Option<(u8, u32)> {
         match self {
-            Kind::Store { word, .. } | Kind::Exchange { word, .. } => Some(word),
+            Kind::Store { at, word } | Kind::Exchange { at, word } => Some((at, word)),
             _ => None,
         }
+    }
+
+    pub fn word(self) -> Option<u32> {
+        self.write().map(|(_, word)| word)
     }
 }
 
@@ -51,7 +57,7 @@ impl Life {
 
     /// Whether it waits in a queue, so many steps behind the start.
     pub fn in_queue(&self, steps: usize) -> bool {
-        self.kind.queue().is_some()
+        self.queue.is_some()
             && self.moved.is_some_and(|moved| moved < steps)
             && self.persisted.map_or(true, |persisted| persisted >= steps)
     }
@@ -59,7 +65,9 @@ impl Life {
 
 impl Life {
     pub fn is_write_to(&self, at: usize) -> bool {
-        self.kind.word().is_some() && self.kind.queue().map(usize::from) == Some(at)
+        self.kind
+            .write()
+            .is_some_and(|(here, _)| here as usize == at)
     }
 
     /// The entry that it is in a buffer; an exchange never stands in one.
@@ -75,8 +83,8 @@ impl Life {
 
     /// The entry that it is in a queue.
     fn held(&self) -> Held {
-        match self.kind.word() {
-            Some(word) => Held::Write { word },
+        match self.kind.write() {
+            Some((at, word)) => Held::Write { at, word },
             None => Held::Marker {
                 thread: self.thread,
             },
@@ -89,14 +97,14 @@ pub fn lives(story: &Story) -> Vec<Life> {
     let mut ledger = Ledger {
         lives: Vec::new(),
         buffers: vec![Vec::new(); story.case.threads.len()],
-        queues: vec![Vec::new(); story.case.names.len()],
+        queues: vec![Vec::new(); story.case.by_line().len()],
     };
     let legal = story.states.len().saturating_sub(1);
     for (index, step) in story.run.iter().take(legal).enumerate() {
         match *step {
             Step::Issue { thread } => ledger.issue(story, index, thread),
             Step::Move { thread, position } => ledger.move_out(index, thread, position),
-            Step::Persist { at } => ledger.persist(index, at),
+            Step::Persist { line } => ledger.persist(index, line),
         }
     }
     ledger.lives
@@ -109,8 +117,8 @@ pub fn buffer(lives: &[Life], thread: usize, steps: usize) -> Vec<usize> {
 }
 
 /// The lives of one queue so many steps behind the start, the oldest first, as indices.
-pub fn queue(lives: &[Life], at: usize, steps: usize) -> Vec<usize> {
-    let here = |life: &Life| life.in_queue(steps) && life.kind.queue().map(usize::from) == Some(at);
+pub fn queue(lives: &[Life], line: usize, steps: usize) -> Vec<usize> {
+    let here = |life: &Life| life.in_queue(steps) && life.queue == Some(line);
     let mut found: Vec<usize> = (0..lives.len()).filter(|&one| here(&lives[one])).collect();
     found.sort_by_key(|&one| lives[one].moved);
     found
@@ -129,8 +137,8 @@ fn has_steps(story: &Story) -> bool {
             let buffer = before.buffers.get(thread as usize);
             buffer.is_some_and(|buffer| (position as usize) < buffer.len())
         }
-        Step::Persist { at } => {
-            let queue = before.queues.get(at as usize);
+        Step::Persist { line } => {
+            let queue = before.queues.get(line as usize);
             queue.is_some_and(|queue| !queue.is_empty())
         }
     })
@@ -149,8 +157,8 @@ pub fn agree(story: &Story) -> bool {
                 .into_iter()
                 .filter_map(|one| lives[one].waiting())
         };
-        let held = |at| {
-            queue(&lives, at, steps)
+        let held = |line| {
+            queue(&lives, line, steps)
                 .into_iter()
                 .map(|one| lives[one].held())
         };
@@ -162,7 +170,7 @@ pub fn agree(story: &Story) -> bool {
             .all(|(thread, buffer)| entries(thread).eq(buffer.iter().copied()))
             && queues
                 .into_iter()
-                .all(|(at, queue)| held(at).eq(queue.iter().copied()))
+                .all(|(line, queue)| held(line).eq(queue.iter().copied()))
             && words.into_iter().all(|(at, word)| {
                 let last = newest(&lives, at, steps).and_then(|one| lives[one].kind.word());
                 last.unwrap_or(story.case.first[at]) == *word
@@ -192,36 +200,25 @@ impl Ledger {
     fn issue(&mut self, story: &Story, index: usize, thread: u8) {
         let own = thread as usize;
         let instruction = story.states[index].issued[own];
-        let Some(&one) = story.case.threads[own].get(instruction) else {
+        let one = story.case.threads[own].get(instruction);
+        let Some(kind) = one.and_then(|one| kind_of(one, &story.states[index + 1].buffers[own]))
+        else {
             return;
-        };
-        let kind = match one {
-            Instruction::Store { at, word } => Kind::Store { at, word },
-            // the judge's state has the word that the register held
-            Instruction::StoreRegister { at, .. } => {
-                match story.states[index + 1].buffers[own].last() {
-                    Some(&Entry::Store { word, .. }) => Kind::Store { at, word },
-                    _ => return,
-                }
-            }
-            Instruction::Exchange { at, word, .. } => Kind::Exchange { at, word },
-            Instruction::Flush { at } => Kind::Flush { at },
-            Instruction::FlushOpt { at } => Kind::FlushOpt { at },
-            Instruction::Sfence => Kind::Sfence,
-            Instruction::Load { .. } | Instruction::Mfence => return,
         };
         let straight = matches!(kind, Kind::Exchange { .. });
         let moved = straight.then_some(index);
+        let queue = kind.joins().map(|at| story.case.line_of(at));
         let life = Life {
             thread,
             instruction,
             kind,
+            queue,
             issued: index,
             moved,
             persisted: None,
         };
-        match kind {
-            Kind::Exchange { at, .. } => self.queues[at as usize].push(self.lives.len()),
+        match queue {
+            Some(line) if straight => self.queues[line].push(self.lives.len()),
             _ => self.buffers[own].push(self.lives.len()),
         }
         self.lives.push(life);
@@ -234,16 +231,33 @@ impl Ledger {
         }
         let one = buffer.remove(position as usize);
         self.lives[one].moved = Some(index);
-        if let Some(at) = self.lives[one].kind.queue() {
-            self.queues[at as usize].push(one);
+        if let Some(line) = self.lives[one].queue {
+            self.queues[line].push(one);
         }
     }
 
-    fn persist(&mut self, index: usize, at: u8) {
-        let queue = &mut self.queues[at as usize];
+    fn persist(&mut self, index: usize, line: u8) {
+        let queue = &mut self.queues[line as usize];
         if !queue.is_empty() {
             self.lives[queue.remove(0)].persisted = Some(index);
         }
+    }
+}
+
+/// What an instruction leaves behind as it is issued, if anything; its thread's buffer is that behind the issue.
+fn kind_of(one: &Instruction, buffer: &[Entry]) -> Option<Kind> {
+    match *one {
+        Instruction::Store { at, word } => Some(Kind::Store { at, word }),
+        // the judge's state has the word that the register held
+        Instruction::StoreRegister { at, .. } => match buffer.last() {
+            Some(&Entry::Store { word, .. }) => Some(Kind::Store { at, word }),
+            _ => None,
+        },
+        Instruction::Exchange { at, word, .. } => Some(Kind::Exchange { at, word }),
+        Instruction::Flush { at } => Some(Kind::Flush { at }),
+        Instruction::FlushOpt { at } => Some(Kind::FlushOpt { at }),
+        Instruction::Sfence => Some(Kind::Sfence),
+        Instruction::Load { .. } | Instruction::Mfence => None,
     }
 }
 
@@ -259,7 +273,7 @@ pub mod tests {
             Entry::Store { at: 0, word: 500 },
             Entry::Store { at: 1, word: 1 },
         ];
-        let [limit, valid] = [500, 1].map(|word| vec![Held::Write { word }]);
+        let [limit, valid] = [(0, 500), (1, 1)].map(|(at, word)| vec![Held::Write { at, word }]);
         let none = Vec::new;
         let states = vec![
             state([0, 0], [none(), none()], &[], 0),
@@ -294,7 +308,7 @@ pub mod tests {
                 thread: 0,
                 position: 0,
             },
-            Step::Persist { at: 1 },
+            Step::Persist { line: 1 },
         ]
     }
 
@@ -302,7 +316,9 @@ pub mod tests {
         let [at_limit, at_valid] =
             [(0, 500), (1, 1)].map(|(at, word)| Instruction::Store { at, word });
         Case {
+            version: 1,
             names: vec!["limit".to_string(), "valid".to_string()],
+            lines: vec![0, 1],
             first: vec![0, 0],
             threads: vec![vec![at_limit, at_valid]],
             wants: vec![Some(0), Some(1)],

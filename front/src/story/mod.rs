@@ -42,6 +42,16 @@ impl Answer {
     }
 }
 
+/// What the proved reader refused.
+#[derive(Clone, Copy, Debug, PartialEq, Eq)]
+pub struct Refusal {
+    pub number: u32,
+    /// Of the faulty record.
+    pub offset: usize,
+    /// Whether that is a program record of another version than 1: it may give cache lines.
+    pub is_lined: bool,
+}
+
 pub struct Story {
     pub file: String,
     pub case: Case,

@@ -1,4 +1,4 @@
-//! A state of the machine as the proved judge hands it out, cut to the program's threads and locations.
+//! A state of the machine as the proved judge hands it out, cut to the program's threads, locations and cache lines.
 
 use crate::case::Case;
 use crate::sizes::{INSTRUCTIONS, LOCATIONS, QUEUE, REGISTERS, THREADS};
@@ -7,7 +7,7 @@ use crate::sizes::{INSTRUCTIONS, LOCATIONS, QUEUE, REGISTERS, THREADS};
 pub struct State {
     /// The persistent words, by location.
     pub words: Vec<u32>,
-    /// By location, the oldest entry first.
+    /// By cache line, the oldest entry first.
     pub queues: Vec<Vec<Held>>,
     /// By thread, the oldest entry first.
     pub buffers: Vec<Vec<Entry>>,
@@ -19,7 +19,7 @@ pub struct State {
 /// What waits in a queue.
 #[derive(Clone, Copy, Debug, PartialEq, Eq)]
 pub enum Held {
-    Write { word: u32 },
+    Write { at: u8, word: u32 },
     Marker { thread: u8 },
 }
 
@@ -42,6 +42,8 @@ const WORDS_OF: usize = WAITING + THREADS;
 const ISSUED: usize = WORDS_OF + THREADS * REGISTERS * 4;
 const SLOTS: usize = LOCATIONS * QUEUE;
 const ENTRY: usize = 6;
+/// A mark below this one is a write's location; from it on, a marker's thread.
+const MARKER: u8 = 128;
 
 impl State {
     pub const BYTES: usize = ISSUED + THREADS;
@@ -56,8 +58,10 @@ impl State {
             slots.map(|at| word(bytes, at)).collect()
         };
         State {
-            words: locations.clone().map(|at| word(bytes, 4 * at)).collect(),
-            queues: locations.map(|at| queue(bytes, at)).collect(),
+            words: locations.map(|at| word(bytes, 4 * at)).collect(),
+            queues: (0..case.by_line().len())
+                .map(|line| queue(bytes, line))
+                .collect(),
             buffers: threads
                 .clone()
                 .map(|thread| buffer(bytes, thread))
@@ -74,15 +78,18 @@ fn word(bytes: &[u8], at: usize) -> u32 {
     u32::from_le_bytes([bytes[at], bytes[at + 1], bytes[at + 2], bytes[at + 3]])
 }
 
-fn queue(bytes: &[u8], at: usize) -> Vec<Held> {
-    let length = (bytes[LENGTHS + at] as usize).min(QUEUE);
+fn queue(bytes: &[u8], line: usize) -> Vec<Held> {
+    let length = (bytes[LENGTHS + line] as usize).min(QUEUE);
     let held = |slot: usize| match bytes[MARKS + slot] {
-        0 => Held::Write {
+        at if at < MARKER => Held::Write {
+            at,
             word: word(bytes, HELD + 4 * slot),
         },
-        mark => Held::Marker { thread: mark - 1 },
+        mark => Held::Marker {
+            thread: mark - MARKER,
+        },
     };
-    (at * QUEUE..at * QUEUE + length).map(held).collect()
+    (line * QUEUE..line * QUEUE + length).map(held).collect()
 }
 
 fn buffer(bytes: &[u8], thread: usize) -> Vec<Entry> {

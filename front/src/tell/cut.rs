@@ -1,5 +1,6 @@
 //! What a power cut leaves, word by word: which write each location has, which ones are lost, and which wanted words make a torn row.
 
+use super::run;
 use crate::case::Instruction;
 use crate::story::lives::{self, Life};
 use crate::story::Story;
@@ -55,11 +56,10 @@ fn place(story: &Story, lives: &[Life], at: usize, word: u32) -> Place {
 
 fn waited(story: &Story, life: &Life) -> String {
     let word = life.kind.word().unwrap_or(0);
-    match (life.moved, life.kind.queue()) {
-        (Some(_), Some(at)) => format!(
-            "{word} was still in {}'s queue",
-            story.case.names[at as usize]
-        ),
+    match (life.moved, life.queue) {
+        (Some(_), Some(line)) => {
+            format!("{word} was still in {}", run::queue(&story.case, line))
+        }
         _ => format!("{word} was still in thread {}'s buffer", life.thread),
     }
 }

@@ -7,7 +7,7 @@ use super::rules;
 use super::run;
 use crate::case::Case;
 use crate::messages::Mistake;
-use crate::story::{Answer, Story};
+use crate::story::{Answer, Refusal, Story};
 use crate::text::layout;
 
 struct Object(Vec<(&'static str, String)>);
@@ -36,12 +36,13 @@ pub fn told(story: &Story, command: &str, status: u8) -> String {
     object.put("number", story.answer.number().to_string());
     if let Answer::Illegal { index, rule } = story.answer {
         object.put("index", index.to_string());
-        object.put("rule", text(rules::rule(rule)));
+        object.put("rule", text(rules::rule(&story.case, rule)));
     }
     if let Some(budget) = story.budget {
         object.put("budget", budget.to_string());
         put_asked(&mut object, &story.case);
     }
+    put_lines(&mut object, &story.case);
     object.put("full_length", story.full_length.to_string());
     if !matches!(story.answer, Answer::Unreachable | Answer::Undecided) {
         put_run(&mut object, story);
@@ -60,6 +61,18 @@ fn put_asked(object: &mut Object, case: &Case) {
         .filter(|(_, count)| **count != 0);
     let passed = passed.map(|(thread, count)| (thread.to_string(), count.to_string()));
     object.put("passed", map(&passed.collect::<Vec<_>>()));
+}
+
+/// The locations on each cache line, where the case gives them: by its number.
+fn put_lines(object: &mut Object, case: &Case) {
+    if case.version != 1 {
+        let lines = case.by_line();
+        object.put("lines", list(lines.iter().map(|line| names(case, line))));
+    }
+}
+
+fn names(case: &Case, locations: &[usize]) -> String {
+    list(locations.iter().map(|at| text(&case.names[*at])))
 }
 
 fn put_run(object: &mut Object, story: &Story) {
@@ -81,19 +94,16 @@ fn put_run(object: &mut Object, story: &Story) {
         return;
     }
     if let Some(torn) = cut::torn(story) {
-        let names = |found: &[usize]| list(found.iter().map(|at| text(&case.names[*at])));
-        object.put(
-            "torn",
-            map(&[("new", names(&torn.new)), ("old", names(&torn.old))]),
-        );
+        let (new, old) = (names(case, &torn.new), names(case, &torn.old));
+        object.put("torn", map(&[("new", new), ("old", old)]));
     }
 }
 
-pub fn refused(file: &str, command: &str, number: u32, offset: usize) -> String {
+pub fn refused(file: &str, command: &str, refused: &Refusal) -> String {
     let mut object = Object::new(file, command, 3, "refused");
-    object.put("number", number.to_string());
-    object.put("offset", offset.to_string());
-    object.put("meaning", text(rules::refusal(number)));
+    object.put("number", refused.number.to_string());
+    object.put("offset", refused.offset.to_string());
+    object.put("meaning", text(rules::refusal(refused)));
     object.line()
 }
 

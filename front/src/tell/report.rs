@@ -5,12 +5,16 @@ use super::rules;
 use super::run;
 use crate::case::Case;
 use crate::messages::Mistake;
-use crate::story::{Answer, Story};
+use crate::story::{Answer, Refusal, Story};
 use crate::text::layout;
 
 /// What a newcomer must know to follow a run.
 const LEGEND: &str =
     "A store waits in its thread's buffer, then in its location's queue; only what has persisted outlasts a power cut.";
+
+/// The same where locations share a cache line.
+const LEGEND_OF_LINES: &str =
+    "A store waits in its thread's buffer, then in its cache line's queue; only what has persisted outlasts a power cut.";
 
 /// So many mistakes of a text are told.
 pub const MOST_MISTAKES: usize = 20;
@@ -37,8 +41,9 @@ pub fn many(mistakes: usize) -> String {
     }
 }
 
-pub fn refused(file: &str, number: u32, offset: usize) -> String {
-    let meaning = rules::refusal(number);
+pub fn refused(file: &str, refused: &Refusal) -> String {
+    let meaning = rules::refusal(refused);
+    let Refusal { number, offset, .. } = refused;
     format!("{file}\nREFUSED: number {number}, the record at offset {offset}.\nNumber {number}: {meaning}.\n")
 }
 
@@ -95,8 +100,9 @@ fn issued(case: &Case) -> Option<String> {
 pub fn words(story: &Story) -> String {
     let mut lines = vec![story.file.clone()];
     lines.extend(headline(story));
+    lines.extend(shared(&story.case));
     if !story.run.is_empty() || matches!(story.answer, Answer::Reached | Answer::Legal) {
-        lines.push(LEGEND.to_string());
+        lines.push(legend(&story.case).to_string());
         lines.push(String::new());
         lines.extend(told(story));
         lines.push(String::new());
@@ -110,6 +116,35 @@ pub fn words(story: &Story) -> String {
         );
     }
     lines.join("\n") + "\n"
+}
+
+fn legend(case: &Case) -> &'static str {
+    match case.has_shared() {
+        true => LEGEND_OF_LINES,
+        false => LEGEND,
+    }
+}
+
+/// A sentence for each cache line that several locations share.
+fn shared(case: &Case) -> Vec<String> {
+    let lines = case.by_line().into_iter();
+    let shared = lines.filter(|locations| locations.len() > 1);
+    let names = |locations: Vec<usize>| {
+        let all: Vec<&str> = locations
+            .iter()
+            .map(|at| case.names[*at].as_str())
+            .collect();
+        let (last, rest) = all.split_last().unwrap_or((&"", &[]));
+        format!("{} and {last}", rest.join(", "))
+    };
+    shared
+        .map(|locations| {
+            format!(
+                "{} share a cache line: what joins its queue persists in that order.",
+                names(locations)
+            )
+        })
+        .collect()
 }
 
 fn headline(story: &Story) -> Vec<String> {
@@ -132,7 +167,7 @@ fn headline(story: &Story) -> Vec<String> {
         Answer::Legal => vec![format!("LEGAL: the run, {}.", steps(story.run.len()))],
         Answer::Illegal { index, rule } => vec![
             format!("ILLEGAL: step {} of the run (index {index}) breaks rule {rule}.", index + 1),
-            rules::sentence(rule),
+            rules::sentence(&story.case, rule),
         ],
     }
 }

@@ -1,11 +1,30 @@
 //! Document 01's rules and refusal numbers, each in a sentence.
 
+use crate::case::Case;
+use crate::story::Refusal;
+
 /// A rule as a sentence with its number.
-pub fn sentence(number: u32) -> String {
-    format!("Rule {number}: {}.", rule(number))
+pub fn sentence(case: &Case, number: u32) -> String {
+    format!("Rule {number}: {}.", rule(case, number))
 }
 
-pub fn rule(number: u32) -> &'static str {
+/// A rule, in words of the cache line where locations share one.
+pub fn rule(case: &Case, number: u32) -> &'static str {
+    match number {
+        26 if case.has_shared() => {
+            "a clflushopt may not pass a store or clflush of its own cache line, nor an sfence"
+        }
+        27 if case.has_shared() => {
+            "a clflush leaves the buffer only when its cache line's queue is empty, markers counted"
+        }
+        29 if case.has_shared() => {
+            "a persist takes the oldest entry of the cache line's queue, and the queue is empty"
+        }
+        _ => rule_of_locations(number),
+    }
+}
+
+fn rule_of_locations(number: u32) -> &'static str {
     match number {
         21 => "a thread issues only while it has an instruction left",
         22 => "an xchg or mfence is issued only when the thread's own buffer is empty",
@@ -22,7 +41,23 @@ pub fn rule(number: u32) -> &'static str {
     }
 }
 
-pub fn refusal(number: u32) -> &'static str {
+/// A refusal; of a program record that may give cache lines, in words of its fields.
+pub fn refusal(refused: &Refusal) -> &'static str {
+    match refused.number {
+        3 if refused.is_lined => {
+            "a program's length is 4, and in version 2 one more for each location"
+        }
+        5 if refused.is_lined => {
+            "a program has version 1 or 2, 1 to 4 threads and 1 to 8 locations"
+        }
+        8 if refused.is_lined => {
+            "a program's line numbers are not in order: each is one before it or the next, from 0"
+        }
+        number => refusal_of_any(number),
+    }
+}
+
+fn refusal_of_any(number: u32) -> &'static str {
     match number {
         1 => "fewer than 4 bytes where a record must start, or a record is cut short",
         2 => "a record's kind is not 1 to 6",

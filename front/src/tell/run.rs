@@ -21,15 +21,38 @@ fn sentence(case: &Case, step: &Step, before: &State, after: &State) -> String {
             let entry = &before.buffers[thread as usize][position as usize];
             moved(case, thread, entry)
         }
-        Step::Persist { at } => {
-            let name = &case.names[at as usize];
-            match before.queues[at as usize][0] {
-                Held::Write { word } => format!("{word} persists: memory holds {name} = {word} now"),
-                Held::Marker { thread } => format!(
-                    "thread {thread}'s marker leaves {name}'s queue: all that was before it there has persisted"
-                ),
-            }
+        Step::Persist { line } => persisted(case, line as usize, &before.queues[line as usize][0]),
+    }
+}
+
+/// The queue of a cache line. A line that a location has to itself goes without saying.
+pub fn queue(case: &Case, line: usize) -> String {
+    let name = case.first_on(line);
+    match case.is_shared(line) {
+        true => format!("the queue of {name}'s line"),
+        false => format!("{name}'s queue"),
+    }
+}
+
+/// The queue that a location's writes go through.
+fn queue_of(case: &Case, at: u8) -> String {
+    queue(case, case.line_of(at))
+}
+
+fn persisted(case: &Case, line: usize, oldest: &Held) -> String {
+    match *oldest {
+        Held::Write { at, word } => {
+            let (write, name) = (held(case, oldest), &case.names[at as usize]);
+            let of = match case.is_shared(line) {
+                true => format!(", the oldest of {}'s line,", case.first_on(line)),
+                false => String::new(),
+            };
+            format!("{write}{of} persists: memory holds {name} = {word} now")
         }
+        Held::Marker { thread } => format!(
+            "thread {thread}'s marker leaves {}: all that was before it there has persisted",
+            queue(case, line)
+        ),
     }
 }
 
@@ -56,10 +79,9 @@ pub fn attempt(story: &Story, index: usize) -> String {
                 None => format!("thread {thread}'s buffer has no entry at position {position}"),
             }
         }
-        Step::Persist { at } => format!(
-            "{}'s queue has no entry to persist",
-            case.names[at as usize]
-        ),
+        Step::Persist { line } => {
+            format!("{} has no entry to persist", queue(case, line as usize))
+        }
     }
 }
 
@@ -75,8 +97,9 @@ fn issue(case: &Case, thread: usize, before: &State, after: &State) -> String {
         }
         Instruction::Exchange { at, register, word } => {
             let old = after.registers[thread][register as usize];
-            let name = &case.names[at as usize];
-            format!("r{register} takes {old}, and {word} joins {name}'s queue")
+            let write = held(case, &Held::Write { at, word });
+            let queue = queue_of(case, at);
+            format!("r{register} takes {old}, and {write} joins {queue}")
         }
         Instruction::Mfence => "its buffer is empty, and no marker of it waits".to_string(),
         Instruction::StoreRegister { .. } => {
@@ -101,16 +124,16 @@ fn source(case: &Case, thread: usize, at: u8, before: &State) -> (u32, String) {
             Entry::Store { at: other, word } if *other == at => Some(*word),
             _ => None,
         });
-    let written = before.queues[at as usize]
+    let written = before.queues[case.line_of(at)]
         .iter()
         .rev()
         .find_map(|held| match held {
-            Held::Write { word } => Some(*word),
-            Held::Marker { .. } => None,
+            Held::Write { at: other, word } if *other == at => Some(*word),
+            _ => None,
         });
     match (own, written) {
         (Some(word), _) => (word, "its own buffer".to_string()),
-        (None, Some(word)) => (word, format!("{}'s queue", case.names[at as usize])),
+        (None, Some(word)) => (word, queue_of(case, at)),
         (None, None) => (before.words[at as usize], "memory".to_string()),
     }
 }
@@ -118,15 +141,10 @@ fn source(case: &Case, thread: usize, at: u8, before: &State) -> (u32, String) {
 fn moved(case: &Case, thread: u8, entry: &Entry) -> String {
     let leaves = format!("{} leaves thread {thread}'s buffer", shown(case, entry));
     match *entry {
-        Entry::Store { at, .. } => {
-            format!("{leaves} and joins {}'s queue", case.names[at as usize])
-        }
-        Entry::Flush { at } => format!("{leaves}: {}'s queue is empty", case.names[at as usize]),
+        Entry::Store { at, .. } => format!("{leaves} and joins {}", queue_of(case, at)),
+        Entry::Flush { at } => format!("{leaves}: {} is empty", queue_of(case, at)),
         Entry::FlushOpt { at } => {
-            format!(
-                "{leaves}, and its marker joins {}'s queue",
-                case.names[at as usize]
-            )
+            format!("{leaves}, and its marker joins {}", queue_of(case, at))
         }
         Entry::Sfence => format!("{leaves}: no queue holds a marker of thread {thread}"),
     }
@@ -143,10 +161,13 @@ pub fn shown(case: &Case, entry: &Entry) -> String {
     }
 }
 
-/// An entry of a queue.
-pub fn held(one: &Held) -> String {
-    match one {
-        Held::Write { word } => word.to_string(),
+/// An entry of a queue; a write has its location's name where others may stand there.
+fn held(case: &Case, one: &Held) -> String {
+    match *one {
+        Held::Write { at, word } if case.is_shared(case.line_of(at)) => {
+            shown(case, &Entry::Store { at, word })
+        }
+        Held::Write { word, .. } => word.to_string(),
         Held::Marker { thread } => format!("marker of thread {thread}"),
     }
 }
@@ -163,18 +184,14 @@ pub fn waiting(case: &Case, state: &State) -> String {
         let entries: Vec<String> = buffer.iter().map(|entry| shown(case, entry)).collect();
         parts.push(format!("thread {thread}'s buffer: {}", entries.join(", ")));
     }
-    for (at, queue) in state
+    for (line, entries) in state
         .queues
         .iter()
         .enumerate()
-        .filter(|(_, queue)| !queue.is_empty())
+        .filter(|(_, entries)| !entries.is_empty())
     {
-        let entries: Vec<String> = queue.iter().map(held).collect();
-        parts.push(format!(
-            "{}'s queue: {}",
-            case.names[at],
-            entries.join(", ")
-        ));
+        let entries: Vec<String> = entries.iter().map(|one| held(case, one)).collect();
+        parts.push(format!("{}: {}", queue(case, line), entries.join(", ")));
     }
     match parts.is_empty() {
         true => "nothing".to_string(),

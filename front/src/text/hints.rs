@@ -1,7 +1,7 @@
 //! What may have been meant by a word that is not known.
 
 /// Other words for a statement's first word.
-const ALSO: [(&str, &str); 10] = [
+const ALSO: [(&str, &str); 12] = [
     ("clwb", "clflushopt"),
     ("exchange", "xchg"),
     ("swap", "xchg"),
@@ -12,6 +12,8 @@ const ALSO: [(&str, &str); 10] = [
     ("write", "store"),
     ("mov", "store"),
     ("read", "load"),
+    ("cacheline", "line"),
+    ("cache-line", "line"),
 ];
 
 /// What is meant by another word for a statement, else by the nearest spelling.

@@ -7,6 +7,7 @@ pub const NAMES: [&str; 8] = ["x", "y", "z", "w", "a", "b", "c", "d"];
 
 pub fn text(case: &Case) -> String {
     let mut groups = vec![vec![format!("locations {}", case.names.join(" "))]];
+    groups.push(lines(case));
     let first = |(at, word): (usize, &u32)| format!("first {} {word}", case.names[at]);
     groups.push(
         case.first
@@ -33,6 +34,20 @@ pub fn text(case: &Case) -> String {
     groups.retain(|group| !group.is_empty());
     let groups: Vec<String> = groups.iter().map(|group| group.join("\n") + "\n").collect();
     groups.join("\n")
+}
+
+/// Every cache line, also one with a single location, so that the records' version is kept.
+fn lines(case: &Case) -> Vec<String> {
+    let name = |at: &usize| format!(" {}", case.names[*at]);
+    let line = |locations: &Vec<usize>| locations.iter().map(name).collect::<String>();
+    match case.version {
+        1 => Vec::new(),
+        _ => case
+            .by_line()
+            .iter()
+            .map(|locations| format!("line{}", line(locations)))
+            .collect(),
+    }
 }
 
 fn asked(case: &Case) -> Vec<String> {
@@ -76,7 +91,7 @@ pub fn step(case: &Case, one: &Step) -> String {
     match *one {
         Step::Issue { thread } => format!("issue {thread}"),
         Step::Move { thread, position } => format!("move {thread} {position}"),
-        Step::Persist { at } => format!("persist {}", case.names[at as usize]),
+        Step::Persist { line } => format!("persist {}", case.first_on(line as usize)),
     }
 }
 
@@ -85,6 +100,6 @@ pub fn short_step(one: &Step) -> String {
     match one {
         Step::Issue { thread } => format!("I{thread}"),
         Step::Move { thread, position } => format!("M{thread}.{position}"),
-        Step::Persist { at } => format!("P{at}"),
+        Step::Persist { line } => format!("P{line}"),
     }
 }

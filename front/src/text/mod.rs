@@ -4,5 +4,6 @@ mod hints;
 pub mod layout;
 mod operands;
 pub mod parse;
+mod sharing;
 mod statements;
 mod words;

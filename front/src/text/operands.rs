@@ -33,23 +33,20 @@ pub fn short_step(text: &str) -> Option<Short<'_>> {
         });
     }
     let last = text.strip_prefix('P')?;
-    let at = low(digits(last)?);
+    let line = low(digits(last)?);
     Some(Short {
-        step: Step::Persist { at },
+        step: Step::Persist { line },
         thread: None,
         last,
     })
 }
 
 impl Short<'_> {
-    /// What is wrong with its last number. Without names that is the one mistake, told already.
-    pub fn fault(&self, locations: usize) -> Option<What> {
+    /// What is wrong with its position; which lines there are is known only when all is read.
+    pub fn fault(&self) -> Option<What> {
         match self.step {
             Step::Move { position, .. } if position as usize >= sizes::POSITIONS => {
                 Some(What::MostPosition)
-            }
-            Step::Persist { at } if locations > 0 && at as usize >= locations => {
-                Some(What::NoSuchNumber(shown(self.last), locations - 1))
             }
             _ => None,
         }

@@ -2,7 +2,10 @@
 
 use super::hints;
 use super::operands::{digits, low, number, register, short_step, shown};
-use super::statements::{instruction_of, known_words, step_of, Operand, INSTRUCTIONS, STEPS};
+use super::sharing::Sharing;
+use super::statements::{
+    instruction_of, known_words, step_of, Operand, Written, INSTRUCTIONS, STEPS,
+};
 use super::words::{self, Line, Word};
 use crate::case::{Case, Instruction, Step};
 use crate::messages::{Expected, Mistake, What};
@@ -25,14 +28,17 @@ struct Parser {
     mistakes: Vec<Mistake>,
     section: Section,
     names: Vec<String>,
+    sharing: Sharing,
     first: BTreeMap<usize, u32>,
     threads: Vec<Vec<Instruction>>,
     wants: BTreeMap<usize, u32>,
     /// The count and its place.
     passed: BTreeMap<usize, (u32, usize, usize)>,
-    run: Vec<Step>,
+    run: Vec<Written>,
     /// The threads that passed counts and steps name, as written, with their places: a thread may come later.
     named: Vec<(u32, String, usize, usize)>,
+    /// The lines that steps name by number, likewise.
+    numbered: Vec<(u8, String, usize, usize)>,
     /// The line of each statement that may be there only once, by its first word and number.
     seen: HashMap<(&'static str, usize), usize>,
     /// Whether some line cannot be read: what is missing may stand there.
@@ -65,12 +71,14 @@ impl Parser {
             mistakes,
             section: Section::Outside,
             names: Vec::new(),
+            sharing: Sharing::default(),
             first: BTreeMap::new(),
             threads: Vec::new(),
             wants: BTreeMap::new(),
             passed: BTreeMap::new(),
             run: Vec::new(),
             named: Vec::new(),
+            numbered: Vec::new(),
             seen: HashMap::new(),
         }
     }
@@ -93,6 +101,7 @@ impl Parser {
         let is = |(name, _): &&(&str, _)| *name == word.text;
         match word.text {
             "locations" => self.locations(line),
+            "line" => self.share(line),
             "first" => self.content(line, "first"),
             "want" => self.content(line, "want"),
             "thread" => self.thread(line),
@@ -149,6 +158,25 @@ impl Parser {
             }
             self.names.push(word.text.to_string());
         }
+    }
+
+    /// A `line` statement. Without any names that is the one mistake, told already.
+    fn share(&mut self, line: &Line) {
+        self.section = Section::Outside;
+        self.sharing.is_given = true;
+        let told = self.mistakes.len();
+        if line.words.len() == 1 {
+            self.wrong(line.number, line.end, What::Missing(Expected::Location));
+        }
+        let most = if self.names.is_empty() { 0 } else { MOST_NAMES };
+        for word in line.words.iter().skip(1).take(most) {
+            let at = self.location(word.text);
+            let put = at.and_then(|at| self.sharing.put(at as usize, word.text, line.number));
+            if let Err(what) = put {
+                self.wrong(line.number, word.column, what);
+            }
+        }
+        self.sharing.is_mistaken |= self.mistakes.len() > told;
     }
 
     fn bad_name(&self, name: &str, place: usize) -> Option<What> {
@@ -296,11 +324,16 @@ impl Parser {
             };
             self.name_thread(line, &thread, text);
         }
-        if let Some(what) = short.fault(self.names.len()) {
+        if let Some(what) = short.fault() {
             self.wrong(line.number, behind(short.last), what);
         }
+        if let (Step::Persist { line: one }, false) = (short.step, self.names.is_empty()) {
+            let column = behind(short.last);
+            self.numbered
+                .push((one, shown(short.last), line.number, column));
+        }
         if self.operands(line, &[]).is_some() {
-            self.take_step(line, short.step, belongs);
+            self.take_step(line, Written::Step(short.step), belongs);
         }
     }
 
@@ -314,7 +347,7 @@ impl Parser {
         self.wrong(line.number, word.column, what);
     }
 
-    fn take_step(&mut self, line: &Line, step: Step, belongs: bool) {
+    fn take_step(&mut self, line: &Line, step: Written, belongs: bool) {
         if belongs && self.run.len() <= sizes::STEPS {
             self.run.push(step);
             if self.run.len() == sizes::STEPS + 1 {
@@ -384,6 +417,7 @@ impl Parser {
 
     /// What can be told only when all is read; the place is the end of the last statement.
     fn finish(&mut self, end: (usize, usize)) {
+        self.finish_numbers();
         if !self.seen.contains_key(&("locations", 0)) {
             self.absent(end.0, end.1, What::NoLocations);
         } else if self.threads.is_empty() && !self.mistakes.iter().any(is_of_threads) {
@@ -401,6 +435,25 @@ impl Parser {
         self.finish_counts();
     }
 
+    /// The lines that are named by number. Where it is not known which there are, no more than there are locations.
+    fn finish_numbers(&mut self) {
+        let locations = self.names.len();
+        let is_known = self.sharing.is_given && !self.sharing.is_mistaken && !self.has_unread;
+        let last = match self.sharing.lines(locations).iter().max() {
+            Some(line) if is_known => *line as usize,
+            _ => locations.saturating_sub(1),
+        };
+        for (number, text, line, column) in std::mem::take(&mut self.numbered) {
+            if number as usize > last {
+                let what = match is_known {
+                    true => What::NoSuchLine(text, last),
+                    false => What::NoSuchNumber(text, last),
+                };
+                self.wrong(line, column, what);
+            }
+        }
+    }
+
     fn finish_counts(&mut self) {
         for (thread, (count, line, column)) in self.passed.clone() {
             let has = self.threads.get(thread).map_or(usize::MAX, Vec::len);
@@ -413,7 +466,9 @@ impl Parser {
     fn case(self) -> Case {
         let locations = self.names.len();
         let passed = |thread| self.passed.get(&thread).map_or(0, |found| low(found.0));
+        let lines = self.sharing.lines(locations);
         Case {
+            version: if self.sharing.is_given { 2 } else { 1 },
             first: (0..locations)
                 .map(|at| self.first.get(&at).copied().unwrap_or(0))
                 .collect(),
@@ -421,7 +476,8 @@ impl Parser {
                 .map(|at| self.wants.get(&at).copied())
                 .collect(),
             passed: (0..self.threads.len()).map(passed).collect(),
-            run: self.run,
+            run: self.run.iter().map(|one| one.step(&lines)).collect(),
+            lines,
             names: self.names,
             threads: self.threads,
         }

@@ -24,7 +24,33 @@ pub const STEPS: [(&str, &[Expected]); 3] = [
     ("persist", &[Expected::Location]),
 ];
 
-const OTHERS: [&str; 6] = ["locations", "first", "thread", "want", "passed", "run"];
+const OTHERS: [&str; 7] = [
+    "locations",
+    "first",
+    "thread",
+    "want",
+    "passed",
+    "run",
+    "line",
+];
+
+/// A step as it is written. A location lies on the line that a statement behind it may still give.
+pub enum Written {
+    Step(Step),
+    Persist { at: u8 },
+}
+
+impl Written {
+    /// The step itself, once the line of each location is known.
+    pub fn step(&self, lines: &[u8]) -> Step {
+        match *self {
+            Written::Step(step) => step,
+            Written::Persist { at } => Step::Persist {
+                line: lines[at as usize],
+            },
+        }
+    }
+}
 
 /// One word behind a statement's first, understood.
 pub struct Operand {
@@ -68,15 +94,15 @@ pub fn instruction_of(name: &str, found: &[Operand]) -> Instruction {
     }
 }
 
-pub fn step_of(name: &str, found: &[Operand]) -> Step {
+pub fn step_of(name: &str, found: &[Operand]) -> Written {
     let first = low(found[0].value);
     match name {
-        "issue" => Step::Issue { thread: first },
-        "move" => Step::Move {
+        "issue" => Written::Step(Step::Issue { thread: first }),
+        "move" => Written::Step(Step::Move {
             thread: first,
             position: low(found[1].value),
-        },
-        "persist" => Step::Persist { at: first },
+        }),
+        "persist" => Written::Persist { at: first },
         other => unreachable!("{other} is among the steps, and has no code"),
     }
 }
