@@ -52,8 +52,7 @@ pub fn draw(
             return Ok(NO_ANSWER);
         }
     };
-    let has_run = !given.case().run.is_empty();
-    let budget = (!has_run).then_some(options.budget_or_default());
+    let budget = (!given.has_run()).then_some(options.budget_or_default());
     let found = all_answers(programs, budget, std::slice::from_ref(read))?;
     match &found[0] {
         Some(Outcome::Answer(answer @ (Answer::Unreachable | Answer::Undecided), _)) => {

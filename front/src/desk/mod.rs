@@ -61,11 +61,15 @@ impl Given {
         })
     }
 
-    /// Of bytes that the proved reader refuses it is some case or other.
+    /// Only of a case that the proved reader has taken.
     pub fn case(&self) -> Case {
         self.text
             .clone()
             .unwrap_or_else(|| records::case_of(&self.bytes))
+    }
+
+    pub fn has_run(&self) -> bool {
+        records::has_run(&self.bytes)
     }
 
     fn refused(&self, number: u32, offset: usize) -> Outcome {

@@ -104,7 +104,7 @@ fn put_steps(out: &mut Vec<u8>, run: &[Step]) {
     }
 }
 
-/// A case of records that the proved reader has taken. It tests nothing: of other bytes it makes some case or other.
+/// A case of records that the proved reader has taken. It tests nothing, and is asked of no other bytes.
 pub fn case_of(bytes: &[u8]) -> Case {
     let byte = |at: usize| bytes.get(at).copied().unwrap_or(0);
     let (threads, locations) = (byte(6).min(4) as usize, byte(7).min(8) as usize);
@@ -123,13 +123,26 @@ pub fn case_of(bytes: &[u8]) -> Case {
         passed: vec![0; threads],
         run: Vec::new(),
     };
-    let mut rest = bytes;
-    while rest.len() >= 4 && rest.len() >= 4 + rest[0] as usize {
-        let (record, behind) = rest.split_at(4 + rest[0] as usize);
-        take(&mut case, record[2], &record[4..]);
-        rest = behind;
+    for (kind, payload) in each(bytes) {
+        take(&mut case, kind, payload);
     }
     case
+}
+
+/// Whether a step is among the records, of bytes that the proved reader may refuse.
+pub fn has_run(bytes: &[u8]) -> bool {
+    each(bytes).any(|(kind, _)| kind == 6)
+}
+
+/// The kind and the payload of each record that is there whole.
+fn each(bytes: &[u8]) -> impl Iterator<Item = (u8, &[u8])> {
+    let mut rest = bytes;
+    std::iter::from_fn(move || {
+        let length = 4 + *rest.first()? as usize;
+        let (record, behind) = (rest.get(..length)?, &rest[length..]);
+        rest = behind;
+        Some((record[2], &record[4..]))
+    })
 }
 
 /// One record more; one that has no place in the case is passed over.

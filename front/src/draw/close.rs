@@ -83,7 +83,7 @@ fn lost_column(ink: &mut Ink, plan: &Plan, index: usize, entries: &[usize], top:
         let life = &plan.lives[one];
         let full = format!("{} is lost", words::entry(case, life.kind, words::FULL));
         let text = match queue {
-            Some(_) => words::held(case, life),
+            Some(_) => words::held(case, life, words::SHORT),
             None => words::entry(case, life.kind, words::SHORT),
         };
         let look = format!("gone {}", look(&plan.lives, one));
@@ -138,10 +138,10 @@ fn word(ink: &mut Ink, plan: &Plan, at: usize, top: i32) {
         top + 44
     ));
     ink.add("</g>");
-    match plan.story.case.wants[at] {
-        Some(want) if want == held => ink.text(middle, top + 71, "met mid", "✓ wanted"),
-        Some(want) => ink.text(middle, top + 71, "soft mid", &format!("wanted {want}")),
-        None => {}
+    if let Some(want) = plan.story.case.wants[at] {
+        let is_met = want == held;
+        let class = if is_met { "met mid" } else { "soft mid" };
+        ink.text(middle, top + 71, class, &words::wanted(want, is_met));
     }
 }
 

@@ -121,7 +121,7 @@ fn move_arrow(ink: &mut Ink, plan: &Plan, one: usize, row: usize, look: &str) {
     };
     let queue = &plan.queues[line];
     let lane = queue.lane_of(plan.story.states[row].queues[line].len());
-    let end = lane + CHIP_OVER - chip_width(&words::held(&plan.story.case, life));
+    let end = lane + CHIP_OVER - chip_width(&words::held(&plan.story.case, life, words::SHORT));
     let thread = life.thread as usize;
     let buffer = &plan.buffers[thread];
     if matches!(life.kind, Kind::Exchange { .. }) {

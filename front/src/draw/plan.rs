@@ -211,7 +211,7 @@ impl<'a> Plan<'a> {
             let before = life
                 .moved
                 .map_or(0, |index| self.story.states[index].queues[line].len());
-            before as i32 * PITCH + chip_width(&words::held(&self.story.case, life))
+            before as i32 * PITCH + chip_width(&words::held(&self.story.case, life, words::SHORT))
         };
         let moved = self
             .lives
@@ -231,9 +231,8 @@ impl<'a> Plan<'a> {
     fn head_width(&self, at: usize) -> i32 {
         let name = columns(&self.story.case.names[at]).min(14) * 8;
         let held = self.story.states.last().map(|state| state.words[at]);
-        let want = self.story.case.wants[at].filter(|&want| Some(want) != held);
-        let wanted = want.map_or(0, |want| columns(&format!("wanted {want}")) * 8);
-        name.max(wanted) + 10
+        let wanted = self.story.case.wants[at].map(|want| words::wanted(want, Some(want) == held));
+        name.max(wanted.map_or(0, |words| columns(&words) * 8)) + 10
     }
 
     fn bands_width(&self, locations: &[usize]) -> i32 {

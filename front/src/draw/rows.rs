@@ -141,7 +141,7 @@ fn queue_chip(ink: &mut Ink, plan: &Plan, row: usize) {
         return;
     };
     let lane = plan.queues[line].lane_of(plan.story.states[row].queues[line].len());
-    let text = words::held(&plan.story.case, life);
+    let text = words::held(&plan.story.case, life, words::SHORT);
     ink.chip(
         &look(&plan.lives, one),
         lane,

@@ -32,13 +32,21 @@ pub fn line(number: usize) -> String {
 }
 
 /// An entry as it waits in a queue: a write names its location where others share the line, a marker its thread where there are several.
-pub fn held(case: &Case, life: &Life) -> String {
+pub fn held(case: &Case, life: &Life, most: i32) -> String {
     let is_shared = life.queue.is_some_and(|line| case.is_shared(line));
     match life.kind.word() {
-        Some(_) if is_shared => entry(case, life.kind, SHORT),
+        Some(_) if is_shared => entry(case, life.kind, most),
         Some(word) => word.to_string(),
         None if case.threads.len() == 1 => "marker".to_string(),
         None => format!("marker {}", life.thread),
+    }
+}
+
+/// What stands below a persistent word that is wanted to be this one.
+pub fn wanted(want: u32, is_met: bool) -> String {
+    match is_met {
+        true => "✓ wanted".to_string(),
+        false => format!("wanted {want}"),
     }
 }
 

@@ -112,7 +112,7 @@ fn state_data(story: &Story, lives: &[Life], steps: usize, state: &State) -> Str
         entries(lives, &lives::buffer(lives, thread, steps), shown)
     };
     let queue = |line| {
-        let shown = |one: usize| words::held(case, &lives[one]);
+        let shown = |one: usize| words::held(case, &lives[one], words::FULL);
         entries(lives, &lives::queue(lives, line, steps), shown)
     };
     let threads = 0..case.threads.len();

@@ -41,8 +41,8 @@
   // one queue, and a word for each location that shares the line
   const sharedCard = (locations, line) => {
     const word = (at) => under(make("div", `location c${at}`), make("h3", "", story.names[at]), memoryOf(at), wantOf(at));
-    const words = under(make("div", "words"), ...locations.map(word));
-    return under(make("section", "card shared"), make("h3", "", `line ${line}`), queueOf(line), words);
+    const flow = under(make("div", "flow"), queueOf(line), under(make("div", "words"), ...locations.map(word)));
+    return under(make("section", "card shared"), make("h3", "", `line ${line}`), flow);
   };
   const lineCard = (locations, line) => (locations.length > 1 ? sharedCard(locations, line) : locationCard(locations[0], line));
 

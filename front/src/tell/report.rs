@@ -140,7 +140,7 @@ fn shared(case: &Case) -> Vec<String> {
     shared
         .map(|locations| {
             format!(
-                "{} share a cache line: what joins its queue persists in that order.",
+                "{} share a cache line, and with it a queue: what joins first persists first.",
                 names(locations)
             )
         })
