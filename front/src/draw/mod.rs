@@ -136,7 +136,7 @@ pub fn lost(story: &Story, lives: &[Life]) -> String {
 #[cfg(test)]
 mod tests {
     use super::*;
-    use crate::story::lives::tests::outage;
+    use crate::story::lives::tests::{one_line, outage};
 
     #[test]
     fn the_outage_fits_a_phone_and_says_what_is_left_and_lost() {
@@ -147,6 +147,19 @@ mod tests {
         assert_eq!(drawn.matches("✓ wanted").count(), 2);
         assert_eq!(drawn.matches("chip gone").count(), 1);
         assert_eq!(drawn, svg(&outage()));
+    }
+
+    #[test]
+    fn a_shared_line_has_one_queue_with_names_and_a_band_for_each_location() {
+        let drawn = svg(&one_line());
+        assert_eq!(drawn.matches(r#"sub mid">queue<"#).count(), 1);
+        assert_eq!(drawn.matches(r#"sub mid">memory<"#).count(), 2);
+        assert_eq!(drawn.matches(">line 0<").count(), 1);
+        // in the buffer and in the queue
+        assert_eq!(drawn.matches(r#""mono mid">valid 1<"#).count(), 2);
+        // only the second location's write goes past a band, that of the first
+        assert_eq!(drawn.matches("line past c1 w0").count(), 1);
+        assert_eq!(drawn.matches("line past").count(), 1);
     }
 
     #[test]

@@ -197,7 +197,7 @@ fn end(story: &Story, lives: &[Life]) -> String {
 #[cfg(test)]
 mod tests {
     use super::*;
-    use crate::story::lives::tests::outage;
+    use crate::story::lives::tests::{one_line, outage};
 
     fn page(story: &Story) -> String {
         let told: Vec<String> = (1..=5).map(|step| format!("Sentence {step}")).collect();
@@ -221,6 +221,15 @@ mod tests {
         assert!(page.contains(r#"{"text":"1","look":"c1 w0","since":5}"#));
         assert!(page.contains("A power cut here leaves limit 0, valid 1."));
         assert!(page.contains("Lost: limit 500."));
+    }
+
+    #[test]
+    fn the_locations_of_a_line_stand_together_and_their_writes_have_names() {
+        assert!(page(&outage()).contains(r#""lines":[[0],[1]]"#));
+        let page = page(&one_line());
+        assert!(page.contains(r#""lines":[[0,1]]"#));
+        let waits = r#""queues":[[{"life":1,"look":"c1 w0","text":"valid 1"}]]"#;
+        assert_eq!(page.matches(waits).count(), 1);
     }
 
     #[test]

@@ -296,6 +296,25 @@ pub mod tests {
         }
     }
 
+    /// The same row on one cache line, and both words persist.
+    pub fn one_line() -> Story {
+        let mut story = outage();
+        story.case.version = 2;
+        story.case.lines = vec![0, 0];
+        let [limit, valid] = [(0, 500), (1, 1)].map(|(at, word)| Held::Write { at, word });
+        let queues = [vec![], vec![], vec![], vec![limit], vec![limit, valid]];
+        story.run[4] = Step::Persist { line: 0 };
+        story.run.push(Step::Persist { line: 0 });
+        story.states.push(story.states[5].clone());
+        let queues = queues.into_iter().chain([vec![valid], vec![]]);
+        for (state, queue) in story.states.iter_mut().zip(queues) {
+            state.queues = vec![queue];
+        }
+        story.states[5].words = vec![500, 0];
+        story.states[6].words = vec![500, 1];
+        story
+    }
+
     fn run() -> Vec<Step> {
         vec![
             Step::Issue { thread: 0 },
@@ -357,6 +376,20 @@ pub mod tests {
             let lengths = [0, 1].map(|at| queue(&found, at, steps).len());
             assert_eq!(lengths, [0, 1].map(|at| state.queues[at].len()));
         }
+    }
+
+    #[test]
+    fn what_shares_a_line_persists_in_the_order_of_its_queue() {
+        let times = lives(&one_line()).into_iter().map(|life| life.persisted);
+        assert_eq!(times.collect::<Vec<_>>(), [Some(4), Some(5)]);
+        assert!(agree(&outage()) && agree(&one_line()));
+    }
+
+    #[test]
+    fn a_write_in_the_queue_must_be_of_the_location_that_the_program_writes() {
+        let mut story = one_line();
+        story.states[3].queues[0][0] = Held::Write { at: 1, word: 500 };
+        assert!(!agree(&story));
     }
 
     #[test]

@@ -111,3 +111,28 @@ fn buffer(bytes: &[u8], thread: usize) -> Vec<Entry> {
         .map(entry)
         .collect()
 }
+
+#[cfg(test)]
+mod tests {
+    use super::*;
+    use crate::story::lives::tests::one_line;
+
+    #[test]
+    fn a_mark_is_a_location_or_from_128_on_a_thread() {
+        let mut bytes = vec![0; State::BYTES];
+        bytes[LENGTHS] = 3;
+        bytes[MARKS + 1] = 1;
+        bytes[HELD + 4] = 7;
+        bytes[MARKS + 2] = 128;
+        let case = one_line().case;
+        let queue = vec![
+            Held::Write { at: 0, word: 0 },
+            Held::Write { at: 1, word: 7 },
+            Held::Marker { thread: 0 },
+        ];
+        assert_eq!(State::of(&bytes, &case).queues, [queue]);
+        bytes[MARKS + 2] = 131;
+        let marker = State::of(&bytes, &case).queues[0][2];
+        assert_eq!(marker, Held::Marker { thread: 3 });
+    }
+}
