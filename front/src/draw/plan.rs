@@ -54,6 +54,17 @@ impl Band {
 }
 
 impl Column {
+    /// So much room for what waits, then so much for the bands: of a buffer none.
+    fn new(left: i32, room: i32, bands: i32) -> Column {
+        let end = if bands > 0 { STUB } else { GAP };
+        Column {
+            left,
+            right: left + room + bands,
+            lane: left + room - CHIP_OVER - end,
+            band: left + room,
+        }
+    }
+
     pub fn lane_of(&self, position: usize) -> i32 {
         self.lane - PITCH * position as i32
     }
@@ -121,47 +132,22 @@ impl<'a> Plan<'a> {
     }
 
     fn place_columns(&mut self) {
-        let buffers: Vec<i32> = (0..self.story.case.threads.len())
-            .map(|one| self.buffer_room(one))
-            .collect();
+        let threads = self.story.case.threads.len();
         let lines = self.story.case.by_line();
-        let rooms = lines.iter().enumerate();
-        let queues: Vec<(i32, i32)> = rooms
-            .map(|(line, locations)| {
-                (
-                    self.queue_room(line, locations),
-                    self.bands_width(locations),
-                )
-            })
-            .collect();
-        let taken: i32 = buffers.iter().map(|room| room + GAP).sum::<i32>()
-            + queues
-                .iter()
-                .map(|(room, band)| room + band + GAP)
-                .sum::<i32>();
+        let buffers = (0..threads).map(|thread| (self.buffer_room(thread), 0));
+        let queues = lines.iter().enumerate().map(|(line, locations)| {
+            let room = self.queue_room(line, locations);
+            (room, self.bands_width(locations))
+        });
+        let rooms: Vec<(i32, i32)> = buffers.chain(queues).collect();
+        let taken: i32 = rooms.iter().map(|(room, bands)| room + bands + GAP).sum();
         self.labels = self.labels.max(LEAST_WIDTH - taken - 2 * MARGIN);
         let mut left = MARGIN + self.labels;
-        for (index, room) in buffers
-            .iter()
-            .map(|&room| (room, 0))
-            .chain(queues)
-            .enumerate()
-        {
-            let (room, band) = room;
-            let right = left + room + band;
-            let lane = left + room - CHIP_OVER - if band > 0 { STUB } else { GAP };
-            let column = Column {
-                left,
-                right,
-                lane,
-                band: left + room,
-            };
-            match index < buffers.len() {
-                true => self.buffers.push(column),
-                false => self.queues.push(column),
-            }
-            left = right + GAP;
+        for (room, bands) in rooms {
+            self.buffers.push(Column::new(left, room, bands));
+            left += room + bands + GAP;
         }
+        self.queues = self.buffers.split_off(threads);
         self.width = left - GAP + MARGIN;
         self.place_bands(&lines);
     }
