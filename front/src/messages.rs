@@ -79,7 +79,7 @@ impl fmt::Display for What {
             What::NamedTwice(name) => write!(out, "'{name}' is named twice"),
             What::OnLineAlready(name, line) => write!(
                 out,
-                "'{name}' has its cache line already, on line {line}: name all that share it there"
+                "'{name}' is named already by 'line' on line {line}: name all that share its cache line there"
             ),
             What::Again(word, line) => write!(out, "'{word}' is there already, on line {line}"),
             What::AgainOf(word, of, line) => {
