@@ -49,6 +49,17 @@ static void program(struct file *file, uint8_t threads, uint8_t locations)
     ADD(file, 4, 0, 1, 0, 1, 0, threads, locations);
 }
 
+/* Version 2: the line of each location stands behind. */
+static void lined(struct file *file, uint8_t threads, uint8_t locations, const uint8_t *lines)
+{
+    file->length = 0;
+    ADD(file, 4 + locations, 0, 1, 0, 2, 0, threads, locations);
+    add(file, lines, locations);
+}
+
+#define LINED(file, threads, ...) \
+    lined(file, threads, sizeof((const uint8_t[]){__VA_ARGS__}), (const uint8_t[]){__VA_ARGS__})
+
 static void instruction(struct file *file, uint8_t thread, uint8_t operation, uint8_t location, uint8_t word)
 {
     ADD(file, 8, 0, 3, 0, thread, operation, location, 0, word, 0, 0, 0);
@@ -69,7 +80,7 @@ static void passed(struct file *file, uint8_t thread, uint8_t least)
     ADD(file, 2, 0, 5, 0, thread, least);
 }
 
-/* A run in words: "I0" thread 0 issues, "M1.2" thread 1 moves at position 2, "P3" location 3 persists. */
+/* A run in words: "I0" thread 0 issues, "M1.2" thread 1 moves at position 2, "P3" line 3 persists. */
 static void run(struct file *file, const char *words)
 {
     for (const char *at = words; *at != 0; at++) {
@@ -157,20 +168,26 @@ static void refused(int line, const struct file *file, uint32_t answer, uint32_t
 
 static struct file f, steps;
 
-static void outage(void)
+/* Behind a program record of two locations. */
+static void torn_row(void)
 {
-    program(&f, 1, 2);
     instruction(&f, 0, STORE, X, 5);
     instruction(&f, 0, STORE, Y, 1);
     want(&f, X, 0);
     want(&f, Y, 1);
+}
+
+static void outage(void)
+{
+    program(&f, 1, 2);
+    torn_row();
     steps.length = 0;
     run(&steps, "I0 I0 M0.0 M0.0 P1");
 }
 
 static void longest(void)
 {
-    program(&f, 4, 8);
+    LINED(&f, 4, 0, 1, 2, 3, 4, 5, 6, 7);
     for (uint8_t location = 0; location < 8; location++)
         first_content(&f, location, 1);
     for (uint8_t i = 0; i < 32; i++)
@@ -294,6 +311,65 @@ static void longest_file(void)
     REFUSED(&f, GARLUVENI_CUT, GARLUVENI_CASE_BYTES);
 }
 
+/* The outage's row on one cache line, on two in version 2, and three locations on two. */
+static void lines(void)
+{
+    LINED(&f, 1, 0, 0);
+    torn_row();
+    ASKS(&f, 48, BUDGET, GARLUVENI_UNREACHABLE, &none);
+    LINED(&f, 1, 0, 1);
+    torn_row();
+    steps.length = 0;
+    run(&steps, "I0 I0 M0.0 M0.0 P1");
+    ASKS(&f, 48, BUDGET, GARLUVENI_REACHED, &steps);
+    LINED(&f, 1, 0, 0, 1);
+    instruction(&f, 0, STORE, X, 5);
+    instruction(&f, 0, FLUSH_OPT, Y, 0);
+    instruction(&f, 0, STORE, Z, 1);
+    run(&f, "I0 I0 M0.1");
+    JUDGES(&f, GARLUVENI_BARRED, 2);
+    LINED(&f, 1, 0, 0, 1);
+    instruction(&f, 0, STORE, X, 5);
+    instruction(&f, 0, FLUSH, Y, 0);
+    run(&f, "I0 I0 M0.0 M0.0");
+    JUDGES(&f, GARLUVENI_QUEUE_NOT_EMPTY, 3);
+}
+
+/* A program record: outside 4 to 12, cut, out of place, out of range, another length than its own, out of order. */
+static void line_refusals(void)
+{
+    f.length = 0;
+    ADD(&f, 3, 0, 1, 0, 2, 0, 1);
+    REFUSED(&f, GARLUVENI_LENGTH, 0);
+    f.length = 0;
+    ADD(&f, 13, 0, 1, 0, 2, 0, 1, 8, 0, 1, 2, 3, 4, 5, 6, 7, 0);
+    REFUSED(&f, GARLUVENI_LENGTH, 0);
+    LINED(&f, 1, 0, 0);
+    f.length -= 1;
+    REFUSED(&f, GARLUVENI_CUT, 0);
+    program(&f, 1, 1);
+    ADD(&f, 6, 0, 1, 0, 2, 0, 1, 2, 0, 0);
+    REFUSED(&f, GARLUVENI_ORDER, 8);
+    f.length = 0;
+    ADD(&f, 6, 0, 1, 0, 3, 0, 1, 2, 0, 0);
+    REFUSED(&f, GARLUVENI_RANGE, 0);
+    f.length = 0;
+    ADD(&f, 7, 0, 1, 0, 2, 0, 1, 2, 0, 0, 0);
+    REFUSED(&f, GARLUVENI_LENGTH, 0);
+    f.length = 0;
+    ADD(&f, 6, 0, 1, 0, 1, 0, 1, 2, 0, 0);
+    REFUSED(&f, GARLUVENI_LENGTH, 0);
+    LINED(&f, 1, 0, 2);
+    REFUSED(&f, GARLUVENI_UNUSED, 0);
+    LINED(&f, 1, 1, 0);
+    REFUSED(&f, GARLUVENI_UNUSED, 0);
+    LINED(&f, 1, 0, 255);
+    REFUSED(&f, GARLUVENI_UNUSED, 0);
+    LINED(&f, 1, 0, 0);
+    run(&f, "P1");
+    REFUSED(&f, GARLUVENI_RANGE, 10);
+}
+
 static void budgets(void)
 {
     outage();
@@ -391,6 +467,8 @@ int main(void)
     persist_rule();
     legal_runs();
     longest_file();
+    lines();
+    line_refusals();
     budgets();
     outage();
     lengths(48, BUDGET);

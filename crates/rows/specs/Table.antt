@@ -1,7 +1,7 @@
 -- Document 01, "Rows proved of the rules (marked *) and rows run": all of them, a list for each line of 01.
--- Above each stands 01's line, with a * where 01 has one. A run, an index or a full length that 01 does not
+-- Above each stands 01's line, with a * where 01 has one. Behind them the rows of request P3 of document 02. A run, an index or a full length that 01 does not
 -- name is as the second judge tells it.
---   table         the rows, in 01's order
+--   table         the rows, in 01's order, then P3's
 --   outage        the records of its second row; outageBytes: the 50 bytes that 01 has for it
 -- "In the rows below "store x" means x=500, and a budget not named is 1,000,000."
 -- Assumes nothing.
@@ -11,7 +11,7 @@ use lib.ListN.{replicate}
 use Rattle.cases.specs.declared.record.Record.{Record}
 use Rattle.machine.specs.declared.runs.Verdict.the-variants.{Legal, Illegal}
 use Rattle.search.specs.Question.{reached, unreachable, undecided}
-use Rattle.rows.specs.Words.{x, y, program, threads, first, store, storeRegister, load, exchange, flush}
+use Rattle.rows.specs.Words.{x, y, z, header, lined, program, threads, first, store, storeRegister, load, exchange, flush}
 use Rattle.rows.specs.Words.{flushOpt, sfence, mfence, want, passed, taking, issue, move, persist}
 use Rattle.rows.specs.Row.{Row, asked, ruled, opened}
 
@@ -129,7 +129,55 @@ mostOfEach =
     ∷ opened (threads 1 ∷ taking (replicate 97 (issue 0))) 9 776
     ∷ []
 
+-- P3: "x, y on line 0, z on line 1 unless said otherwise"
+abbrev row : Record
+row = lined (0 ∷ 0 ∷ 1 ∷ [])
+
+-- "Store x=500; store y=1; want x=0, y=1: unreachable. Want x=500, y=0: reached."
+abbrev oneLine : List Row
+oneLine =
+    asked (row ∷ store 0 x 500 ∷ store 0 y 1 ∷ torn) 6 usual unreachable
+    ∷ asked (row ∷ store 0 x 500 ∷ store 0 y 1 ∷ want x 500 ∷ want y 0 ∷ []) 6 usual
+    (reached (issue 0 ∷ issue 0 ∷ move 0 0 ∷ move 0 0 ∷ persist 0 ∷ []))
+    ∷ []
+
+-- "The same with x and y on lines of their own in version 2: reached, 5 steps, as version 1."
+abbrev twoLines : List Row
+twoLines =
+    asked (lined (0 ∷ 1 ∷ []) ∷ store 0 x 500 ∷ store 0 y 1 ∷ torn) 6 8
+    (reached (issue 0 ∷ issue 0 ∷ move 0 0 ∷ move 0 0 ∷ persist 1 ∷ []))
+    ∷ asked (lined (0 ∷ 1 ∷ []) ∷ store 0 x 500 ∷ store 0 y 1 ∷ torn) 6 7 undecided
+    ∷ []
+
+-- "Store x=500; flush-opt y; sfence; store z=1; want x=0, z=1: unreachable. Without the sfence: reached, 7 steps."
+abbrev neighbourFlushed : List Row
+neighbourFlushed =
+    asked (row ∷ store 0 x 500 ∷ flushOpt 0 y ∷ sfence 0 ∷ store 0 z 1 ∷ want x 0 ∷ want z 1 ∷ []) 11 usual
+    unreachable
+    ∷ asked (row ∷ store 0 x 500 ∷ flushOpt 0 y ∷ store 0 z 1 ∷ want x 0 ∷ want z 1 ∷ []) 9 usual
+    (reached (issue 0 ∷ issue 0 ∷ issue 0 ∷ move 0 0 ∷ move 0 0 ∷ move 0 0 ∷ persist 1 ∷ []))
+    ∷ []
+
+-- "Store x, flush-opt y, both issued: move at position 1 is 26. Store x; flush y, both issued, the store moved: the
+-- flush's move is 27."
+abbrev neighboursWait : List Row
+neighboursWait =
+    ruled (row ∷ store 0 x 500 ∷ flushOpt 0 y ∷ taking (issue 0 ∷ issue 0 ∷ move 0 1 ∷ [])) (Illegal 26 2)
+    ∷ ruled (row ∷ store 0 x 500 ∷ flush 0 y ∷ taking (issue 0 ∷ issue 0 ∷ move 0 0 ∷ move 0 0 ∷ []))
+    (Illegal 27 3)
+    ∷ []
+
+-- "A header of version 2 with lines 0, 2: 8. With lines 1, 0: 8. Two locations and three line bytes: 3."
+abbrev headers : List Row
+headers =
+    opened (lined (0 ∷ 2 ∷ []) ∷ []) 8 0
+    ∷ opened (lined (1 ∷ 0 ∷ []) ∷ []) 8 0
+    ∷ opened (header 1 2 (0 ∷ 1 ∷ 1 ∷ []) ∷ []) 3 0
+    ∷ opened (lined (0 ∷ 1 ∷ 0 ∷ []) ∷ []) 0 11
+    ∷ []
+
 unfoldable pub table : List Row
 table =
     noInstructions ++ tornRow ++ flushed ++ flushedOpt ++ fenceIssued
     ++ passing ++ barriers ++ othersMarker ++ bothLoadZero ++ mostOfEach
+    ++ oneLine ++ twoLines ++ neighbourFlushed ++ neighboursWait ++ headers

@@ -1,6 +1,8 @@
 -- Document 01, "Records of a case", "Operations" and "Step codes": what the rows speak of, in their own words.
---   x, y              "x is location 0, y is location 1."
+--   x, y, z           "x is location 0, y is location 1."; z is location 2
 --   threads n         kind 1, of two locations; program n m: of m locations
+--   header n m ls     kind 1 of version 2, of m locations, with the line bytes ls
+--   lined ls          the same of one thread and as many locations as lines
 --   first l w         kind 2
 --   store, storeRegister, load, exchange, flush, flushOpt, sfence, mfence
 --                     kind 3: an instruction of thread t, at location l, with the word w
@@ -9,11 +11,13 @@
 --   taking ks         kind 6, for each of the steps ks
 --   issue, move, persist   steps
 -- Assumes nothing.
-use Prim.Native.Nat.{ℕ}
-use mathlib.Core.List.{List, map}
+use Prim.Native.Nat.{ℕ, _-_}
+use mathlib.Core.List.{List, map, _++_}
+use lib.ListN.{length, replicate}
 use Rattle.cases.specs.declared.case.Step.{Step}
 use Rattle.cases.specs.declared.record.Record.{Record}
 use Rattle.cases.specs.declared.record.Record.the-variants.{Declare, First, Instruct, Want, Passed, Take}
+use Rattle.cases.specs.Sizes.{mostLocations}
 use Rattle.cases.specs.Operations as operation
 use Rattle.machine.specs.Next.{issueStep, moveStep, persistStep}
 
@@ -23,8 +27,25 @@ x = 0
 abbrev pub y : ℕ
 y = 1
 
+abbrev pub z : ℕ
+z = 2
+
 abbrev pub program : ℕ → ℕ → Record
-program n m = Declare (record { version = 1; threads = n; locations = m })
+program n m =
+    Declare (record { version = 1; threads = n; locations = m; listed = 0; line = replicate mostLocations 0 })
+
+abbrev pub header : ℕ → ℕ → List ℕ → Record
+header n m ls =
+    Declare (record {
+      version = 2;
+      threads = n;
+      locations = m;
+      listed = length ls;
+      line = ls ++ replicate (mostLocations - length ls) 0;
+    })
+
+abbrev pub lined : List ℕ → Record
+lined ls = header 1 (length ls) ls
 
 abbrev pub threads : ℕ → Record
 threads n = program n 2
@@ -78,4 +99,4 @@ abbrev pub move : ℕ → ℕ → Step
 move t i = moveStep t i
 
 abbrev pub persist : ℕ → Step
-persist l = persistStep l
+persist q = persistStep q
