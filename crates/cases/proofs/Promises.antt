@@ -12,20 +12,23 @@ use Rattle.cases.specs.declared.case.Step.{Step}
 use Rattle.cases.specs.declared.case.Program.{Program}
 use Rattle.cases.specs.declared.case.Case.{Case}
 use Rattle.cases.specs.declared.draft.Draft.{Draft}
+use Rattle.cases.specs.declared.record.Header.{Header}
 use Rattle.cases.specs.declared.record.Record.{Record}
 use Rattle.cases.specs.declared.reader.Answer.the-variants.{Whole}
 use Rattle.cases.specs.declared.writer.Wrote.the-variants.{Stored, Untouched}
 use Rattle.cases.specs.Sizes.{mostThreads, mostLocations, mostSteps, longest, longestRecord, stepSize}
 use Rattle.cases.specs.Choice.{both}
 use Rattle.cases.specs.Bytes.{IsBytes, half}
-use Rattle.cases.specs.Record.{recordOf, openNo, sizeOf}
+use Rattle.cases.specs.Lines.{ownVersion, lineVersion, ownLines}
+use Rattle.cases.specs.Record.{rowList, recordOf, openNo, sizeOf}
 use Rattle.cases.specs.Checks.{linesOf, limitsOf, stepFault, faultOf}
-use Rattle.cases.specs.Draft.{noStep, emptyCase, runWith, withRun, blankDraft, addOf}
+use Rattle.cases.specs.Draft.{noStep, emptyCase, runWith, withHeader, withRun, blankDraft, addOf}
 use Rattle.cases.specs.Reading.{numberOf, offsetOf, refusedOf, readFrom, readOf, unreadOf}
 use Rattle.cases.specs.Seats.{encodeOf, stepsBytes}
 use Rattle.cases.specs.Ranges.{ProgramSized, ProgramFits, Ranged}
 use Rattle.cases.specs.Writing.{readsAs, readsBack, wroteOf, writtenOf}
 use Rattle.cases.proofs.ChoiceLaws.{both-true}
+use Rattle.cases.proofs.draft.HeaderLaws as HeaderLaws
 use Rattle.cases.proofs.draft.RecordFitLaws as RecordFitLaws
 use Rattle.cases.proofs.reader.ReadLaws as ReadLaws
 use Rattle.cases.proofs.reader.RoundTripLaws.{round-trip}
@@ -133,6 +136,17 @@ read-ranged s h =
     let d = round-trip s .sound h in
     rw (sym (d .3)) at (sound-ranged (d .0) (d .1) (d .2))
 
+-- "Version 1 means a line each": a program's record of version 1 and one of version 2 that says the lines 0, 1,
+-- 2, .. make the same program of a case
+pub own-lines-same : (c : Case) (h k : Header) → h .version ≡ ownVersion → k .version ≡ lineVersion
+    → k .threads ≡ h .threads
+    → k .locations ≡ h .locations
+    → h .locations ≤ mostLocations
+    → k .listed ≡ h .locations
+    → rowList (k .line) ≡ ownLines (h .locations)
+    → withHeader c h .program ≡ withHeader c k .program
+own-lines-same = HeaderLaws.header-same
+
 -- a program has no more lines than there may be locations
 pub few-lines : (p : Program) → ProgramSized p → linesOf p ≤ mostLocations
 few-lines = RecordFitLaws.few-lines
@@ -222,6 +236,12 @@ pub same-bytes-same-case : (c d : Case) → readsBack c ≡ true → readsBack d
     → c ≡ d
 same-bytes-same-case c d h k e =
     sym (file-case c h) ∙ ap (λ (s : List ℕ). readOf s .case) e ∙ file-case d k
+
+-- The version is kept: cases of different versions write different bytes
+pub version-differs : (c d : Case) → readsBack c ≡ true → readsBack d ≡ true
+    → c .version ≢ d .version
+    → encodeOf c ≢ encodeOf d
+version-differs c d h k other e = other (ap (λ (x : Case). x .version) (same-bytes-same-case c d h k e))
 
 -- "Not wanted" and "wanted 0" are different cases that write different bytes
 pub not-wanted-differs : (c d : Case) (l : ℕ) → readsBack c ≡ true → readsBack d ≡ true

@@ -1,10 +1,10 @@
--- A record more (specs/Draft, Checks, Lines), and what holds of a draft after each.
--- row: a number for each location; own: a line each
-pub mod LineLaws
+-- A record more (specs/Draft, Checks), and what holds of a draft after each.
 -- first, instruction, want, passed, step: a part of the case with one more, same and other
 pub mod WithLaws
 -- count, counted: the counts of instructions; Behind
 pub mod CountLaws
+-- header, Opening: the record of the program, and its lines
+pub mod HeaderLaws
 -- draft, seated: a record comes in turn, finds its seat: header, first, instruction, want, passed, step; rank
 pub mod DraftLaws
 -- RecordFits, SeatFits: record, seat, instruction, step are in range, Grown; field, outside, few-lines

@@ -1,10 +1,13 @@
 -- Document 01, "Refusal numbers": what is wrong with a record that opens, after the records before it.
 -- "Within a record the checks go in the order 1 (head), 2, 3, 1 (payload), 4, 5, 8, 6, 7, 9." Number 5 looks
--- only at fields that are used; an unused field is a matter for 8.
+-- only at fields that are used; an unused field is a matter for 8. Document 02, P3, of kind 1: "then the cut
+-- test, 4, the ranges of version, threads and locations (5), 3 again for a length not that version's and
+-- count's, and 8 for line numbers out of order."
 --   kindRank         where a kind stands in the order of kinds
 --   misplaced        4
 --   headerOut, instructionOut, passedOut, stepOut
 --                    5: something that a record of that kind names is out of range
+--   mislisted        3, of kind 1: the number of line bytes is not that version's and count's
 --   instructionLeft, stepLeft
 --                    8: a field left over that is not used
 --   disordered       6
@@ -32,6 +35,8 @@ use Rattle.cases.specs.Sizes.{mostThreads, mostInstructions, mostLocatio
 use Rattle.cases.specs.Operations.{storeWord, storeRegister, exchange, flushOpt, lastOperation, move}
 use Rattle.cases.specs.Operations.{persist, lastCode}
 use Rattle.cases.specs.Choice.{pick, both, either, refuse}
+use Rattle.cases.specs.Lines.{lastVersion, listedOf, unordered}
+use Rattle.cases.specs.Record.{lineBytes}
 
 -- where a kind stands in the order of kinds: by its number
 unfoldable pub kindRank : ℕ → ℕ
@@ -62,9 +67,12 @@ leftOver used x = both (not used) (not (eqb x 0))
 
 unfoldable pub headerOut : Header → Bool
 headerOut h =
-    either (not (eqb (h .version) 1))
+    either (outside (h .version) lastVersion)
     (either (outside (h .threads) mostThreads)
     (outside (h .locations) mostLocations))
+
+unfoldable pub mislisted : Header → Bool
+mislisted h = not (eqb (h .listed) (listedOf (h .version) (h .locations)))
 
 -- "Operations (fields used): 1 store word (location, word); 2 store register (location, register); 3 load
 -- (location, register); 4 exchange (location, register, word); 5 flush (location); 6 flush-opt (location);
@@ -132,7 +140,9 @@ stepFault limits k = refuse (stepOut limits k) 5 (refuse (stepLeft k) 8 0)
 unfoldable pub faultOf : Draft → Record → ℕ
 faultOf d (Declare h) =
     refuse (misplaced (d .kind) 1) 4
-    (refuse (headerOut h) 5 0)
+    (refuse (headerOut h) 5
+    (refuse (mislisted h) 3
+    (refuse (unordered 0 (lineBytes h)) 8 0)))
 faultOf d (First w) =
     refuse (misplaced (d .kind) 2) 4
     (refuse (leb (d .case .program .locations) (w .location .0)) 5

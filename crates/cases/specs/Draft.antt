@@ -2,6 +2,7 @@
 -- may come next in that kind.
 --   emptyCase    "the fixed empty one: one thread, one location, no further records"
 --   noInstruction, noStep   what stands in an array where the case has nothing
+--   lineTable h, lineCount h   on which line each location lies, and how many lines there are, by that record
 --   withHeader   the case with what the program's record says: its version, and withSizes
 --   withSizes, withFirst, withInstruction, withWant, withPassed, withStep
 --                a part of the case with what one record says
@@ -14,6 +15,7 @@ use Prim.Native.Nat.{ℕ, _+_, _-_, _*_}
 use mathlib.Core.List.{List, _++_}
 use mathlib.Core.Bool.{true, false}
 use lib.ListN.{length, replicate, set}
+use lib.Dec.{eqb}
 use Rattle.cases.specs.declared.case.Thread.{Thread}
 use Rattle.cases.specs.declared.case.Write.{Write}
 use Rattle.cases.specs.declared.case.Instruction.{Instruction}
@@ -27,7 +29,9 @@ use Rattle.cases.specs.declared.record.Header.{Header}
 use Rattle.cases.specs.declared.record.Record.{Record}
 use Rattle.cases.specs.declared.record.Record.the-variants.{Declare, First, Instruct, Want, Passed, Take}
 use Rattle.cases.specs.Sizes.{mostThreads, mostInstructions, mostLocations, mostSteps, allCode}
-use Rattle.cases.specs.Lines.{ownLines}
+use Rattle.cases.specs.Choice.{pick}
+use Rattle.cases.specs.Lines.{ownVersion, ownLines, linesIn}
+use Rattle.cases.specs.Record.{rowList, lineBytes}
 use Rattle.cases.specs.Checks.{countAt}
 
 abbrev pub noInstruction : Instruction
@@ -39,7 +43,7 @@ noStep = record { thread = record { 0 = 0 }; code = 0; position = 0; location = 
 unfoldable pub emptyCase : Case
 emptyCase =
     record {
-      version = 1;
+      version = ownVersion;
       program = record {
         threads = 1;
         locations = 1;
@@ -57,14 +61,20 @@ emptyCase =
       run = record { count = 0; steps = replicate mostSteps noStep };
     }
 
--- a line each
+-- "Version 1 means a line each."
+unfoldable pub lineTable : Header → List ℕ
+lineTable h = pick (eqb (h .version) ownVersion) (ownLines (h .locations)) (rowList (h .line))
+
+unfoldable pub lineCount : Header → ℕ
+lineCount h = pick (eqb (h .version) ownVersion) (h .locations) (linesIn 0 (lineBytes h))
+
 unfoldable pub withSizes : Program → Header → Program
 withSizes p h =
     record {
       threads = h .threads;
       locations = h .locations;
-      lines = h .locations;
-      line = ownLines (h .locations);
+      lines = lineCount h;
+      line = lineTable h;
       first = p .first;
       counts = p .counts;
       code = p .code;

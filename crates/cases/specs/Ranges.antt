@@ -2,6 +2,7 @@
 -- byte string reads as.
 --   ProgramSized p, AskSized a, RunSized r   how long the arrays are, and how much they hold at most
 --   InstructionFits p x   the instruction's numbers are there, used or not
+--   HasOwnLines p         every location has a line of its own
 --   ProgramFits p         the program's numbers are in range: what the machine takes for granted of one
 --   Ranged c              every number of the case is in range
 -- Assumes nothing.
@@ -17,6 +18,7 @@ use Rattle.cases.specs.declared.case.Instruction.{Instruction}
 use Rattle.cases.specs.Sizes.{mostThreads, mostInstructions, mostLocations, mostRegisters, mostSteps}
 use Rattle.cases.specs.Sizes.{allCode}
 use Rattle.cases.specs.Operations.{firstOperation, lastOperation}
+use Rattle.cases.specs.Lines.{ownVersion, ownLines}
 use Rattle.cases.specs.Checks.{countAt, limitsOf, stepFault}
 use Rattle.cases.specs.Draft.{noInstruction, noStep}
 
@@ -30,6 +32,9 @@ pub record ProgramSized (p : Program) : Type 0 where
   pub few-locations : p .locations ≤ mostLocations
   pub few-lines : p .lines ≤ mostLocations
   pub few-instructions : (t : ℕ) → countAt p t ≤ mostInstructions
+
+unfoldable pub HasOwnLines : Program → Type 0
+HasOwnLines p = (p .lines ≡ p .locations) × (p .line ≡ ownLines (p .locations))
 
 pub record AskSized (a : Ask) : Type 0 where
   pub wanted-long : length (a .wanted) ≡ mostLocations
@@ -57,6 +62,7 @@ pub record Ranged (c : Case) : Type 0 where
   pub program : ProgramFits (c .program)
   pub ask : AskSized (c .ask)
   pub run : RunSized (c .run)
+  pub own-lines : c .version ≡ ownVersion → HasOwnLines (c .program)
   pub some-threads : 1 ≤ c .program .threads
   pub some-locations : 1 ≤ c .program .locations
   pub wants : (l : ℕ) → getD (c .ask .wanted) l false ≡ true → l < c .program .locations

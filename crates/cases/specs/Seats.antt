@@ -3,6 +3,7 @@
 -- want of each location; the passed count of each thread; the steps. A seat holds a record or is empty.
 --   fromFirsts, fromCode, fromWants, fromPassed, fromSteps   where the seats of each kind begin
 --   seats          how many there are
+--   listedLines c  the lines that the program's record lists
 --   headerSeat, firstSeat, instructionSeat, wantSeat, passedSeat, stepSeat
 --                  what stands at a seat of that kind, counted from the first of its kind
 --   seatOf c k     what stands at seat k of the case's file
@@ -14,7 +15,7 @@
 use Prim.Native.Nat.{ℕ, zero, suc, _+_, _-_, _/_, _%_}
 use mathlib.Core.List.{List, [], _++_, map}
 use mathlib.Core.Bool.{false}
-use lib.ListN.{getD}
+use lib.ListN.{getD, replicate}
 use lib.Dec.{eqb, leb, ltb}
 use Rattle.cases.specs.declared.case.Step.{Step}
 use Rattle.cases.specs.declared.case.Program.{Program}
@@ -26,7 +27,8 @@ use Rattle.cases.specs.declared.seats.Seat.{Seat}
 use Rattle.cases.specs.declared.seats.Seat.the-variants.{Holds, Empty}
 use Rattle.cases.specs.Sizes.{mostThreads, mostInstructions, mostLocations, mostSteps, allCode}
 use Rattle.cases.specs.Choice.{pick}
-use Rattle.cases.specs.Record.{recordBytes, bytesOf}
+use Rattle.cases.specs.Lines.{ownVersion, listedOf}
+use Rattle.cases.specs.Record.{asRow, recordBytes, bytesOf}
 use Rattle.cases.specs.Checks.{countAt}
 use Rattle.cases.specs.Draft.{noInstruction, noStep}
 
@@ -48,12 +50,18 @@ fromSteps = fromPassed + mostThreads
 abbrev pub seats : ℕ
 seats = fromSteps + mostSteps
 
+-- in version 1 none is listed, and zeros stand in their place
+unfoldable pub listedLines : Case → List ℕ
+listedLines c = pick (eqb (c .version) ownVersion) (replicate mostLocations 0) (c .program .line)
+
 unfoldable pub headerSeat : Case → Seat
 headerSeat c =
     Holds (Declare (record {
       version = c .version;
       threads = c .program .threads;
       locations = c .program .locations;
+      listed = listedOf (c .version) (c .program .locations);
+      line = asRow (listedLines c);
     }))
 
 -- "A location without a kind 2 holds 0"

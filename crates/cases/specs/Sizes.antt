@@ -27,10 +27,10 @@ abbrev pub allCode : ℕ
 allCode = mostThreads * mostInstructions
 
 abbrev pub longest : ℕ
-longest = 1328
+longest = 1336
 
 abbrev pub longestRecord : ℕ
-longestRecord = 12
+longestRecord = 16
 
 abbrev pub stepSize : ℕ
 stepSize = 8

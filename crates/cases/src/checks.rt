@@ -1,11 +1,14 @@
 // What may be wrong with a record that opens, each fault by its name; `fault` tries them in 01's order:
-// 4, 5, 8, 6, 7, 9.
+// 4, 5, 8, 6, 7, 9, and for the program's record in 02's: 4, 5, 3, 8.
 use crate::case::Instruction;
 use crate::case::Program;
 use crate::case::Step;
 use crate::case::Thread;
 use crate::case::Write;
 use crate::draft::Draft;
+use crate::lines::LAST_VERSION;
+use crate::lines::is_unordered;
+use crate::lines::listed_of;
 use crate::operations::EXCHANGE;
 use crate::operations::FLUSH_OPT;
 use crate::operations::LAST_CODE;
@@ -16,14 +19,19 @@ use crate::operations::STORE_REGISTER;
 use crate::operations::STORE_WORD;
 use crate::record::Header;
 use crate::record::Record;
+use crate::record::row_list;
 use crate::sizes::INSTRUCTIONS;
 use crate::sizes::LOCATIONS;
 use crate::sizes::REGISTERS;
 use crate::sizes::STEPS;
 use crate::sizes::THREADS;
 ghost use mathlib.Core.Path.{_≡_};
+ghost use Prim.Native.Nat.{_≤_};
 ghost use Rattle.cases.specs.declared.record.Record.the-variants.{Declare, First, Instruct};
 ghost use Rattle.cases.specs.declared.record.Record.the-variants.{Want, Passed, Take};
+ghost use Rattle.cases.specs.Sizes.{mostLocations};
+ghost use Rattle.cases.specs.Lines.{lastVersion, unordered};
+ghost use Rattle.cases.specs.Record.{lineBytes};
 ghost use Rattle.cases.specs.Checks.{
   kindRank,
   misplaced,
@@ -35,6 +43,7 @@ ghost use Rattle.cases.specs.Checks.{
   usesRegister,
   usesWord,
   headerOut,
+  mislisted,
   instructionOut,
   instructionLeft,
   passedOut,
@@ -106,16 +115,41 @@ fn is_left_over(used: bool, x: u32) -> bool
     x != 0
 }
 
+// There is no such version.
+fn is_unknown(version: u16) -> bool
+    ensures { λ r. ⌜ r ≡ outside version lastVersion ⌝ }
+{
+    if version < 1 {
+        return true;
+    }
+    LAST_VERSION < version
+}
+
 fn is_header_out(h: Header) -> bool
     ensures { λ r. ⌜ r ≡ headerOut h ⌝ }
 {
-    if h.version != 1 {
+    if is_unknown(h.version) {
         return true;
     }
     if is_outside(h.threads, THREADS as u8) {
         return true;
     }
     is_outside(h.locations, LOCATIONS as u8)
+}
+
+// The number of line bytes is not that version's and count's.
+fn is_mislisted(h: Header) -> bool
+    ensures { λ r. ⌜ r ≡ mislisted h ⌝ }
+{
+    h.listed != listed_of(h.version, h.locations)
+}
+
+// Its line numbers are not in order of first appearance.
+fn is_misnumbered(h: Header) -> bool
+    requires { ⌜ h .listed ≤ mostLocations ⌝ }
+    ensures { λ r. ⌜ r ≡ unordered 0 (lineBytes h) ⌝ }
+{
+    is_unordered(row_list(h.line), h.listed)
 }
 
 fn uses_location(op: u8) -> bool
@@ -246,6 +280,12 @@ fn header_fault(d: Draft, h: Header) -> u8
     }
     if is_header_out(h) {
         return 5;
+    }
+    if is_mislisted(h) {
+        return 3;
+    }
+    if is_misnumbered(h) {
+        return 8;
     }
     0
 }

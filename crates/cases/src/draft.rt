@@ -9,8 +9,12 @@ use crate::case::Run;
 use crate::case::Step;
 use crate::case::Thread;
 use crate::case::Write;
+use crate::lines::OWN_VERSION;
+use crate::lines::lines_in;
+use crate::lines::own_lines;
 use crate::record::Header;
 use crate::record::Record;
+use crate::record::row_list;
 use crate::sizes::CODE;
 use crate::sizes::INSTRUCTIONS;
 use crate::sizes::LOCATIONS;
@@ -21,9 +25,8 @@ ghost use Prim.Native.Nat.{_<_, _≤_};
 ghost use Rattle.cases.specs.declared.record.Record.the-variants.{Declare, First, Instruct};
 ghost use Rattle.cases.specs.declared.record.Record.the-variants.{Want, Passed, Take};
 ghost use Rattle.cases.specs.Sizes.{mostThreads, mostInstructions, mostLocations, mostSteps};
-ghost use Rattle.cases.specs.Lines.{ownLines};
 ghost use Rattle.cases.specs.Checks.{countAt, faultOf};
-ghost use Rattle.cases.specs.Draft.{emptyCase, blankDraft, addOf};
+ghost use Rattle.cases.specs.Draft.{emptyCase, lineTable, lineCount, blankDraft, addOf};
 
 // The case so far, the kind of the record before (0: none), and the least number that may come next in that
 // kind.
@@ -50,7 +53,7 @@ pub fn empty_case() -> Case
         location: Location(0),
     };
     Case {
-        version: 1,
+        version: OWN_VERSION,
         program: Program {
             threads: 1,
             locations: 1,
@@ -82,30 +85,37 @@ pub(crate) fn blank_draft() -> Draft
     }
 }
 
-// A line each for so many locations.
-fn own_lines(n: u8) -> [u8; LOCATIONS]
-    requires { ⌜ n ≤ mostLocations ⌝ }
-    ensures { λ r. ⌜ r ≡ ownLines n ⌝ }
+// On which line each location lies, as the record of the program says.
+fn line_table(h: Header) -> [u8; LOCATIONS]
+    requires { ⌜ h .locations ≤ mostLocations ⌝ }
+    ensures { λ r. ⌜ r ≡ lineTable h ⌝ }
 {
-    let mut line = [0u8; LOCATIONS];
-    let mut l: u8 = 0;
-    while l < n {
-        line[l as usize] = l;
-        l = l + 1;
+    if h.version == OWN_VERSION {
+        return own_lines(h.locations);
     }
-    line
+    row_list(h.line)
+}
+
+fn line_count(h: Header) -> u8
+    requires { ⌜ h .listed ≤ mostLocations ⌝ }
+    ensures { λ r. ⌜ r ≡ lineCount h ⌝ }
+{
+    if h.version == OWN_VERSION {
+        return h.locations;
+    }
+    lines_in(row_list(h.line), h.listed)
 }
 
 fn add_header(d: Draft, h: Header) -> Draft
-    requires { ⌜ h .locations ≤ mostLocations ⌝ }
+    requires { ⌜ (h .locations ≤ mostLocations) × (h .listed ≤ mostLocations) ⌝ }
     ensures { λ r. ⌜ r ≡ addOf d (Declare h) ⌝ }
 {
     let c = d.case;
     let mut p = c.program;
     p.threads = h.threads;
     p.locations = h.locations;
-    p.lines = h.locations;
-    let line = own_lines(h.locations);
+    p.lines = line_count(h);
+    let line = line_table(h);
     p.line = line;
     Draft {
         case: Case {

@@ -4,6 +4,7 @@ mod bytes;
 pub mod case;
 pub mod checks;
 pub mod draft;
+pub mod lines;
 pub mod operations;
 pub mod reader;
 pub mod record;

@@ -9,17 +9,27 @@ use crate::case::Register;
 use crate::case::Step;
 use crate::case::Thread;
 use crate::case::Write;
+use crate::sizes::LOCATIONS;
 use crate::sizes::LONGEST_RECORD;
 use crate::sizes::STEP_SIZE;
 ghost use mathlib.Core.Path.{_≡_};
+ghost use mathlib.Core.Bool.{false};
 ghost use mathlib.Core.List.{_∷_};
 ghost use Prim.Native.Nat.{_+_, _≤_};
 ghost use lib.ListN.{length};
 ghost use lib.Seq.{sets};
 ghost use Rattle.cases.specs.declared.record.Record.the-variants.{Declare, Instruct, Passed, Take};
-ghost use Rattle.cases.specs.Bytes.{wordBytes};
+ghost use Rattle.cases.specs.Sizes.{mostLocations};
+ghost use Rattle.cases.specs.Bytes.{half, wordBytes};
+ghost use Rattle.cases.specs.Lines.{table};
 ghost use Rattle.cases.specs.Record.{
   payloadOf,
+  spareOf,
+  mislong,
+  rowList,
+  asRow,
+  lineBytes,
+  lineByte,
   asHeader,
   asWrite,
   asInstruction,
@@ -32,10 +42,25 @@ ghost use Rattle.cases.specs.Record.{
   paddedOf,
 };
 
+// A byte for each location that there may be. An enum can't hold an array.
+pub struct Row(
+    pub u8,
+    pub u8,
+    pub u8,
+    pub u8,
+    pub u8,
+    pub u8,
+    pub u8,
+    pub u8,
+);
+
+// `listed`: how many line bytes stand in the record; `line`: those bytes, 0 behind them.
 pub struct Header {
     pub version: u16,
     pub threads: u8,
     pub locations: u8,
+    pub listed: u8,
+    pub line: Row,
 }
 
 // A record of each kind, 1 to 6.
@@ -60,7 +85,7 @@ pub struct Padded {
     pub bytes: [u8; LONGEST_RECORD],
 }
 
-// How long the payload of a kind is; 0 where there is no such kind.
+// How long the payload of a kind is at least; 0 where there is no such kind.
 fn payload(kind: u16) -> u16
     ensures { λ r. ⌜ r ≡ payloadOf kind ⌝ }
 {
@@ -85,13 +110,66 @@ fn payload(kind: u16) -> u16
     0
 }
 
+// How much longer it may be.
+fn spare(kind: u16) -> u16
+    ensures { λ r. ⌜ r ≡ spareOf kind ⌝ }
+{
+    if kind == 1 {
+        return LOCATIONS as u16;
+    }
+    0
+}
+
+// A payload of that kind has not so many bytes.
+fn is_mislong(kind: u16, n: u16) -> bool
+    ensures { λ r. ⌜ r ≡ mislong kind n ⌝ }
+{
+    let least = payload(kind);
+    if n < least {
+        return true;
+    }
+    spare(kind) < n - least
+}
+
+pub(crate) fn row_list(x: Row) -> [u8; LOCATIONS]
+    ensures { λ r. ⌜ r ≡ rowList x ⌝ }
+{
+    [x.0, x.1, x.2, x.3, x.4, x.5, x.6, x.7]
+}
+
+pub(crate) fn as_row(a: [u8; LOCATIONS]) -> Row
+    ensures { λ r. ⌜ r ≡ asRow a ⌝ }
+{
+    Row(a[0], a[1], a[2], a[3], a[4], a[5], a[6], a[7])
+}
+
+// The line bytes of a program's record, 0 behind them.
+fn as_lines(s: &[u8], n: u8) -> [u8; LOCATIONS]
+    requires { ⌜ n ≤ mostLocations ⌝ }
+    ensures { λ r. ⌜ r ≡ table (lineByte (now (s .entry))) n ⌝ }
+{
+    let mut line = [0u8; LOCATIONS];
+    let mut l: u8 = 0;
+    while l < n {
+        let at = l as usize;
+        line[at] = byte_at(s, 8 + at);
+        l = l + 1;
+    }
+    line
+}
+
 fn as_header(s: &[u8]) -> Header
+    requires { ⌜ (4 ≤ half (now s) 0) × (half (now s) 0 ≤ 4 + mostLocations) ⌝ }
     ensures { λ r. ⌜ r ≡ asHeader (now (s .entry)) ⌝ }
 {
+    let listed = (half_at(s, 0) - 4) as u8;
+    let line = as_lines(s, listed);
     Header {
         version: half_at(s, 4),
         threads: byte_at(s, 6),
         locations: byte_at(s, 7),
+        listed: listed,
+        line: as_row(line),
     }
 }
 
@@ -128,6 +206,7 @@ fn as_step(s: &[u8]) -> Step
 
 // The record of that kind whose bytes s starts with.
 fn decode(s: &[u8], kind: u16) -> Record
+    requires { ⌜ mislong kind (half (now s) 0) ≡ false ⌝ }
     ensures { λ r. ⌜ r ≡ recordOf kind (now (s .entry)) ⌝ }
 {
     if kind == 1 {
@@ -165,11 +244,10 @@ pub(crate) fn open_record(s: &[u8]) -> Opened
     }
     let length = half_at(s, 0);
     let kind = half_at(s, 2);
-    let right = payload(kind);
-    if right == 0 {
+    if payload(kind) == 0 {
         return Opened::Faulty(2);
     }
-    if length != right {
+    if is_mislong(kind, length) {
         return Opened::Faulty(3);
     }
     if n - 4 < (length as usize) {
@@ -188,15 +266,50 @@ pub(crate) fn opened_number(x: Opened) -> u8
     }
 }
 
+// How many line bytes there are: no more than there is room for.
+fn line_bytes(h: Header) -> u8
+    ensures { λ r. ⌜ r ≡ length (lineBytes h) ⌝ }
+{
+    if (LOCATIONS as u8) < h.listed {
+        return LOCATIONS as u8;
+    }
+    h.listed
+}
+
 fn padded_header(h: Header) -> Padded
     ensures { λ r. ⌜ r ≡ paddedOf (recordBytes (Declare h)) ⌝ }
 {
+    let n = line_bytes(h);
     let v = h.version;
     let low = (v % 256) as u8;
     let high = (v / 256 % 256) as u8;
+    let line = row_list(h.line);
+    let mut bytes = [
+        4 + n,
+        0,
+        1,
+        0,
+        low,
+        high,
+        h.threads,
+        h.locations,
+        0,
+        0,
+        0,
+        0,
+        0,
+        0,
+        0,
+        0,
+    ];
+    let mut i: u8 = 0;
+    while i < n {
+        bytes[8 + (i as usize)] = line[i as usize];
+        i = i + 1;
+    }
     Padded {
-        length: 8,
-        bytes: [4, 0, 1, 0, low, high, h.threads, h.locations, 0, 0, 0, 0],
+        length: 8 + (n as usize),
+        bytes: bytes,
     }
 }
 
@@ -207,7 +320,24 @@ fn padded_write(kind: u8, w: Write) -> Padded
     let b = word_bytes(w.word);
     Padded {
         length: 9,
-        bytes: [5, 0, kind, 0, w.location.0, b[0], b[1], b[2], b[3], 0, 0, 0],
+        bytes: [
+            5,
+            0,
+            kind,
+            0,
+            w.location.0,
+            b[0],
+            b[1],
+            b[2],
+            b[3],
+            0,
+            0,
+            0,
+            0,
+            0,
+            0,
+            0,
+        ],
     }
 }
 
@@ -216,7 +346,7 @@ fn padded_instruction(t: Thread, x: Instruction) -> Padded
 {
     let b = word_bytes(x.word);
     Padded {
-        length: LONGEST_RECORD,
+        length: 12,
         bytes: [
             8,
             0,
@@ -230,6 +360,10 @@ fn padded_instruction(t: Thread, x: Instruction) -> Padded
             b[1],
             b[2],
             b[3],
+            0,
+            0,
+            0,
+            0,
         ],
     }
 }
@@ -239,7 +373,7 @@ fn padded_passed(t: Thread, n: u8) -> Padded
 {
     Padded {
         length: 6,
-        bytes: [2, 0, 5, 0, t.0, n, 0, 0, 0, 0, 0, 0],
+        bytes: [2, 0, 5, 0, t.0, n, 0, 0, 0, 0, 0, 0, 0, 0, 0, 0],
     }
 }
 
@@ -257,6 +391,10 @@ fn padded_step(k: Step) -> Padded
             k.code,
             k.position,
             k.location.0,
+            0,
+            0,
+            0,
+            0,
             0,
             0,
             0,

@@ -6,8 +6,11 @@ use crate::case::Program;
 use crate::case::Run;
 use crate::case::Thread;
 use crate::case::Write;
+use crate::lines::OWN_VERSION;
+use crate::lines::listed_of;
 use crate::record::Header;
 use crate::record::Record;
+use crate::record::as_row;
 use crate::record::put_record;
 use crate::sizes::CODE;
 use crate::sizes::INSTRUCTIONS;
@@ -20,6 +23,7 @@ ghost use Prim.Native.Nat.{_<_, _≤_};
 ghost use lib.ListN.{length, drop};
 ghost use Rattle.cases.specs.Sizes.{mostThreads, mostLocations, mostSteps, allCode};
 ghost use Rattle.cases.specs.Seats.{
+  listedLines,
   headerSeat,
   firstSeat,
   instructionSeat,
@@ -49,6 +53,17 @@ pub enum Seat {
     Empty,
 }
 
+// The lines that the case's version lists, zeros where it lists none.
+fn listed_lines(c: Case) -> [u8; LOCATIONS]
+    ensures { λ r. ⌜ r ≡ listedLines c ⌝ }
+{
+    if c.version == OWN_VERSION {
+        return [0u8; LOCATIONS];
+    }
+    let line = c.program.line;
+    line
+}
+
 fn header_seat(c: Case) -> Seat
     ensures { λ r. ⌜ r ≡ headerSeat c ⌝ }
 {
@@ -57,6 +72,8 @@ fn header_seat(c: Case) -> Seat
         version: c.version,
         threads: p.threads,
         locations: p.locations,
+        listed: listed_of(c.version, p.locations),
+        line: as_row(listed_lines(c)),
     }))
 }
 

@@ -14,10 +14,10 @@ pub const STEPS: usize = 96;
 pub const CODE: usize = THREADS * INSTRUCTIONS;
 
 // The longest file, in bytes.
-pub const LONGEST: usize = 1328;
+pub const LONGEST: usize = 1336;
 
 // The longest record, in bytes.
-pub const LONGEST_RECORD: usize = 12;
+pub const LONGEST_RECORD: usize = 16;
 
 // A step's record, in bytes.
 pub const STEP_SIZE: usize = 8;

@@ -14,7 +14,8 @@ use Rattle.cases.specs.declared.record.Record.{Record}
 use Rattle.cases.specs.declared.record.Record.the-variants.{Declare, First, Instruct, Want, Passed, Take}
 use Rattle.cases.specs.Checks.{disordered, faultOf, passedOut, limitsOf, stepOut, stepLeft}
 use Rattle.cases.specs.Draft.{addOf, withAsk, withRun, withWant, withPassed, withStep}
-use Rattle.cases.specs.Seats.{fromWants, fromPassed, fromSteps, headerSeat, wantSeat, passedSeat}
+use Rattle.cases.specs.Seats.{fromWants, fromPassed, fromSteps, listedLines, headerSeat, wantSeat}
+use Rattle.cases.specs.Seats.{passedSeat}
 use Rattle.cases.specs.Ranges.{ProgramSized}
 use Rattle.cases.proofs.ChoiceLaws.{refuse-none}
 use Rattle.cases.proofs.seats.SeatLaws.{seat-want, seat-passed, seat-step, seat-same}
@@ -40,7 +41,7 @@ module _ (d : Draft) (front : ℕ) (s : Sound d front) where
 
   -- the want of a location
   pub add-want : (w : Write) → faultOf d (Want w) ≡ 0 → Added d (Want w)
-  unfolding faultOf addOf withAsk withWant headerSeat passedSeat RecordFits
+  unfolding faultOf addOf withAsk withWant headerSeat listedLines passedSeat RecordFits
   add-want w h =
       let in-range = refuse-none (leb (program .locations) (w .location .0)) 4 _ (refuse-none _ 3 _ h .1) in
       let in-order = refuse-none (disordered d 4 (w .location .0)) 5 _ (in-range .1) in
@@ -62,6 +63,7 @@ module _ (d : Draft) (front : ℕ) (s : Sound d front) where
         sized = record {
           of-program = sized;
           on-lines = s .sized .on-lines;
+          own = s .sized .own;
           some-threads = s .sized .some-threads;
           some-locations = s .sized .some-locations;
           of-ask = record {
@@ -83,7 +85,7 @@ module _ (d : Draft) (front : ℕ) (s : Sound d front) where
 
   -- the passed count of a thread
   pub add-passed : (t : Thread) (n : ℕ) → faultOf d (Passed t n) ≡ 0 → Added d (Passed t n)
-  unfolding faultOf addOf withAsk withPassed headerSeat wantSeat RecordFits
+  unfolding faultOf addOf withAsk withPassed headerSeat listedLines wantSeat RecordFits
   add-passed t n h =
       let in-range = refuse-none (passedOut program t n) 4 _ (refuse-none _ 3 _ h .1) in
       let clean = refuse-none (eqb n 0) 7 _ (in-range .1) in
@@ -106,6 +108,7 @@ module _ (d : Draft) (front : ℕ) (s : Sound d front) where
         sized = record {
           of-program = sized;
           on-lines = s .sized .on-lines;
+          own = s .sized .own;
           some-threads = s .sized .some-threads;
           some-locations = s .sized .some-locations;
           of-ask = record {
@@ -127,7 +130,7 @@ module _ (d : Draft) (front : ℕ) (s : Sound d front) where
 
   -- a step, behind the others
   pub add-step : (k : Step) → faultOf d (Take k) ≡ 0 → Added d (Take k)
-  unfolding faultOf addOf withRun withStep headerSeat RecordFits
+  unfolding faultOf addOf withRun withStep headerSeat listedLines RecordFits
   add-step k h =
       let in-range = refuse-none (stepOut (limitsOf program) k) 4 _ (refuse-none _ 3 _ h .1) in
       let clean = refuse-none (stepLeft k) 7 _ (in-range .1) in
@@ -147,6 +150,7 @@ module _ (d : Draft) (front : ℕ) (s : Sound d front) where
         sized = record {
           of-program = sized;
           on-lines = s .sized .on-lines;
+          own = s .sized .own;
           some-threads = s .sized .some-threads;
           some-locations = s .sized .some-locations;
           of-ask = s .sized .of-ask;

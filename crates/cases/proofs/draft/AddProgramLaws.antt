@@ -15,8 +15,9 @@ use Rattle.cases.specs.declared.record.Record.the-variants.{Declare, Fir
 use Rattle.cases.specs.Sizes.{mostInstructions}
 use Rattle.cases.specs.Checks.{misplaced, disordered, countAt, faultOf, instructionOut, instructionLeft}
 use Rattle.cases.specs.Draft.{addOf, withProgram, withFirst, withInstruction}
-use Rattle.cases.specs.Seats.{fromFirsts, fromCode, headerSeat, firstSeat, instructionSeat}
-use Rattle.cases.specs.Ranges.{ProgramSized}
+use Rattle.cases.specs.Seats.{fromFirsts, fromCode, listedLines, headerSeat, firstSeat}
+use Rattle.cases.specs.Seats.{instructionSeat}
+use Rattle.cases.specs.Ranges.{HasOwnLines, ProgramSized}
 use Rattle.cases.proofs.ChoiceLaws.{refuse-none}
 use Rattle.cases.proofs.seats.SeatLaws.{seat-first, seat-code, seat-same}
 use Rattle.cases.proofs.draft.WithLaws.{first-same, first-other, instruction-same, instruction-other}
@@ -36,7 +37,7 @@ module _ (d : Draft) (front : ℕ) (s : Sound d front) where
 
   -- the first content of a location
   pub add-first : (w : Write) → faultOf d (First w) ≡ 0 → Added d (First w)
-  unfolding faultOf addOf withProgram withFirst headerSeat instructionSeat RecordFits
+  unfolding faultOf addOf withProgram withFirst headerSeat listedLines instructionSeat RecordFits HasOwnLines
   add-first w h =
       let in-range = refuse-none (leb (program .locations) (w .location .0)) 4 _ (refuse-none _ 3 _ h .1) in
       let clean = refuse-none (eqb (w .word) 0) 7 _ (in-range .1) in
@@ -68,6 +69,7 @@ module _ (d : Draft) (front : ℕ) (s : Sound d front) where
             few-instructions = sized .few-instructions;
           };
           on-lines = s .sized .on-lines;
+          own = s .sized .own;
           some-threads = s .sized .some-threads;
           some-locations = s .sized .some-locations;
           of-ask = s .sized .of-ask;
@@ -85,7 +87,7 @@ module _ (d : Draft) (front : ℕ) (s : Sound d front) where
 
   -- an instruction, behind its thread's
   pub add-instruction : (t : Thread) (x : Instruction) → faultOf d (Instruct t x) ≡ 0 → Added d (Instruct t x)
-  unfolding faultOf addOf withProgram withInstruction headerSeat firstSeat RecordFits
+  unfolding faultOf addOf withProgram withInstruction headerSeat listedLines firstSeat RecordFits HasOwnLines
   add-instruction t x h =
       let in-range = refuse-none (instructionOut program t x) 4 _ (refuse-none _ 3 _ h .1) in
       let clean = refuse-none (instructionLeft x) 7 _ (in-range .1) in
@@ -118,6 +120,7 @@ module _ (d : Draft) (front : ℕ) (s : Sound d front) where
             few-instructions = count-few program t low few (sized .few-instructions);
           };
           on-lines = s .sized .on-lines;
+          own = s .sized .own;
           some-threads = s .sized .some-threads;
           some-locations = s .sized .some-locations;
           of-ask = s .sized .of-ask;

@@ -1,7 +1,7 @@
 -- The first record: the program, behind the blank draft. Assumes nothing.
 use Prim.Native.Nat.{ℕ, zero, suc, _/_, _%_, _≤_}
-use mathlib.Core.Path.{_≡_, refl, ap, _∙_}
-use mathlib.Core.List.{[]}
+use mathlib.Core.Path.{_≡_, refl, sym, ap, _∙_}
+use mathlib.Core.List.{List, []}
 use mathlib.Core.Bool.{false}
 use lib.Dec.{leb·zero}
 use native.Mathlib.Omega.{arith}
@@ -13,42 +13,65 @@ use Rattle.cases.specs.declared.seats.Seat.{Seat}
 use Rattle.cases.specs.declared.seats.Seat.the-variants.{Holds, Empty}
 use Rattle.cases.specs.Sizes.{mostThreads, mostInstructions, mostLocations}
 use Rattle.cases.specs.Choice.{pick, refuse}
-use Rattle.cases.specs.Record.{recordBytes}
-use Rattle.cases.specs.Checks.{misplaced, headerOut, faultOf}
-use Rattle.cases.specs.Lines.{ownLines}
+use Rattle.cases.specs.Lines.{unordered}
+use Rattle.cases.specs.Record.{lineBytes, recordBytes, recordOf}
+use Rattle.cases.specs.Checks.{misplaced, headerOut, mislisted, faultOf}
 use Rattle.cases.specs.Draft.{emptyCase, blankDraft, addOf, withHeader, withSizes}
-use Rattle.cases.specs.Seats.{headerSeat, firstSeat, instructionSeat}
+use Rattle.cases.specs.Seats.{listedLines, headerSeat, firstSeat, instructionSeat}
 use Rattle.cases.specs.Seats.{wantSeat, passedSeat, stepSeat}
 use Rattle.cases.specs.Seats.{seats, seatOf, seatBytes, bytesAt, encodeOf}
-use Rattle.cases.proofs.ChoiceLaws.{either-false, refuse-none}
+use Rattle.cases.specs.Ranges.{HasOwnLines}
+use Rattle.cases.proofs.ChoiceLaws.{refuse-none}
 use Rattle.cases.proofs.ArrayLaws.{getD-blank}
 use Rattle.cases.proofs.seats.EachLaws.{each-more, each-none}
 use Rattle.cases.proofs.seats.SeatLaws.{seat-cases, seat-header}
-use Rattle.cases.proofs.draft.LineLaws.{row-long, own-low}
-use Rattle.cases.proofs.draft.RecordFitLaws.{RecordFits, SeatFits, outside-low}
+use Rattle.cases.proofs.draft.RecordFitLaws.{RecordFits, SeatFits}
+use Rattle.cases.proofs.draft.HeaderLaws.{Opening, header-low, header-listed, header-zeros, header-bytes}
+use Rattle.cases.proofs.draft.HeaderLaws.{header-row, header-table-long, header-few-lines}
+use Rattle.cases.proofs.draft.HeaderLaws.{header-on-lines, header-own}
 use Rattle.cases.proofs.draft.SoundLaws.{Sound}
 
 -- the first record is the program
-pub blank-first : (r : Record) → faultOf blankDraft r ≡ 0
-    → (h : Header) × (r ≡ Declare h) × (headerOut h ≡ false)
+blank-declared : (r : Record) → faultOf blankDraft r ≡ 0
+    → (h : Header) × (r ≡ Declare h) × (headerOut h ≡ false) × (mislisted h ≡ false)
+    × (unordered 0 (lineBytes h) ≡ false)
 unfolding faultOf blankDraft misplaced refuse pick
-blank-first (Declare h) f = (h, refl, refuse-none (headerOut h) 4 0 f .0)
-blank-first (First w) f = absurd (omega arith)
-blank-first (Instruct t x) f = absurd (omega arith)
-blank-first (Want w) f = absurd (omega arith)
-blank-first (Passed t n) f = absurd (omega arith)
-blank-first (Take k) f = absurd (omega arith)
+blank-declared (Declare h) f =
+    let inside = refuse-none (headerOut h) 4 _ f in
+    let right = refuse-none (mislisted h) 2 _ (inside .1) in
+    let ordered = refuse-none (unordered 0 (lineBytes h)) 7 _ (right .1) in
+    (h, refl, inside .0, right .0, ordered .0)
+blank-declared (First w) f = absurd (omega arith)
+blank-declared (Instruct t x) f = absurd (omega arith)
+blank-declared (Want w) f = absurd (omega arith)
+blank-declared (Passed t n) f = absurd (omega arith)
+blank-declared (Take k) f = absurd (omega arith)
+
+pub blank-first : (k : ℕ) (t : List ℕ) → faultOf blankDraft (recordOf k t) ≡ 0
+    → (h : Header) × (recordOf k t ≡ Declare h) × Opening h
+blank-first k t f =
+    let b = blank-declared (recordOf k t) f in
+    (b .0, b .1, record { out = b .2; right = b .3; ordered = b .4; zeros = header-zeros k t (b .0) (b .1) })
 
 -- the empty case with other sizes: nothing stands behind the program
-module _ (h : Header) (fit : headerOut h ≡ false) where
+module _ (h : Header) (fit : Opening h) where
   abbrev begun : Draft
   begun = addOf blankDraft (Declare h)
 
   -- the program's record stands at its seat, every other seat is empty, and what stands there is in range
   begun-here : seatOf (begun .case) 0 ≡ Holds (Declare h)
-  unfolding addOf withHeader withSizes headerSeat
+  unfolding addOf withHeader withSizes headerSeat listedLines
   begun-here =
+      let n = sym (header-listed h (fit .right)) in
+      let x = header-row h fit in
       seat-header (begun .case) 0 refl
+      ∙ (λ i. Holds (Declare (record {
+        version = h .version;
+        threads = h .threads;
+        locations = h .locations;
+        listed = n i;
+        line = x i;
+      })))
 
   begun-blank : (j : ℕ) → 1 ≤ j → seatOf (begun .case) j ≡ Empty
   unfolding addOf withHeader withSizes blankDraft emptyCase
@@ -64,7 +87,7 @@ module _ (h : Header) (fit : headerOut h ≡ false) where
 
   begun-fits : (j : ℕ) → SeatFits (begun .case .program) (seatOf (begun .case) j)
   unfolding SeatFits RecordFits
-  begun-fits zero = rw begun-here fit
+  begun-fits zero = rw begun-here (fit .out, header-bytes h fit)
   begun-fits (suc j) = rw (begun-blank (suc j) (omega arith)) tt
 
   -- the file is the program's record
@@ -77,26 +100,25 @@ module _ (h : Header) (fit : headerOut h ≡ false) where
 
   -- the draft is sound, and the next record comes behind seat 0
   pub begun-sound : Sound begun 1
-  unfolding addOf withHeader withSizes blankDraft emptyCase headerOut ownLines
+  unfolding addOf withHeader withSizes blankDraft emptyCase HasOwnLines
   begun-sound =
-      let e = either-false _ _ (either-false _ _ fit .1) in
-      let t = outside-low (h .threads) mostThreads (e .0) in
-      let l = outside-low (h .locations) mostLocations (e .1) in
+      let low = header-low h (fit .out) in
       record {
         sized = record {
           of-program = record {
-            line-long = row-long _ (h .locations);
+            line-long = header-table-long h fit;
             first-long = refl;
             counts-long = refl;
             code-long = refl;
-            few-threads = t .1;
-            few-locations = l .1;
-            few-lines = l .1;
+            few-threads = low .1;
+            few-locations = low .3;
+            few-lines = header-few-lines h fit;
             few-instructions = λ u. omega (arith, getD-blank {A = ℕ} mostThreads u 0);
           };
-          on-lines = λ i low. own-low (h .locations) i (l .0) (l .1);
-          some-threads = t .0;
-          some-locations = l .0;
+          on-lines = header-on-lines h fit;
+          own = header-own h;
+          some-threads = low .0;
+          some-locations = low .2;
           of-ask = record { wanted-long = refl; want-long = refl; passed-long = refl };
           of-run = record { steps-long = refl; few-steps = omega arith };
         };

@@ -3,8 +3,7 @@
 -- Assumes nothing.
 use Prim.Native.Nat.{ℕ, zero, suc, _/_, _%_, _<_, _≤_}
 use mathlib.Core.List.{List, [], _∷_, _++_}
-use mathlib.Core.Bool.{not}
-use lib.Dec.{eqb, leb}
+use lib.Dec.{leb}
 use borrow.Author.Tests.{leb-false, ltb-false}
 use native.Mathlib.Omega.{arith}
 use Rattle.cases.specs.declared.case.Program.{Program}
@@ -15,9 +14,9 @@ use Rattle.cases.specs.declared.record.Record.the-variants.{Declare, Fir
 use Rattle.cases.specs.declared.seats.Seat.{Seat}
 use Rattle.cases.specs.declared.seats.Seat.the-variants.{Holds, Empty}
 use Rattle.cases.specs.Sizes.{mostThreads, mostLocations}
-use Rattle.cases.specs.Choice.{pick}
+use Rattle.cases.specs.Lines.{lastVersion}
 use Rattle.cases.specs.Bytes.{halfBytes, wordBytes, IsBytes}
-use Rattle.cases.specs.Record.{payloadOf, payloadBytes, recordBytes}
+use Rattle.cases.specs.Record.{lineBytes, payloadBytes, recordBytes}
 use Rattle.cases.specs.Checks.{outside, countAt, headerOut, passedOut, limitsOf}
 use Rattle.cases.specs.Seats.{seats, seatBytes, bytesAt, each, encodeOf}
 use Rattle.cases.specs.Ranges.{ProgramSized}
@@ -30,11 +29,15 @@ data Bytewise : List ℕ → Type 0 where
   none : Bytewise []
   byte : (a : ℕ) {s : List ℕ} → a < 256 → Bytewise s → Bytewise (a ∷ s)
 
--- such a list is one of bytes; two of them joined; one said of each number; a number's bytes
+-- such a list is one of bytes, and back; two of them joined; one said of each number; a number's bytes
 bytewise-is : {s : List ℕ} → Bytewise s → IsBytes s
 bytewise-is none i = omega arith
 bytewise-is (byte a h b) zero = h
 bytewise-is (byte a h b) (suc i) = bytewise-is b i
+
+is-bytewise : (s : List ℕ) → IsBytes s → Bytewise s
+is-bytewise [] b = none
+is-bytewise (a ∷ s) b = byte a (b 0) (is-bytewise s (λ i. b (suc i)))
 
 joined : {s t : List ℕ} → Bytewise s → Bytewise t → Bytewise (s ++ t)
 joined none c = c
@@ -57,42 +60,44 @@ word-are n =
     (byte (n / 65536 % 256) (omega arith)
     (byte (n / 16777216 % 256) (omega arith) none)))
 
--- the bytes of a location and a word, behind a head
-write-are : (kind : ℕ) (w : Write) → w .location .0 < 256
-    → Bytewise (halfBytes 5 ++ halfBytes kind ++ w .location .0 ∷ wordBytes (w .word))
-write-are kind w low =
-    joined (joined (half-are 5) (half-are kind)) (byte (w .location .0) low (word-are (w .word)))
+-- the bytes of a payload behind a head; of a location and a word
+head-are : (n kind : ℕ) {s : List ℕ} → Bytewise s → Bytewise (halfBytes n ++ halfBytes kind ++ s)
+head-are n kind b = joined (joined (half-are n) (half-are kind)) b
+
+write-are : (w : Write) → w .location .0 < 256 → Bytewise (w .location .0 ∷ wordBytes (w .word))
+write-are w low = byte (w .location .0) low (word-are (w .word))
 
 -- the bytes of a record in range are bytes
 record-are : (p : Program) → ProgramSized p → 1 ≤ p .locations → (r : Record) → RecordFits p r
     → Bytewise (recordBytes r)
-unfolding RecordFits recordBytes payloadBytes payloadOf pick headerOut passedOut
+unfolding RecordFits recordBytes payloadBytes headerOut passedOut
 record-are p s some (Declare h) f =
-    let e = either-false (not (eqb (h .version) 1)) _ f in
+    let e = either-false (outside (h .version) lastVersion) _ (f .0) in
     let g = either-false (outside (h .threads) mostThreads) _ (e .1) in
-    joined (joined (half-are 4) (half-are 1))
+    head-are _ 1
     (joined (half-are (h .version))
     (byte (h .threads) (omega (arith, outside-low (h .threads) mostThreads (g .0) .1))
-    (byte (h .locations) (omega (arith, outside-low (h .locations) mostLocations (g .1) .1)) none)))
+    (byte (h .locations) (omega (arith, outside-low (h .locations) mostLocations (g .1) .1))
+    (is-bytewise (lineBytes h) (f .1)))))
 record-are p s some (First w) f =
-    write-are 2 w (omega (arith, leb-false (p .locations) (w .location .0) f, s .few-locations))
+    head-are _ 2 (write-are w (omega (arith, leb-false (p .locations) (w .location .0) f, s .few-locations)))
 record-are p s some (Instruct t x) f =
     let i = instruction-fits p t x some (f .0) (f .1) in
-    joined (joined (half-are 8) (half-are 3))
+    head-are _ 3
     (byte (t .0) (omega (arith, i .0, s .few-threads))
     (byte (x .operation) (omega (arith, i .1 .low-operation))
     (byte (x .location .0) (omega (arith, i .1 .low-location, s .few-locations))
     (byte (x .register .0) (omega (arith, i .1 .low-register)) (word-are (x .word))))))
 record-are p s some (Want w) f =
-    write-are 4 w (omega (arith, leb-false (p .locations) (w .location .0) f, s .few-locations))
+    head-are _ 4 (write-are w (omega (arith, leb-false (p .locations) (w .location .0) f, s .few-locations)))
 record-are p s some (Passed t n) f =
     let e = either-false (leb (p .threads) (t .0)) _ f in
-    joined (joined (half-are 2) (half-are 5))
+    head-are _ 5
     (byte (t .0) (omega (arith, leb-false (p .threads) (t .0) (e .0), s .few-threads))
     (byte n (omega (arith, ltb-false (countAt p (t .0)) n (e .1), s .few-instructions (t .0))) none))
 record-are p s some (Take k) f =
     let i = step-low (limitsOf p) k (s .few-threads) (few-lines p s) (f .0) (f .1) in
-    joined (joined (half-are 4) (half-are 6))
+    head-are _ 6
     (byte (k .thread .0) (omega (arith, i .1))
     (byte (k .code) (omega (arith, i .0))
     (byte (k .position) (omega (arith, i .2))

@@ -19,11 +19,11 @@ use Rattle.cases.specs.Sizes.{mostThreads, mostInstructions, mostLocatio
 use Rattle.cases.specs.Choice.{pick, both, either, refuse}
 use Rattle.cases.specs.Record.{kindOf}
 use Rattle.cases.specs.Checks.{kindRank, misplaced, disordered, headerOut, instructionOut, passedOut}
-use Rattle.cases.specs.Checks.{countAt, faultOf}
+use Rattle.cases.specs.Checks.{mislisted, countAt, faultOf}
 use Rattle.cases.specs.Draft.{withHeader, withSizes, withFirst, withInstruction, withProgram, withAsk}
 use Rattle.cases.specs.Draft.{withRun, addOf}
 use Rattle.cases.proofs.ChoiceLaws.{either-false, refuse-none}
-use Rattle.cases.proofs.draft.RecordFitLaws.{outside-low}
+use Rattle.cases.proofs.draft.HeaderLaws.{header-low, header-listed-few}
 
 -- the order of kinds: where nothing stands before, no kind goes down; and each kind comes before the next
 pub rank-least : (kind : ℕ) → kindRank 0 ≤ kindRank kind
@@ -93,14 +93,15 @@ draft-run d (Want w) low = refl
 draft-run d (Passed t n) low = refl
 draft-run d (Take k) low = absurd (omega arith)
 
--- a faultless record of the program has at most the most threads and locations
+-- a faultless record of the program has at most the most threads, locations and line bytes
 pub header-sizes : (d : Draft) (h : Header) → faultOf d (Declare h) ≡ 0
-    → (h .threads ≤ mostThreads) × (h .locations ≤ mostLocations)
-unfolding faultOf headerOut
+    → (h .threads ≤ mostThreads) × (h .locations ≤ mostLocations) × (h .listed ≤ mostLocations)
+unfolding faultOf
 header-sizes d h e =
-    let inside = refuse-none _ 4 _ (refuse-none _ 3 _ e .1) .0 in
-    let sizes = either-false _ _ (either-false _ _ inside .1) in
-    (outside-low _ _ (sizes .0) .1, outside-low _ _ (sizes .1) .1)
+    let inside = refuse-none (headerOut h) 4 _ (refuse-none _ 3 _ e .1) in
+    let right = refuse-none (mislisted h) 2 _ (inside .1) in
+    let low = header-low h (inside .0) in
+    (low .1, low .3, header-listed-few h (inside .0) (right .0))
 
 -- a faultless step finds room
 pub step-seated : (d : Draft) (k : Step) → faultOf d (Take k) ≡ 0 → d .case .run .count < mostSteps
@@ -153,7 +154,7 @@ module _ (d : Draft) (few : d .case .program .threads ≤ mostThreads)
       → (addOf d r .case .program .threads ≤ mostThreads)
       × (addOf d r .case .program .locations ≤ mostLocations)
   unfolding addOf withProgram withAsk withRun withHeader withSizes withFirst withInstruction
-  draft-sizes (Declare h) e = header-sizes d h e
+  draft-sizes (Declare h) e = let s = header-sizes d h e in (s .0, s .1)
   draft-sizes (First w) e = (few, near)
   draft-sizes (Instruct t x) e = (few, near)
   draft-sizes (Want w) e = (few, near)

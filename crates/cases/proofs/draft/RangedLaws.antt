@@ -110,6 +110,7 @@ module _ (d : Draft) (front : ℕ) (s : Sound d front) where
         };
         ask = s .sized .of-ask;
         run = s .sized .of-run;
+        own-lines = s .sized .own;
         some-threads = s .sized .some-threads;
         some-locations = s .sized .some-locations;
         wants = want-ranged;

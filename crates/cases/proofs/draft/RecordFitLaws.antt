@@ -19,6 +19,8 @@ use Rattle.cases.specs.declared.seats.Seat.{Seat}
 use Rattle.cases.specs.declared.seats.Seat.the-variants.{Holds, Empty}
 use Rattle.cases.specs.Sizes.{mostThreads, mostInstructions, mostLocations}
 use Rattle.cases.specs.Choice.{both, either}
+use Rattle.cases.specs.Bytes.{IsBytes}
+use Rattle.cases.specs.Record.{lineBytes}
 use Rattle.cases.specs.Checks.{outside, beyond, leftOver, countAt, headerOut, instructionOut}
 use Rattle.cases.specs.Checks.{instructionLeft, passedOut, linesOf, Limits, limitsOf, stepOut, stepLeft}
 use Rattle.cases.specs.Checks.{usesLocation, usesRegister}
@@ -27,7 +29,7 @@ use Rattle.cases.proofs.ChoiceLaws.{either-false}
 use Rattle.cases.specs.Operations.{lastOperation, move, persist, lastCode}
 
 unfoldable pub RecordFits : Program → Record → Type 0
-RecordFits p (Declare h) = headerOut h ≡ false
+RecordFits p (Declare h) = (headerOut h ≡ false) × IsBytes (lineBytes h)
 RecordFits p (First w) = leb (p .locations) (w .location .0) ≡ false
 RecordFits p (Instruct t x) = (instructionOut p t x ≡ false) × (instructionLeft x ≡ false)
 RecordFits p (Want w) = leb (p .locations) (w .location .0) ≡ false

@@ -15,12 +15,13 @@ use Rattle.cases.specs.declared.record.Record.{Record}
 use Rattle.cases.specs.declared.seats.Seat.{Seat}
 use Rattle.cases.specs.declared.seats.Seat.the-variants.{Holds, Empty}
 use Rattle.cases.specs.Sizes.{mostInstructions, mostLocations}
+use Rattle.cases.specs.Lines.{ownVersion}
 use Rattle.cases.specs.Record.{recordBytes}
 use Rattle.cases.specs.Checks.{kindRank}
 use Rattle.cases.specs.Draft.{addOf}
 use Rattle.cases.specs.Seats.{fromFirsts, fromCode, fromWants, fromPassed, fromSteps, seats, seatOf}
 use Rattle.cases.specs.Seats.{seatBytes, bytesAt, encodeOf}
-use Rattle.cases.specs.Ranges.{ProgramSized, AskSized, RunSized}
+use Rattle.cases.specs.Ranges.{HasOwnLines, ProgramSized, AskSized, RunSized}
 use Rattle.cases.proofs.seats.EachLaws.{each-more}
 use Rattle.cases.proofs.draft.RecordFitLaws.{RecordFits, SeatFits, Grown, record-grown, seat-grown}
 
@@ -28,6 +29,7 @@ use Rattle.cases.proofs.draft.RecordFitLaws.{RecordFits, SeatFits, Grow
 pub record SoundSized (c : Case) : Type 0 where
   pub of-program : ProgramSized (c .program)
   pub on-lines : (l : ℕ) → l < mostLocations → getD (c .program .line) l 0 < c .program .lines
+  pub own : c .version ≡ ownVersion → HasOwnLines (c .program)
   pub some-threads : 1 ≤ c .program .threads
   pub some-locations : 1 ≤ c .program .locations
   pub of-ask : AskSized (c .ask)

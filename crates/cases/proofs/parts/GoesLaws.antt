@@ -4,6 +4,7 @@
 -- Assumes nothing.
 use Prim.Native.Nat.{ℕ, suc, _+_, _-_, _<_, _≤_}
 use mathlib.Core.Path.{_≡_, refl, sym, ap, _∙_}
+use mathlib.Core.Bool.{false}
 use mathlib.Core.Logic.{_≢_}
 use mathlib.Core.List.{List, [], _++_, append-assoc, append-nil}
 use lib.ListN.{length, getD, take, length-append, List·getD-append}
@@ -19,29 +20,30 @@ use Rattle.cases.specs.declared.record.Record.{Record}
 use Rattle.cases.specs.declared.record.Record.the-variants.{Take}
 use Rattle.cases.specs.declared.reader.Answer.the-variants.{Whole}
 use Rattle.cases.specs.declared.reader.Reading.{Reading}
-use Rattle.cases.specs.Choice.{pick, refuse}
+use Rattle.cases.specs.Choice.{pick, either, refuse}
 use Rattle.cases.specs.Bytes.{half, wordAt, halfBytes}
-use Rattle.cases.specs.Record.{payloadOf, payloadBytes, recordBytes, recordOf, openNo, sizeOf}
-use Rattle.cases.specs.Record.{asHeader, asWrite, asInstruction, asStep}
+use Rattle.cases.specs.Record.{payloadOf, spareOf, mislong, payloadBytes, recordBytes, recordOf}
+use Rattle.cases.specs.Record.{openNo, sizeOf, lineByte, asHeader, asWrite, asInstruction, asStep}
 use Rattle.cases.specs.Checks.{faultOf}
 use Rattle.cases.specs.Draft.{blankDraft, addOf}
 use Rattle.cases.specs.Reading.{endedOf, readFrom, readOf}
 use Rattle.cases.proofs.ChoiceLaws.{pick-false}
 use Rattle.cases.proofs.bytes.BytesLaws.{half-same, word-same}
-use Rattle.cases.proofs.record.OpenLaws.{open-whole, kind-cases}
+use Rattle.cases.proofs.lines.LineTableLaws.{table-same}
+use Rattle.cases.proofs.record.OpenLaws.{open-whole, open-lengths, kind-cases}
 use Rattle.cases.proofs.reader.ReadLaws.{asRecord, read-cases}
 use Rattle.cases.proofs.reader.PrefixLaws.{read-fuel-same}
 
--- a record opens where its kind has a payload, its length is the kind's, and it is whole
-opens : (t : List ℕ) → payloadOf (half t 2) ≢ 0 → half t 0 ≡ payloadOf (half t 2)
+-- a record opens where its kind has a payload, its length is one of that kind, and it is whole
+opens : (t : List ℕ) → payloadOf (half t 2) ≢ 0 → mislong (half t 2) (half t 0) ≡ false
     → 4 + half t 0 ≤ length t
     → openNo t ≡ 0
 unfolding openNo refuse
-opens t known fitting within =
+opens t known right within =
     simp (
       le-ltb (length t) 4 (omega arith),
       ne-eqb _ _ known,
-      eq-eqb _ _ fitting,
+      right,
       le-ltb (length t - 4) (half t 0) (omega arith),
     )
 
@@ -54,11 +56,18 @@ module _ (t u : List ℕ) (o : openNo t ≡ 0) (long : sizeOf t ≤ length u)
   word-front : (i : ℕ) → i + 3 < sizeOf t → wordAt u i ≡ wordAt t i
   word-front = word-same t u (sizeOf t) same
 
-  record-front : (k : ℕ) → payloadOf k ≢ 0 → sizeOf t ≡ 4 + payloadOf k → recordOf k u ≡ recordOf k t
-  unfolding recordOf asHeader asWrite asInstruction asStep payloadOf pick
+  record-front : (k : ℕ) → payloadOf k ≢ 0 → 4 + payloadOf k ≤ sizeOf t → recordOf k u ≡ recordOf k t
+  unfolding recordOf asHeader asWrite asInstruction asStep payloadOf pick sizeOf
   record-front =
-      kind-cases (λ (k : ℕ). sizeOf t ≡ 4 + payloadOf k → recordOf k u ≡ recordOf k t)
-      (λ n. rw (half-front 4 (omega arith), same 6 (omega arith), same 7 (omega arith)))
+      kind-cases (λ (k : ℕ). 4 + payloadOf k ≤ sizeOf t → recordOf k u ≡ recordOf k t)
+      (λ n. let long : 8 ≤ sizeOf t = n in
+      rw (
+        half-front 0 (omega arith),
+        half-front 4 (omega arith),
+        same 6 (omega arith),
+        same 7 (omega arith),
+        table-same (lineByte u) (lineByte t) (half t 0 - 4) (λ l low h. same (8 + l) (omega arith)),
+      ))
       (λ n. rw (same 4 (omega arith), word-front 5 (omega arith)))
       (λ n. rw (
         same 4 (omega arith),
@@ -78,8 +87,9 @@ module _ (t u : List ℕ) (o : openNo t ≡ 0) (long : sizeOf t ≤ length u)
       let w = open-whole t o in
       let size = half-front 0 (omega (arith, w .head)) in
       let kind = half-front 2 (omega (arith, w .head)) in
-      let is = record-front (half t 2) (w .known) (ap (λ (n : ℕ). 4 + n) (w .fitting)) in (
-        opens u (rw kind (w .known)) (rw (kind, size) (w .fitting)) (omega arith),
+      let least = open-lengths (half t 2) (half t 0) (w .right) .0 in
+      let is = record-front (half t 2) (w .known) (omega arith) in (
+        opens u (rw kind (w .known)) (rw (kind, size) (w .right)) (omega arith),
         rw kind is,
         rw size,
       )
@@ -104,7 +114,7 @@ front-begins t o = record { opened = λ x. all x .0; is = λ x. all x .1; size =
         (λ i h. List·getD-append (take (sizeOf t) t) x 0 i (omega (arith, long)) ∙ getD-take (sizeOf t) t i 0 h)
 
 pub step-begins : (k : Step) → Begins (recordBytes (Take k)) (Take k)
-unfolding recordBytes payloadBytes halfBytes payloadOf pick half sizeOf recordOf asStep
+unfolding recordBytes payloadBytes halfBytes payloadOf spareOf mislong either pick half sizeOf recordOf asStep
 step-begins k =
     record {
       opened = λ x. opens (recordBytes (Take k) ++ x) (λ z. omega arith) refl (omega arith);

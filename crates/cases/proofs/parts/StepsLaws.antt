@@ -16,8 +16,8 @@ use Rattle.cases.specs.Sizes.{mostSteps, stepSize}
 use Rattle.cases.specs.Bytes.{halfBytes}
 use Rattle.cases.specs.Record.{payloadBytes, recordBytes, bytesOf}
 use Rattle.cases.specs.Draft.{runWith, withRun, withStep}
-use Rattle.cases.specs.Seats.{fromSteps, seats, headerSeat, stepSeat, seatBytes, bytesAt, encodeOf}
-use Rattle.cases.specs.Seats.{stepsBytes}
+use Rattle.cases.specs.Seats.{fromSteps, seats, listedLines, headerSeat, stepSeat, seatBytes, bytesAt}
+use Rattle.cases.specs.Seats.{encodeOf, stepsBytes}
 use Rattle.cases.proofs.ChoiceLaws.{pick-true}
 use Rattle.cases.proofs.seats.EachLaws.{each-more}
 use Rattle.cases.proofs.seats.SeatLaws.{seat-step, seat-same}
@@ -45,7 +45,7 @@ steps-run-more js k h =
 -- a step more behind a run: its bytes are added at the end of the file
 step-longer : (c : Case) (r : Run) (k : Step) → r .count < mostSteps → length (r .steps) ≡ mostSteps
     → encodeOf (withRun c (withStep r k)) ≡ encodeOf (withRun c r) ++ recordBytes (Take k)
-unfolding encodeOf bytesAt seatBytes withRun headerSeat stepSeat
+unfolding encodeOf bytesAt seatBytes withRun headerSeat listedLines stepSeat
 step-longer c r k h long =
     let more : Case = withRun c (withStep r k) in
     let less : Case = withRun c r in

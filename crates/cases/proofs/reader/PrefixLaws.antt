@@ -4,7 +4,7 @@
 use Prim.Native.Nat.{ℕ, zero, suc, _+_, _-_, _<_, _≤_}
 use mathlib.Core.Path.{_≡_, refl, sym, ap, _∙_}
 use mathlib.Core.List.{List, [], _++_}
-use mathlib.Core.Bool.{Bool, true, false, not}
+use mathlib.Core.Bool.{Bool, true, false}
 use lib.ListN.{length, getD, take, length-take, length-drop}
 use lib.Seq.{getD-take, take-all}
 use lib.Dec.{eqb, ltb}
@@ -12,30 +12,31 @@ use borrow.Author.Tests.{le-ltb, ltb-true, ltb-false, eqb-true}
 use native.Mathlib.Omega.{arith}
 use Rattle.cases.specs.declared.draft.Draft.{Draft}
 use Rattle.cases.specs.declared.reader.Reading.{Reading}
-use Rattle.cases.specs.Sizes.{longest, longestRecord}
-use Rattle.cases.specs.Choice.{refuse}
+use Rattle.cases.specs.Sizes.{mostLocations, longest, longestRecord}
+use Rattle.cases.specs.Choice.{pick, refuse}
 use Rattle.cases.specs.Bytes.{half, wordAt}
-use Rattle.cases.specs.Record.{payloadOf, recordBytes, recordOf, openNo, sizeOf}
-use Rattle.cases.specs.Record.{asHeader, asWrite, asInstruction, asStep}
+use Rattle.cases.specs.Record.{payloadOf, spareOf, mislong, recordBytes, recordOf, openNo, sizeOf}
+use Rattle.cases.specs.Record.{lineByte, asHeader, asWrite, asInstruction, asStep}
 use Rattle.cases.specs.Checks.{faultOf}
 use Rattle.cases.specs.Draft.{blankDraft, addOf}
 use Rattle.cases.specs.Reading.{endedOf, refusedOf, readFrom, readOf}
 use Rattle.cases.specs.Seats.{encodeOf}
-use Rattle.cases.proofs.ChoiceLaws.{pick-cases}
+use Rattle.cases.proofs.ChoiceLaws.{pick-true, pick-false, pick-cases}
 use Rattle.cases.proofs.ArrayLaws.{drop-take}
 use Rattle.cases.proofs.draft.SoundLaws.{Sound}
 use Rattle.cases.proofs.draft.AddLaws.{add-record}
 use Rattle.cases.proofs.seats.EncodeLengthLaws.{encode-length}
 use Rattle.cases.proofs.bytes.BytesLaws.{half-same, word-same}
-use Rattle.cases.proofs.record.OpenLaws.{open-whole}
+use Rattle.cases.proofs.lines.LineTableLaws.{table-same}
+use Rattle.cases.proofs.record.OpenLaws.{open-whole, open-lengths}
 use Rattle.cases.proofs.reader.ReadLaws.{asRecord, behind, read-cases}
 use Rattle.cases.proofs.draft.BegunLaws.{blank-first, begun-longer, begun-sound}
 use Rattle.cases.proofs.reader.RoundTripLaws.{round-trip-longer, round-trip-less}
 
 -- no payload, and so no record, is longer than the longest
-payload-most : (k : ℕ) → payloadOf k ≤ 8
+payload-low : (k : ℕ) → payloadOf k ≤ 8
 unfolding payloadOf
-payload-most k =
+payload-low k =
     pick-cases Low _ _ _ (λ e. omega arith) (λ e.
     pick-cases Low _ _ _ (λ e. omega arith) (λ e.
     pick-cases Low _ _ _ (λ e. omega arith) (λ e.
@@ -46,9 +47,27 @@ payload-most k =
     Low : ℕ → Type 0
     Low n = n ≤ 8
 
+-- the program's record has 4 bytes at least
+payload-header : payloadOf 1 ≡ 4
+unfolding payloadOf pick
+payload-header = refl
+
+payload-most : (k n : ℕ) → mislong k n ≡ false → 4 + n ≤ longestRecord
+unfolding spareOf
+payload-most k n h = go (eqb k 1) refl
+  where
+    lengths : (payloadOf k ≤ n) × (n ≤ payloadOf k + spareOf k)
+    lengths = open-lengths k n h
+
+    go : (b : Bool) → eqb k 1 ≡ b → 4 + n ≤ longestRecord
+    go true e =
+        let is : payloadOf k ≡ 4 = ap payloadOf (eqb-true k 1 e) ∙ payload-header in
+        omega (arith, lengths .1, pick-true (eqb k 1) mostLocations 0 e)
+    go false e = omega (arith, lengths .1, payload-low k, pick-false (eqb k 1) mostLocations 0 e)
+
 size-most : (t : List ℕ) → openNo t ≡ 0 → sizeOf t ≤ longestRecord
 unfolding sizeOf
-size-most t o = omega (arith, open-whole t o .fitting, payload-most (half t 2))
+size-most t o = payload-most (half t 2) (half t 0) (open-whole t o .right)
 
 -- n and k are what `readFrom` counts its records by
 abbrev SamePrefix : (n k : ℕ) → Draft → (at m : ℕ) → List ℕ → Type 0
@@ -73,6 +92,7 @@ module _ (t : List ℕ) (m : ℕ) (enough : longestRecord ≤ m) where
   unfolding recordOf asHeader asWrite asInstruction asStep
   record-prefix =
       rw (
+        half-prefix 0 (omega arith),
         half-prefix 2 (omega arith),
         half-prefix 4 (omega arith),
         word-prefix 5 (omega arith),
@@ -81,13 +101,14 @@ module _ (t : List ℕ) (m : ℕ) (enough : longestRecord ≤ m) where
         byte-prefix 5 (omega arith),
         byte-prefix 6 (omega arith),
         byte-prefix 7 (omega arith),
+        table-same (lineByte (take m t)) (lineByte t) (half t 0 - 4) (λ l low h. byte-prefix (8 + l) (omega arith)),
       )
 
   -- what the checks behind the head's say, where the input has `long` bytes
   abbrev laterNo : ℕ → ℕ
   laterNo long =
       refuse (eqb (payloadOf (half t 2)) 0) 2
-      (refuse (not (eqb (half t 0) (payloadOf (half t 2)))) 3
+      (refuse (mislong (half t 2) (half t 0)) 3
       (refuse (ltb (long - 4) (half t 0)) 1 0))
 
   -- longer than what is taken: the record is cut in neither
@@ -102,14 +123,13 @@ module _ (t : List ℕ) (m : ℕ) (enough : longestRecord ≤ m) where
         le-ltb m 4 (omega arith),
         le-ltb (length t) 4 (omega arith),
       )
-      (go (eqb (half t 0) (payloadOf (half t 2))) refl)
+      (go (mislong (half t 2) (half t 0)) refl)
     where
-      go : (b : Bool) → eqb (half t 0) (payloadOf (half t 2)) ≡ b → laterNo m ≡ laterNo (length t)
-      go true e =
-          let right = eqb-true (half t 0) (payloadOf (half t 2)) e in
-          let h : half t 0 ≤ 8 = omega (arith, right, payload-most (half t 2)) in
+      go : (b : Bool) → mislong (half t 2) (half t 0) ≡ b → laterNo m ≡ laterNo (length t)
+      go false e =
+          let h = payload-most (half t 2) (half t 0) e in
           rw (le-ltb (m - 4) (half t 0) (omega arith), le-ltb (length t - 4) (half t 0) (omega arith))
-      go false e = rw e
+      go true e = rw e
 
   open-prefix : openNo (take m t) ≡ openNo t
   open-prefix = go (ltb m (length t)) refl
@@ -190,7 +210,7 @@ unfolding readOf
 read-prefix s m b =
     let k : ℕ = length (take m s) in
     turn-prefix s m (omega arith) (length s) k blankDraft 0 (λ o h.
-    let f = blank-first (asRecord s) h in
+    let f = blank-first (half s 2) s h in
     on-prefix [] s m (length s) k (addOf blankDraft (asRecord s)) o (rw (f .1) (begun-longer (f .0) (f .2)))
     (omega arith) (omega arith) (omega arith) (omega arith)
     (prefix-from (length s) k (addOf blankDraft (asRecord s)) 1 (m - sizeOf s) (behind s)

@@ -19,7 +19,7 @@ use Rattle.cases.specs.declared.reader.Answer.the-variants.{Whole}
 use Rattle.cases.specs.declared.reader.Reading.{Reading}
 use Rattle.cases.specs.Sizes.{longest}
 use Rattle.cases.specs.Choice.{pick}
-use Rattle.cases.specs.Bytes.{IsBytes}
+use Rattle.cases.specs.Bytes.{half, IsBytes}
 use Rattle.cases.specs.Record.{recordBytes, openNo, sizeOf}
 use Rattle.cases.specs.Checks.{faultOf}
 use Rattle.cases.specs.Draft.{emptyCase, blankDraft, addOf}
@@ -154,7 +154,7 @@ module _ (n : ℕ) (t : List ℕ)
       (λ z. told-refused [] t 0 (omega arith) (omega arith))
       (λ m z o. told-refused [] t m (omega arith) (omega (arith, open-most t)))
       (λ m z o g. told-refused [] t m (omega arith) (omega (arith, fault-most blankDraft (asRecord t))))
-      (λ z o g. let b = blank-first (asRecord t) g in
+      (λ z o g. let b = blank-first (half t 2) t g in
       told-added [] t n (addOf blankDraft (asRecord t)) o
       (rw (b .1) (begun-longer (b .0) (b .2))) (next o _ 1 (rw (b .1) (begun-sound (b .0) (b .2)))))
 

@@ -1,7 +1,7 @@
 -- No file is longer than the longest. Assumes nothing.
 use Prim.Native.Nat.{ℕ, _-_, _≤_}
 use mathlib.Core.Path.{_≡_, refl}
-use lib.ListN.{length}
+use lib.ListN.{length, length-take}
 use lib.Dec.{ltb}
 use native.Mathlib.Omega.{arith}
 use Rattle.cases.specs.declared.case.Case.{Case}
@@ -12,9 +12,10 @@ use Rattle.cases.specs.declared.seats.Seat.{Seat}
 use Rattle.cases.specs.Sizes.{longest}
 use Rattle.cases.specs.Choice.{pick}
 use Rattle.cases.specs.Bytes.{halfBytes, wordBytes}
-use Rattle.cases.specs.Record.{payloadBytes, recordBytes}
+use Rattle.cases.specs.Lines.{listedOf}
+use Rattle.cases.specs.Record.{rowList, asRow, lineBytes, payloadBytes, recordBytes}
 use Rattle.cases.specs.Seats.{fromFirsts, fromCode, fromWants, fromPassed, fromSteps, seats}
-use Rattle.cases.specs.Seats.{headerSeat, firstSeat, instructionSeat}
+use Rattle.cases.specs.Seats.{listedLines, headerSeat, firstSeat, instructionSeat}
 use Rattle.cases.specs.Seats.{wantSeat, passedSeat, stepSeat}
 use Rattle.cases.specs.Seats.{seatOf, seatBytes, bytesAt, encodeOf}
 use Rattle.cases.proofs.ChoiceLaws.{pick-cases, pick-pair}
@@ -23,7 +24,7 @@ use Rattle.cases.proofs.seats.EachLaws.{total, each-length}
 -- how many bytes a seat has at most
 width : ℕ → ℕ
 width k =
-    pick (ltb k fromFirsts) 8
+    pick (ltb k fromFirsts) 16
     (pick (ltb k fromCode) 9
     (pick (ltb k fromWants) 12
     (pick (ltb k fromPassed) 9
@@ -54,9 +55,10 @@ step-width : (r : Run) (k : ℕ) → Within (stepSeat r k) 8
 unfolding stepSeat seatBytes recordBytes payloadBytes halfBytes
 step-width r k = pick-cases (λ (x : Seat). Within x 8) _ _ _ (λ e. omega arith) (λ e. omega arith)
 
-header-width : (c : Case) → Within (headerSeat c) 8
-unfolding headerSeat seatBytes recordBytes payloadBytes halfBytes
-header-width c = omega arith
+header-width : (c : Case) → Within (headerSeat c) 16
+unfolding headerSeat seatBytes recordBytes payloadBytes halfBytes lineBytes
+header-width c =
+    omega (arith, length-take (listedOf (c .version) (c .program .locations)) (rowList (asRow (listedLines c))))
 
 seat-width : (c : Case) (k : ℕ) → length (bytesAt c k) ≤ width k
 unfolding bytesAt seatOf width

@@ -5,6 +5,9 @@ use borrow.Author.Needs.{needs}
 use Rattle.cases.proofs.checks.is_header_out.Statement.{statement}
 use Rattle.cases.proofs.checks.is_header_out.Tie as tie
 
+is-unknown-requires : tie.Need-is-unknown-requires
+is-unknown-requires c κs = search needs
+
 returns : tie.Need-returns
 unfolding headerOut
 returns c = search choices
@@ -33,6 +36,7 @@ pub is-header-out-spec : {M : Type 1} → statement M
 is-header-out-spec =
     tie.close
     (tie.spec
+    is-unknown-requires
     returns
     cast-is-outside
     is-outside-requires

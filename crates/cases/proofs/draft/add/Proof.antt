@@ -11,7 +11,8 @@ enum-known-r c = search needs
 add-header-requires : tie.Need-add-header-requires
 add-header-requires c κs =
     let a = c .before .before .before in
-    header-sizes (a .args .d) _ (rw (c .before .r .given .1) at (a .pre .2)) .1
+    let s = header-sizes (a .args .d) _ (rw (c .before .r .given .1) at (a .pre .2)) in
+    (s .1, s .2)
 
 enum-known-r-2 : tie.Need-enum-known-r-2
 enum-known-r-2 c = search needs

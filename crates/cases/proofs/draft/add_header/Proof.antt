@@ -4,12 +4,15 @@ use borrow.Author.Needs.{needs}
 use Rattle.cases.proofs.draft.add_header.Statement.{statement}
 use Rattle.cases.proofs.draft.add_header.Tie as tie
 
-own-lines-requires : tie.Need-own-lines-requires
-own-lines-requires c κs = search needs
+line-count-requires : tie.Need-line-count-requires
+line-count-requires c κs = search needs
+
+line-table-requires : tie.Need-line-table-requires
+line-table-requires c κs = search needs
 
 returns : tie.Need-returns
 unfolding addOf withHeader withSizes
-returns c = rw (c .before .before .own-lines .ensures)
+returns c = cc
 
 pub add-header-spec : {M : Type 1} → statement M
-add-header-spec = tie.close (tie.spec own-lines-requires returns)
+add-header-spec = tie.close (tie.spec line-count-requires line-table-requires returns)

@@ -1,4 +1,5 @@
 -- `decode` meets its contract. Assumes nothing.
+use Rattle.cases.proofs.record.OpenLaws.{open-header}
 use borrow.Author.Needs.{needs}
 use borrow.Author.Tests.{ne-eqb}
 use Rattle.cases.specs.Choice.{pick}
@@ -7,7 +8,7 @@ use Rattle.cases.proofs.record.decode.Statement.{statement}
 use Rattle.cases.proofs.record.decode.Tie as tie
 
 as-header-requires : tie.Need-as-header-requires
-as-header-requires c κs = search needs
+as-header-requires c κs = open-header _ _ (c .if1 .taken) (search needs)
 
 returns : tie.Need-returns
 unfolding recordOf pick

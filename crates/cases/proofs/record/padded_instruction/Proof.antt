@@ -1,8 +1,7 @@
 -- `padded_instruction` meets its contract: the bytes compute. Assumes nothing.
 use borrow.Author.Needs.{needs}
-use Rattle.cases.specs.Choice.{pick}
 use Rattle.cases.specs.Bytes.{halfBytes, wordBytes}
-use Rattle.cases.specs.Record.{payloadOf, payloadBytes, recordBytes, paddedOf}
+use Rattle.cases.specs.Record.{payloadBytes, recordBytes, paddedOf}
 use Rattle.cases.proofs.record.padded_instruction.Statement.{statement}
 use Rattle.cases.proofs.record.padded_instruction.Tie as tie
 
@@ -22,7 +21,7 @@ array-read-t16 : tie.Need-array-read-t16
 array-read-t16 c = search needs
 
 returns : tie.Need-returns
-unfolding paddedOf recordBytes payloadBytes payloadOf pick halfBytes wordBytes
+unfolding paddedOf recordBytes payloadBytes halfBytes wordBytes
 returns c = rw (c .word-bytes .ensures)
 
 pub padded-instruction-spec : {M : Type 1} → statement M

@@ -1,13 +1,12 @@
 -- `padded_passed` meets its contract: the bytes compute. Assumes nothing.
 use mathlib.Core.Path.{refl}
-use Rattle.cases.specs.Choice.{pick}
 use Rattle.cases.specs.Bytes.{halfBytes}
-use Rattle.cases.specs.Record.{payloadOf, payloadBytes, recordBytes, paddedOf}
+use Rattle.cases.specs.Record.{payloadBytes, recordBytes, paddedOf}
 use Rattle.cases.proofs.record.padded_passed.Statement.{statement}
 use Rattle.cases.proofs.record.padded_passed.Tie as tie
 
 returns : tie.Need-returns
-unfolding paddedOf recordBytes payloadBytes payloadOf pick halfBytes
+unfolding paddedOf recordBytes payloadBytes halfBytes
 returns c = refl
 
 pub padded-passed-spec : {M : Type 1} → statement M

@@ -1,8 +1,7 @@
 -- `padded_record` meets its contract. Assumes nothing.
 use borrow.Author.Needs.{needs}
-use Rattle.cases.specs.Choice.{pick}
-use Rattle.cases.specs.Bytes.{halfBytes}
-use Rattle.cases.specs.Record.{payloadOf, payloadBytes, recordBytes}
+use Rattle.cases.specs.Bytes.{halfBytes, wordBytes}
+use Rattle.cases.specs.Record.{payloadBytes, recordBytes}
 use Rattle.cases.proofs.record.padded_record.Statement.{statement}
 use Rattle.cases.proofs.record.padded_record.Tie as tie
 
@@ -46,14 +45,14 @@ returns : tie.Need-returns
 returns c = cc
 
 returns-2 : tie.Need-returns-2
-unfolding recordBytes payloadBytes payloadOf pick halfBytes
+unfolding recordBytes payloadBytes halfBytes wordBytes
 returns-2 c = rw (c .before .before .r2 .given .1) (c .padded-write .ensures)
 
 returns-3 : tie.Need-returns-3
 returns-3 c = cc
 
 returns-4 : tie.Need-returns-4
-unfolding recordBytes payloadBytes payloadOf pick halfBytes
+unfolding recordBytes payloadBytes halfBytes wordBytes
 returns-4 c = rw (c .before .before .r4 .given .1) (c .padded-write2 .ensures)
 
 returns-5 : tie.Need-returns-5

@@ -6,9 +6,9 @@ use native.Mathlib.Omega.{arith}
 use borrow.Author.Needs.{needs}
 use Rattle.cases.specs.Sizes.{mostLocations}
 use Rattle.cases.specs.Lines.{ownLines}
-use Rattle.cases.proofs.draft.LineLaws.{own-start, own-next}
-use Rattle.cases.proofs.draft.own_lines.Statement.{statement}
-use Rattle.cases.proofs.draft.own_lines.Tie as tie
+use Rattle.cases.proofs.lines.LineTableLaws.{own-start, own-next}
+use Rattle.cases.proofs.lines.own_lines.Statement.{statement}
+use Rattle.cases.proofs.lines.own_lines.Tie as tie
 
 abbrev Inv-loop : tie.InvT-loop
 Inv-loop n line₀ l₀ line l = (l ≤ n) × (n ≤ mostLocations) × (line ≡ ownLines l)
