@@ -11,13 +11,14 @@
 --   taking ks         kind 6, for each of the steps ks
 --   issue, move, persist   steps
 -- Assumes nothing.
-use Prim.Native.Nat.{ℕ, _-_}
-use mathlib.Core.List.{List, map, _++_}
-use lib.ListN.{length, replicate}
+use Prim.Native.Nat.{ℕ}
+use mathlib.Core.List.{List, [], map}
+use lib.ListN.{length}
 use Rattle.cases.specs.declared.case.Step.{Step}
 use Rattle.cases.specs.declared.record.Record.{Record}
 use Rattle.cases.specs.declared.record.Record.the-variants.{Declare, First, Instruct, Want, Passed, Take}
-use Rattle.cases.specs.Sizes.{mostLocations}
+use Rattle.cases.specs.Lines.{ownVersion, lineVersion}
+use Rattle.cases.specs.Record.{asRow}
 use Rattle.cases.specs.Operations as operation
 use Rattle.machine.specs.Next.{issueStep, moveStep, persistStep}
 
@@ -32,16 +33,16 @@ z = 2
 
 abbrev pub program : ℕ → ℕ → Record
 program n m =
-    Declare (record { version = 1; threads = n; locations = m; listed = 0; line = replicate mostLocations 0 })
+    Declare (record { version = ownVersion; threads = n; locations = m; listed = 0; line = asRow [] })
 
 abbrev pub header : ℕ → ℕ → List ℕ → Record
 header n m ls =
     Declare (record {
-      version = 2;
+      version = lineVersion;
       threads = n;
       locations = m;
       listed = length ls;
-      line = ls ++ replicate (mostLocations - length ls) 0;
+      line = asRow ls;
     })
 
 abbrev pub lined : List ℕ → Record
