@@ -31,7 +31,7 @@ returns : tie.Need-returns Inv-loop μ-loop
 returns c =
     let a = c .before .before .before .args in
     let l = c .before .before .loop in
-    unordered-here (a .t1) (a .n) (l .inv .1) (l .i) (l .next) (omega arith) (c .if1 .taken) ∙ l .inv .3
+    unordered-here (a .t1) (a .n) (l .inv .1) (l .i) (l .next) (omega arith) (omega arith) ∙ l .inv .3
 
 new-after-requires : tie.Need-new-after-requires Inv-loop μ-loop
 new-after-requires c κs = search needs
