@@ -16,7 +16,7 @@ use Rattle.cases.specs.declared.reader.Answer.the-variants.{Whole}
 use Rattle.cases.specs.declared.writer.Wrote.the-variants.{Stored, Untouched}
 use Rattle.cases.specs.Choice.{pick, refuse}
 use Rattle.cases.specs.Bytes.{IsBytes, half}
-use Rattle.cases.specs.Record.{kindOf, payloadOf, recordOf, openNo, sizeOf}
+use Rattle.cases.specs.Record.{kindOf, payloadOf, mislong, recordOf, openNo, sizeOf}
 use Rattle.cases.specs.Checks.{misplaced, limitsOf, stepFault, faultOf}
 use Rattle.cases.specs.Draft.{emptyCase, addOf}
 use Rattle.cases.specs.Reading.{numberOf, offsetOf, refusedOf, readFrom, readOf}
@@ -38,7 +38,7 @@ use Rattle.machine.proofs.Promises as Machine
 use Rattle.search.specs.declared.ask.Outcome.the-variants.{Refused}
 use Rattle.search.specs.Question.{reaches, askOf, outcomeNo, toldOf, questionOf, shownOf}
 use Rattle.search.proofs.Promises as Search
-use Rattle.demands.specs.Order.{outOf, leftOf, unorderedOf, ninthOf, ninetySeventhOf}
+use Rattle.demands.specs.Order.{outOf, mislistedOf, leftOf, unorderedOf, ninthOf, ninetySeventhOf}
 use Rattle.demands.proofs.answers.TableLaws as TableLaws
 
 -- "Any bytes may be given as a case. Each is judged or refused by a number in your table,"
@@ -98,23 +98,24 @@ pub order-of-opening : (s : List ℕ)
     → openNo s
     ≡ refuse (ltb (length s) 4) 1
     (refuse (eqb (payloadOf (half s 2)) 0) 2
-    (refuse (not (eqb (half s 0) (payloadOf (half s 2)))) 3
+    (refuse (mislong (half s 2) (half s 0)) 3
     (refuse (ltb (length s - 4) (half s 0)) 1
     0)))
 unfolding openNo
 order-of-opening s = refl
 
--- and, of whatever kind it is, is then checked by 4, 5, 8, 6, 7, 9
+-- and, of whatever kind it is, is then checked by 4, 5, 3, 8, 6, 7, 9
 pub order-of-checks : (d : Draft) (r : Record)
     → faultOf d r
     ≡ refuse (misplaced (d .kind) (kindOf r)) 4
     (refuse (outOf d r) 5
+    (refuse (mislistedOf r) 3
     (refuse (leftOf r) 8
     (refuse (unorderedOf d r) 6
     (refuse (ninthOf d r) 7
     (refuse (ninetySeventhOf d r) 9
-    0)))))
-unfolding faultOf outOf leftOf unorderedOf ninthOf ninetySeventhOf refuse
+    0))))))
+unfolding faultOf outOf mislistedOf leftOf unorderedOf ninthOf ninetySeventhOf refuse
 order-of-checks d (Declare h) = refl
 order-of-checks d (First w) = refl
 order-of-checks d (Instruct t x) = refl

@@ -1,6 +1,6 @@
 -- A case that meets what the theorems ask for: two threads, three locations. Thread 0 stores 500 to location 0
--- and then 1 to location 1, thread 1 stores 7 to location 0; nobody writes location 2. It asks for nothing and
--- has no steps.
+-- and then 1 to location 1, thread 1 stores 7 to location 0; nobody writes location 2. Each location has a line
+-- of its own. It asks for nothing and has no steps.
 --   example        the case
 --   threadless     a case in memory that no byte string reads as: it has no thread
 --   stepFirst      bytes whose first record is a step
@@ -13,7 +13,7 @@ use Rattle.cases.specs.declared.case.Instruction.{Instruction}
 use Rattle.cases.specs.declared.case.Case.{Case}
 use Rattle.cases.specs.Sizes.{mostThreads, mostInstructions, mostLocations, allCode}
 use Rattle.cases.specs.Operations.{storeWord}
-use Rattle.cases.specs.Lines.{ownLines}
+use Rattle.cases.specs.Lines.{ownVersion}
 use Rattle.cases.specs.Draft.{noInstruction, emptyCase}
 
 -- store word w to location l
@@ -25,12 +25,12 @@ unfoldable pub example : Case
 unfolding emptyCase
 example =
     record {
-      version = 1;
+      version = ownVersion;
       program = record {
         threads = 2;
         locations = 3;
         lines = 3;
-        line = ownLines 3;
+        line = 0 ∷ 1 ∷ 2 ∷ replicate (mostLocations - 3) 0;
         first = replicate mostLocations 0;
         counts = 2 ∷ 1 ∷ replicate (mostThreads - 2) 0;
         code = storing 0 500 ∷ storing 1 1 ∷ replicate (mostInstructions - 2) noInstruction
@@ -44,7 +44,7 @@ unfoldable pub threadless : Case
 unfolding emptyCase
 threadless =
     record {
-      version = 1;
+      version = emptyCase .version;
       program = record {
         threads = 0;
         locations = 1;

@@ -1,7 +1,10 @@
 -- Demand 1's words: each check of a record by its number, for every kind of record; false where a kind has no
--- such check. "Within a record the checks go in the order 1 (head), 2, 3, 1 (payload), 4, 5, 8, 6, 7, 9."
+-- such check. "Within a record the checks go in the order 1 (head), 2, 3, 1 (payload), 4, 5, 8, 6, 7, 9"; document
+-- 02, P3, of kind 1: behind 5 "3 again for a length not that version's and count's, and 8 for line numbers out of
+-- order".
 --   outOf d r            5: something out of range
---   leftOf r             8: a field not used that is not 0, or a 0 that says nothing
+--   mislistedOf r        3: not as many line bytes as that version and count have
+--   leftOf r             8: a field not used that is not 0, a 0 that says nothing, or a line number out of order
 --   unorderedOf d r      6: rising or not-falling order broken
 --   ninthOf d r          7: the ninth instruction of a thread
 --   ninetySeventhOf d r  9: the ninety-seventh step record
@@ -12,8 +15,10 @@ use Rattle.cases.specs.declared.draft.Draft.{Draft}
 use Rattle.cases.specs.declared.record.Record.{Record}
 use Rattle.cases.specs.declared.record.Record.the-variants.{Declare, First, Instruct, Want, Passed, Take}
 use Rattle.cases.specs.Sizes.{mostInstructions, mostSteps}
-use Rattle.cases.specs.Checks.{disordered, headerOut, instructionOut, instructionLeft, passedOut, limitsOf}
-use Rattle.cases.specs.Checks.{stepOut, stepLeft, countAt}
+use Rattle.cases.specs.Lines.{unordered}
+use Rattle.cases.specs.Record.{lineBytes}
+use Rattle.cases.specs.Checks.{disordered, headerOut, mislisted, instructionOut, instructionLeft, passedOut}
+use Rattle.cases.specs.Checks.{limitsOf, stepOut, stepLeft, countAt}
 
 unfoldable pub outOf : Draft → Record → Bool
 outOf d (Declare h) = headerOut h
@@ -23,8 +28,16 @@ outOf d (Want w) = leb (d .case .program .locations) (w .location .0)
 outOf d (Passed t n) = passedOut (d .case .program) t n
 outOf d (Take k) = stepOut (limitsOf (d .case .program)) k
 
+unfoldable pub mislistedOf : Record → Bool
+mislistedOf (Declare h) = mislisted h
+mislistedOf (First w) = false
+mislistedOf (Instruct t x) = false
+mislistedOf (Want w) = false
+mislistedOf (Passed t n) = false
+mislistedOf (Take k) = false
+
 unfoldable pub leftOf : Record → Bool
-leftOf (Declare h) = false
+leftOf (Declare h) = unordered 0 (lineBytes h)
 leftOf (First w) = eqb (w .word) 0
 leftOf (Instruct t x) = instructionLeft x
 leftOf (Want w) = false
