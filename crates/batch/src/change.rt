@@ -23,6 +23,11 @@ const FROM_ASK: usize = FROM_CODE + 4 * CODE;
 
 const FROM_RUN: usize = FROM_ASK + 2 * LOCATIONS + THREADS;
 
+// The version, then the number of lines, then each location's line.
+const FROM_VERSION: usize = FROM_RUN + 1 + 4 * STEPS;
+
+const FROM_LINES: usize = FROM_VERSION + 1;
+
 fn low(value: u32) -> u8 {
     (value % 256) as u8
 }
@@ -46,6 +51,20 @@ fn in_program(p: Program, field: usize, value: u32) -> Program {
     }
     if field < FROM_CODE {
         q.counts[field - FROM_COUNTS] = low(value);
+    }
+    q
+}
+
+// The number of lines, then each location's line.
+fn in_lines(p: Program, k: usize, value: u32) -> Program {
+    let mut q = p;
+    if k == 0 {
+        q.lines = low(value);
+        return q;
+    }
+    let l = k - 1;
+    if l < LOCATIONS {
+        q.line[l] = low(value);
     }
     q
 }
@@ -147,9 +166,22 @@ pub(crate) fn changed(c: Case, field: usize, value: u32) -> Case {
             ..c
         };
     }
-    let r = c.run;
+    if field < FROM_VERSION {
+        let r = c.run;
+        return Case {
+            run: in_run(r, field - FROM_RUN, value),
+            ..c
+        };
+    }
+    if field < FROM_LINES {
+        return Case {
+            version: (value % 65536) as u16,
+            ..c
+        };
+    }
+    let p = c.program;
     Case {
-        run: in_run(r, field - FROM_RUN, value),
+        program: in_lines(p, field - FROM_LINES, value),
         ..c
     }
 }
