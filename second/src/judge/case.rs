@@ -1,4 +1,4 @@
-//! A case in memory and the sizes of document 01.
+//! A case in memory, the sizes of document 01 and the versions of a program record.
 
 pub const MOST_THREADS: usize = 4;
 pub const MOST_LOCATIONS: usize = 8;
@@ -6,6 +6,11 @@ pub const MOST_INSTRUCTIONS: usize = 8;
 pub const MOST_STEPS: usize = 96;
 pub const REGISTERS: u8 = 4;
 pub const POSITIONS: u8 = 8;
+
+/// A line for each location; the record says nothing of lines.
+pub const OWN_LINES: u16 = 1;
+/// The record has the line of each location.
+pub const TOLD_LINES: u16 = 2;
 
 #[derive(Clone, Copy, Debug, Default, PartialEq, Eq)]
 pub struct Instruction {
@@ -31,14 +36,19 @@ pub struct Step {
     pub thread: u8,
     pub code: u8,
     pub position: u8,
-    pub location: u8,
+    /// What a persist takes from; in document 01 a location, each on a line of its own.
+    pub line: u8,
 }
 
 /// Every field can hold any number; `form::fits` says which cases some file reads as.
 #[derive(Clone, Debug, PartialEq, Eq)]
 pub struct Case {
+    pub version: u16,
     pub threads: u8,
     pub locations: u8,
+    pub lines: u8,
+    /// By location; 0 behind the program's.
+    pub line: [u8; MOST_LOCATIONS],
     /// 0: no first content.
     pub first: [u32; MOST_LOCATIONS],
     /// Instructions of each thread.
@@ -57,8 +67,11 @@ impl Case {
     /// The case that a refused reading hands out.
     pub fn empty() -> Case {
         Case {
+            version: OWN_LINES,
             threads: 1,
             locations: 1,
+            lines: 1,
+            line: [0; MOST_LOCATIONS],
             first: [0; MOST_LOCATIONS],
             counts: [0; MOST_THREADS],
             code: [Instruction::default(); MOST_THREADS * MOST_INSTRUCTIONS],
@@ -70,10 +83,34 @@ impl Case {
         }
     }
 
+    /// A program of that size without instructions, each location on a line of its own.
+    pub fn of_size(threads: u8, locations: u8) -> Case {
+        let mut case = Case::empty();
+        case.threads = threads;
+        case.locations = locations;
+        let lines: Vec<u8> = (0..locations).collect();
+        case.set_lines(OWN_LINES, &lines);
+        case
+    }
+
+    /// The lines of the program's locations, numbered as they must be.
+    pub fn set_lines(&mut self, version: u16, lines: &[u8]) {
+        self.version = version;
+        self.lines = lines.iter().max().map_or(0, |last| last + 1);
+        self.line = [0; MOST_LOCATIONS];
+        self.line[..lines.len()].copy_from_slice(lines);
+    }
+
+    /// The line of a location that the program has.
+    pub fn line_of(&self, location: u8) -> usize {
+        self.line[usize::from(location)].into()
+    }
+
     /// The places in `code` of one thread.
     pub fn places(thread: usize) -> std::ops::Range<usize> {
         thread * MOST_INSTRUCTIONS..(thread + 1) * MOST_INSTRUCTIONS
     }
+
     /// The run to be judged, in place of what stood there.
     pub fn set_run(&mut self, steps: &[Step]) {
         self.count = steps.len() as u16;

@@ -12,7 +12,7 @@ struct InstructionUses {
 struct StepUses {
     thread: bool,
     position: bool,
-    location: bool,
+    line: bool,
 }
 
 fn instruction_uses(operation: u8) -> Option<InstructionUses> {
@@ -32,7 +32,7 @@ fn instruction_uses(operation: u8) -> Option<InstructionUses> {
 }
 
 fn step_uses(code: u8) -> Option<StepUses> {
-    let (thread, position, location) = match code {
+    let (thread, position, line) = match code {
         0 => (true, false, false),
         1 => (true, true, false),
         2 => (false, false, true),
@@ -41,7 +41,7 @@ fn step_uses(code: u8) -> Option<StepUses> {
     Some(StepUses {
         thread,
         position,
-        location,
+        line,
     })
 }
 
@@ -72,12 +72,12 @@ pub fn check_instruction(
 }
 
 /// 5, then 8, for a step.
-pub fn check_step(threads: u8, locations: u8, step: &Step) -> Result<(), u8> {
+pub fn check_step(threads: u8, lines: u8, step: &Step) -> Result<(), u8> {
     let uses = step_uses(step.code).ok_or(OUT_OF_RANGE)?;
     in_range(uses.thread, step.thread, threads)?;
     in_range(uses.position, step.position, POSITIONS)?;
-    in_range(uses.location, step.location, locations)?;
+    in_range(uses.line, step.line, lines)?;
     blank(uses.thread, step.thread.into())?;
     blank(uses.position, step.position.into())?;
-    blank(uses.location, step.location.into())
+    blank(uses.line, step.line.into())
 }

@@ -1,17 +1,31 @@
 //! Number 32, tested on the case's form alone: no bytes are written or read for it.
 
-use super::case::{Case, Instruction, Step, MOST_INSTRUCTIONS, MOST_STEPS};
+use super::case::{Case, Instruction, Step};
+use super::case::{MOST_INSTRUCTIONS, MOST_STEPS, OWN_LINES, TOLD_LINES};
 use super::fields::{check_instruction, check_step};
+use super::lines;
 
 /// Whether some byte string reads as the case.
 pub fn fits(case: &Case) -> bool {
     (1..=4).contains(&case.threads)
         && (1..=8).contains(&case.locations)
+        && lines_fit(case)
         && firsts_fit(case)
         && (0..case.counts.len()).all(|thread| instructions_fit(case, thread))
         && wants_fit(case)
         && passed_fit(case)
         && steps_fit(case)
+}
+
+/// Numbered as a record has them, or as a record that does not tell them means it.
+fn lines_fit(case: &Case) -> bool {
+    let (used, unused) = case.line.split_at(case.locations.into());
+    let told = match case.version {
+        OWN_LINES => lines::are_own(used),
+        TOLD_LINES => true,
+        _ => false,
+    };
+    told && lines::count(used) == Some(case.lines) && unused.iter().all(|&left| left == 0)
 }
 
 fn firsts_fit(case: &Case) -> bool {
@@ -54,6 +68,6 @@ fn steps_fit(case: &Case) -> bool {
         return false;
     }
     let (used, unused) = case.steps.split_at(count);
-    let good = |step: &Step| check_step(case.threads, case.locations, step).is_ok();
+    let good = |step: &Step| check_step(case.threads, case.lines, step).is_ok();
     used.iter().all(good) && unused.iter().all(|left| *left == Step::default())
 }

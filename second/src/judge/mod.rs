@@ -5,6 +5,7 @@ pub mod ask;
 pub mod case;
 pub mod fields;
 pub mod form;
+pub mod lines;
 pub mod machine;
 pub mod reading;
 pub mod refusal;

@@ -1,10 +1,14 @@
 //! Reading a case: records from the left, the first faulty one decides.
 
-use super::case::{Case, Instruction, Step, MOST_INSTRUCTIONS, MOST_STEPS};
+use super::case::{Case, Instruction, Step};
+use super::case::{MOST_INSTRUCTIONS, MOST_LOCATIONS, MOST_STEPS, OWN_LINES, TOLD_LINES};
 use super::fields::{check_instruction, check_step};
+use super::lines;
 use super::refusal::*;
 
 const HEAD: usize = 4;
+/// Payload bytes of a program record before its lines.
+const SIZES: usize = 4;
 
 #[derive(Debug)]
 pub struct Reading {
@@ -60,8 +64,8 @@ impl Reader {
         require(rest.len() >= HEAD, CUT)?;
         let length = usize::from(u16::from_le_bytes([rest[0], rest[1]]));
         let kind = u16::from_le_bytes([rest[2], rest[3]]);
-        let right_length = payload_length(kind).ok_or(UNKNOWN_KIND)?;
-        require(length == right_length, WRONG_LENGTH)?;
+        let (least, most) = payload_lengths(kind).ok_or(UNKNOWN_KIND)?;
+        require((least..=most).contains(&length), WRONG_LENGTH)?;
         let payload = rest.get(HEAD..HEAD + length).ok_or(CUT)?;
         self.follow(kind)?;
         match kind {
@@ -105,11 +109,17 @@ impl Reader {
     fn program(&mut self, payload: &[u8]) -> Result<(), u8> {
         let version = u16::from_le_bytes([payload[0], payload[1]]);
         let (threads, locations) = (payload[2], payload[3]);
-        require(version == 1, OUT_OF_RANGE)?;
+        require((OWN_LINES..=TOLD_LINES).contains(&version), OUT_OF_RANGE)?;
         require((1..=4).contains(&threads), OUT_OF_RANGE)?;
         require((1..=8).contains(&locations), OUT_OF_RANGE)?;
-        self.case.threads = threads;
-        self.case.locations = locations;
+        let lines = &payload[SIZES..];
+        let told = if version == TOLD_LINES { locations } else { 0 };
+        require(lines.len() == usize::from(told), WRONG_LENGTH)?;
+        require(lines::count(lines).is_some(), UNUSED_NOT_ZERO)?;
+        self.case = Case::of_size(threads, locations);
+        if version == TOLD_LINES {
+            self.case.set_lines(version, lines);
+        }
         Ok(())
     }
 
@@ -165,9 +175,9 @@ impl Reader {
             thread: payload[0],
             code: payload[1],
             position: payload[2],
-            location: payload[3],
+            line: payload[3],
         };
-        check_step(self.case.threads, self.case.locations, &step)?;
+        check_step(self.case.threads, self.case.lines, &step)?;
         let index = usize::from(self.case.count);
         require(index < MOST_STEPS, NINETY_SEVENTH_STEP)?;
         self.case.steps[index] = step;
@@ -176,12 +186,14 @@ impl Reader {
     }
 }
 
-fn payload_length(kind: u16) -> Option<usize> {
+/// The least and the most; how long a program record must be its version tells.
+fn payload_lengths(kind: u16) -> Option<(usize, usize)> {
     match kind {
-        1 | 6 => Some(4),
-        2 | 4 => Some(5),
-        3 => Some(8),
-        5 => Some(2),
+        1 => Some((SIZES, SIZES + MOST_LOCATIONS)),
+        2 | 4 => Some((5, 5)),
+        3 => Some((8, 8)),
+        5 => Some((2, 2)),
+        6 => Some((4, 4)),
         _ => None,
     }
 }

@@ -7,6 +7,7 @@ pub const KIND_OUT_OF_PLACE: u8 = 4;
 pub const OUT_OF_RANGE: u8 = 5;
 pub const ORDER_BROKEN: u8 = 6;
 pub const NINTH_INSTRUCTION: u8 = 7;
+/// Of a program record: line numbers out of order.
 pub const UNUSED_NOT_ZERO: u8 = 8;
 pub const NINETY_SEVENTH_STEP: u8 = 9;
 pub const BUFFER_TOO_SHORT: u8 = 31;

@@ -1,6 +1,6 @@
 //! Writing a case into a lent buffer.
 
-use super::case::{Case, Step};
+use super::case::{Case, Step, TOLD_LINES};
 use super::form::fits;
 use super::refusal::{BUFFER_TOO_SHORT, READS_FROM_NO_BYTES};
 
@@ -20,7 +20,12 @@ pub fn write(case: &Case, lent: &mut [u8]) -> (u8, usize) {
 /// The file of a case. Counts beyond their arrays are cut, so it answers for any case.
 pub fn encode(case: &Case) -> Vec<u8> {
     let mut file = Vec::new();
-    put(&mut file, 1, &[&[1, 0, case.threads, case.locations]]);
+    let sizes = [case.threads, case.locations];
+    put(
+        &mut file,
+        1,
+        &[&case.version.to_le_bytes(), &sizes, told_lines(case)],
+    );
     for (location, word) in (0..).zip(case.first) {
         if word != 0 {
             put(&mut file, 2, &[&[location], &word.to_le_bytes()]);
@@ -42,11 +47,18 @@ pub fn encode(case: &Case) -> Vec<u8> {
     file
 }
 
+fn told_lines(case: &Case) -> &[u8] {
+    match case.version {
+        TOLD_LINES => &case.line[..case.line.len().min(case.locations.into())],
+        _ => &[],
+    }
+}
+
 /// The records of a run.
 pub fn encode_steps(run: &[Step]) -> Vec<u8> {
     let mut records = Vec::new();
     for step in run {
-        let fields = [step.thread, step.code, step.position, step.location];
+        let fields = [step.thread, step.code, step.position, step.line];
         put(&mut records, 6, &[&fields]);
     }
     records

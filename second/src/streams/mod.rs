@@ -2,6 +2,7 @@
 //! streams share.
 
 pub mod cases;
+pub mod layouts;
 pub mod machine;
 pub mod parts;
 pub mod question;

@@ -1,9 +1,11 @@
 //! Instructions and programs, written by hand.
 
 use crate::judge::case::{Case, Instruction};
+use crate::streams::layouts::{self, Layout};
 
 pub const X: u8 = 0;
 pub const Y: u8 = 1;
+pub const Z: u8 = 2;
 
 pub fn store(location: u8, word: u32) -> Instruction {
     Instruction::new(1, location, 0, word)
@@ -42,11 +44,14 @@ pub const MFENCE: Instruction = Instruction {
     ..SFENCE
 };
 
-/// Two locations; the instructions of each thread.
+/// Two locations, a line each; the instructions of each thread.
 pub fn program(threads: &[&[Instruction]]) -> Case {
-    let mut case = Case::empty();
-    case.threads = threads.len() as u8;
-    case.locations = 2;
+    laid_out(&Layout::own(2), threads)
+}
+
+/// The locations on lines in any way.
+pub fn laid_out(layout: &Layout, threads: &[&[Instruction]]) -> Case {
+    let mut case = layouts::case(threads.len() as u8, layout);
     for (thread, code) in threads.iter().enumerate() {
         case.counts[thread] = code.len() as u8;
         case.code[Case::places(thread)][..code.len()].copy_from_slice(code);
@@ -57,10 +62,15 @@ pub fn program(threads: &[&[Instruction]]) -> Case {
 /// One thread; wants by location; the thread's passed count.
 pub fn asking(code: &[Instruction], wants: &[(u8, u32)], passed: u8) -> Case {
     let mut case = program(&[code]);
+    want(&mut case, wants);
+    case.passed[0] = passed;
+    case
+}
+
+/// Words by location.
+pub fn want(case: &mut Case, wants: &[(u8, u32)]) {
     for &(at, word) in wants {
         case.wanted[usize::from(at)] = true;
         case.want[usize::from(at)] = word;
     }
-    case.passed[0] = passed;
-    case
 }

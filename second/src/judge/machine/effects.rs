@@ -7,32 +7,29 @@ use crate::judge::case::{Case, Step};
 pub fn advance(case: &Case, state: &mut State, step: &Step) {
     match step.code {
         ISSUE => issue(case, state, step.thread.into()),
-        MOVE => shift(state, step.thread.into(), step.position.into()),
-        _ => persist(state, step.location.into()),
+        MOVE => shift(case, state, step.thread.into(), step.position.into()),
+        _ => persist(state, step.line.into()),
     }
 }
 
 fn issue(case: &Case, state: &mut State, thread: usize) {
     let next = state.unissued(case, thread)[0];
-    let (at, register) = (usize::from(next.location), usize::from(next.register));
-    let store = |word| Entry::Store {
-        location: next.location,
-        word,
-    };
+    let (location, register) = (next.location, usize::from(next.register));
+    let store = |word| Entry::Store { location, word };
     let entry = match next.operation {
         1 => Some(store(next.word)),
         2 => Some(store(state.registers[thread][register])),
         3 => {
-            state.registers[thread][register] = loaded(state, thread, at);
+            state.registers[thread][register] = loaded(case, state, thread, location);
             None
         }
         4 => {
-            state.registers[thread][register] = shared(state, at);
-            state.queues[at].push(Held::write(next.word));
+            state.registers[thread][register] = shared(case, state, location);
+            state.queues[case.line_of(location)].push(Held::write(location, next.word));
             None
         }
-        5 => Some(Entry::Flush(next.location)),
-        6 => Some(Entry::FlushOpt(next.location)),
+        5 => Some(Entry::Flush(location)),
+        6 => Some(Entry::FlushOpt(location)),
         7 => Some(Entry::Sfence),
         _ => None,
     };
@@ -43,37 +40,37 @@ fn issue(case: &Case, state: &mut State, thread: usize) {
 }
 
 /// The newest store in the thread's own buffer, else what all threads see.
-fn loaded(state: &State, thread: usize, at: usize) -> u32 {
+fn loaded(case: &Case, state: &State, thread: usize, at: u8) -> u32 {
     let own = |entry: &Entry| match *entry {
-        Entry::Store { location, word } if usize::from(location) == at => Some(word),
+        Entry::Store { location, word } if location == at => Some(word),
         _ => None,
     };
     let newest = state.buffers[thread].used().iter().rev().find_map(own);
-    newest.unwrap_or_else(|| shared(state, at))
+    newest.unwrap_or_else(|| shared(case, state, at))
 }
 
-/// The newest write in the location's queue, else the persistent word.
-fn shared(state: &State, at: usize) -> u32 {
-    let mut held = state.queues[at].used().iter().rev();
-    let newest = held.find(|held| held.is_write());
-    newest.map_or(state.words[at], |held| held.word)
+/// The newest write of the location in its line's queue, else the persistent word.
+fn shared(case: &Case, state: &State, at: u8) -> u32 {
+    let mut held = state.queues[case.line_of(at)].used().iter().rev();
+    let newest = held.find(|held| held.location() == Some(at));
+    newest.map_or(state.words[usize::from(at)], |held| held.word)
 }
 
-fn shift(state: &mut State, thread: usize, position: usize) {
+fn shift(case: &Case, state: &mut State, thread: usize, position: usize) {
     match state.buffers[thread].take(position) {
         Entry::Store { location, word } => {
-            state.queues[usize::from(location)].push(Held::write(word));
+            state.queues[case.line_of(location)].push(Held::write(location, word));
         }
         Entry::FlushOpt(location) => {
-            state.queues[usize::from(location)].push(Held::marker(thread));
+            state.queues[case.line_of(location)].push(Held::marker(thread));
         }
         Entry::Flush(_) | Entry::Sfence => {}
     }
 }
 
-fn persist(state: &mut State, at: usize) {
-    let oldest = state.queues[at].take(0);
-    if oldest.is_write() {
-        state.words[at] = oldest.word;
+fn persist(state: &mut State, line: usize) {
+    let oldest = state.queues[line].take(0);
+    if let Some(location) = oldest.location() {
+        state.words[usize::from(location)] = oldest.word;
     }
 }

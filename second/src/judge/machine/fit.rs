@@ -1,6 +1,6 @@
 //! Number 33: a machine state in memory that does not fit its case. The case is readable.
 
-use super::state::{Entry, State, QUEUE_ROOM};
+use super::state::{Entry, Held, State, QUEUE_ROOM};
 use crate::judge::case::{Case, MOST_INSTRUCTIONS};
 
 /// One way not to fit; each answers for any state, however large its counts are.
@@ -9,7 +9,7 @@ pub struct Clause {
     pub broken: fn(&Case, &State) -> bool,
 }
 
-pub const CLAUSES: [Clause; 7] = [
+pub const CLAUSES: [Clause; 9] = [
     Clause {
         name: "buffer of a lacking thread",
         broken: |case, state| {
@@ -18,9 +18,9 @@ pub const CLAUSES: [Clause; 7] = [
         },
     },
     Clause {
-        name: "queue of a lacking location",
+        name: "queue of a lacking line",
         broken: |case, state| {
-            let lacking = &state.queues[usize::from(case.locations)..];
+            let lacking = &state.queues[usize::from(case.lines)..];
             lacking.iter().any(|queue| queue.count > 0)
         },
     },
@@ -32,10 +32,29 @@ pub const CLAUSES: [Clause; 7] = [
         },
     },
     Clause {
+        name: "write names a lacking location",
+        broken: |case, state| {
+            let lacks = |held: &Held| held.location().map_or(false, |at| at >= case.locations);
+            held(state).any(|(_, held)| lacks(held))
+        },
+    },
+    Clause {
+        name: "write of another line",
+        // Of a location that the program has, in the queue of a line that it has.
+        broken: |case, state| {
+            let strays = |line, held: &Held| {
+                let own = held.location().filter(|&at| at < case.locations);
+                own.map_or(false, |at| case.line_of(at) != line)
+            };
+            let mut held = held(state).filter(|&(line, _)| line < usize::from(case.lines));
+            held.any(|(line, held)| strays(line, held))
+        },
+    },
+    Clause {
         name: "marker names a lacking thread",
         broken: |case, state| {
-            let mut held = state.queues.iter().flat_map(|queue| queue.used());
-            held.any(|held| held.mark > case.threads)
+            let lacks = |held: &Held| held.thread().map_or(false, |one| one >= case.threads);
+            held(state).any(|(_, held)| lacks(held))
         },
     },
     Clause {
@@ -64,6 +83,12 @@ pub const CLAUSES: [Clause; 7] = [
 
 pub fn fits(case: &Case, state: &State) -> bool {
     CLAUSES.iter().all(|clause| !(clause.broken)(case, state))
+}
+
+/// What stands in the queues, each with the queue's line.
+fn held(state: &State) -> impl Iterator<Item = (usize, &Held)> {
+    let queues = state.queues.iter().enumerate();
+    queues.flat_map(|(line, queue)| queue.used().iter().map(move |held| (line, held)))
 }
 
 /// All entries in store buffers and all unissued instructions.

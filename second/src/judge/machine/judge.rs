@@ -94,6 +94,6 @@ pub fn single_step(case: &Case, mut state: State, step: &Step) -> Verdict {
 pub fn may_step(case: &Case, state: &State, step: &Step) -> Result<(), u8> {
     require(form::fits(case), READS_FROM_NO_BYTES)?;
     require(fit::fits(case, state), STATE_DOES_NOT_FIT)?;
-    check_step(case.threads, case.locations, step)?;
+    check_step(case.threads, case.lines, step)?;
     check(case, state, step)
 }

@@ -25,9 +25,9 @@ pub const QUEUE_EMPTY: u8 = 29;
 pub fn check(case: &Case, state: &State, step: &Step) -> Result<(), u8> {
     match step.code {
         ISSUE => check_issue(case, state, step.thread.into()),
-        MOVE => check_move(state, step.thread.into(), step.position.into()),
+        MOVE => check_move(case, state, step.thread.into(), step.position.into()),
         _ => {
-            let queue = &state.queues[usize::from(step.location)];
+            let queue = &state.queues[usize::from(step.line)];
             require(!queue.used().is_empty(), QUEUE_EMPTY)
         }
     }
@@ -43,20 +43,20 @@ fn check_issue(case: &Case, state: &State, thread: usize) -> Result<(), u8> {
     Ok(())
 }
 
-fn check_move(state: &State, thread: usize, position: usize) -> Result<(), u8> {
+fn check_move(case: &Case, state: &State, thread: usize, position: usize) -> Result<(), u8> {
     let waiting = state.buffers[thread].used();
     let entry = *waiting.get(position).ok_or(NO_ENTRY)?;
     if position > 0 {
-        let location = match entry {
-            Entry::FlushOpt(location) => location,
+        let line = match entry {
+            Entry::FlushOpt(location) => case.line_of(location),
             _ => return Err(NOT_FIRST),
         };
-        let barred = waiting[..position].iter().any(|&one| bars(one, location));
-        require(!barred, BARRED)?;
+        let mut before = waiting[..position].iter();
+        require(!before.any(|&one| bars(case, one, line)), BARRED)?;
     }
     match entry {
         Entry::Flush(location) => {
-            let queue = &state.queues[usize::from(location)];
+            let queue = &state.queues[case.line_of(location)];
             require(queue.used().is_empty(), QUEUE_NOT_EMPTY)
         }
         Entry::Sfence => require(!has_marker(state, thread), MARKER_BEFORE_SFENCE),
@@ -64,10 +64,10 @@ fn check_move(state: &State, thread: usize, position: usize) -> Result<(), u8> {
     }
 }
 
-/// Whether a flush-opt of the location must stay behind the entry.
-fn bars(entry: Entry, location: u8) -> bool {
+/// Whether a flush-opt of a location on the line must stay behind the entry.
+fn bars(case: &Case, entry: Entry, line: usize) -> bool {
     match entry {
-        Entry::Store { location: own, .. } | Entry::Flush(own) => own == location,
+        Entry::Store { location, .. } | Entry::Flush(location) => case.line_of(location) == line,
         Entry::FlushOpt(_) => false,
         Entry::Sfence => true,
     }

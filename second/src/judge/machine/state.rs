@@ -7,8 +7,10 @@ use crate::judge::case::{Case, Instruction, MOST_INSTRUCTIONS, MOST_LOCATIONS, M
 pub const QUEUE_ROOM: usize = 32;
 pub const THREAD_REGISTERS: usize = 4;
 
-/// What stands in a queue: a write where the mark is 0, else a flush-opt marker of thread
-/// mark - 1. A marker's word means nothing, but it is kept.
+/// Marks from here on are those of flush-opt markers, by thread; below, of writes, by location.
+pub const MARKER: u8 = 128;
+
+/// What stands in a queue. A marker's word means nothing, but it is kept.
 #[derive(Clone, Copy, Debug, Default, PartialEq, Eq)]
 pub struct Held {
     pub word: u32,
@@ -16,23 +18,32 @@ pub struct Held {
 }
 
 impl Held {
-    pub fn write(word: u32) -> Held {
-        Held { word, mark: 0 }
+    pub fn write(location: u8, word: u32) -> Held {
+        Held {
+            word,
+            mark: location,
+        }
     }
 
     pub fn marker(thread: usize) -> Held {
         Held {
             word: 0,
-            mark: thread as u8 + 1,
+            mark: MARKER + thread as u8,
         }
     }
 
-    pub fn is_write(self) -> bool {
-        self.mark == 0
+    /// Of a write; none of a marker.
+    pub fn location(self) -> Option<u8> {
+        (self.mark < MARKER).then_some(self.mark)
+    }
+
+    /// Of a marker; none of a write.
+    pub fn thread(self) -> Option<u8> {
+        self.mark.checked_sub(MARKER)
     }
 
     pub fn is_marker_of(self, thread: usize) -> bool {
-        usize::from(self.mark) == thread + 1
+        self.thread().map(usize::from) == Some(thread)
     }
 }
 
@@ -62,6 +73,7 @@ pub type Buffer = Row<Entry, MOST_INSTRUCTIONS>;
 pub struct State {
     /// The persistent words.
     pub words: [u32; MOST_LOCATIONS],
+    /// By line: there are no more lines than locations.
     pub queues: [Queue; MOST_LOCATIONS],
     pub buffers: [Buffer; MOST_THREADS],
     pub registers: [[u32; THREAD_REGISTERS]; MOST_THREADS],

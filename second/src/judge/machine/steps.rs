@@ -20,22 +20,22 @@ pub fn shift(thread: u8, position: u8) -> Step {
     }
 }
 
-pub fn persist(location: u8) -> Step {
+pub fn persist(line: u8) -> Step {
     Step {
         code: PERSIST,
-        location,
+        line,
         ..Step::default()
     }
 }
 
-/// Every step in range: issue by thread, move by thread then position, persist by location.
+/// Every step in range: issue by thread, move by thread then position, persist by line.
 pub fn all_steps(case: &Case) -> Vec<Step> {
     let threads = 0..case.threads;
     let mut steps: Vec<Step> = threads.clone().map(issue).collect();
     for thread in threads {
         steps.extend((0..POSITIONS).map(|position| shift(thread, position)));
     }
-    steps.extend((0..case.locations).map(persist));
+    steps.extend((0..case.lines).map(persist));
     steps
 }
 
@@ -44,7 +44,7 @@ pub fn printed(run: &[Step]) -> String {
     let one = |step: &Step| match step.code {
         ISSUE => format!("I{}", step.thread),
         MOVE => format!("M{}.{}", step.thread, step.position),
-        _ => format!("P{}", step.location),
+        _ => format!("P{}", step.line),
     };
     run.iter().map(one).collect::<Vec<String>>().join(" ")
 }

@@ -8,7 +8,7 @@ use super::sentences::{Sentence, OF_STATES};
 use super::shown;
 use crate::judge::case::MOST_LOCATIONS;
 use crate::judge::machine::judge::LEGAL;
-use crate::judge::machine::state::State;
+use crate::judge::machine::state::{Queue, State};
 use crate::judge::machine::steps::printed;
 use std::collections::BTreeSet;
 
@@ -29,6 +29,8 @@ pub struct Found {
     pub steps: u64,
     /// States without a legal step.
     pub ends: u64,
+    /// States with writes of two locations in one queue.
+    pub shared: u64,
     /// Runs to these, and all runs.
     pub finished_runs: u128,
     pub runs: u128,
@@ -89,6 +91,7 @@ impl Found {
         self.states += 1;
         self.steps += visit.edges.len() as u64;
         self.runs = self.runs.saturating_add(visit.runs);
+        self.shared += u64::from(visit.point.state.queues.iter().any(is_shared));
         if visit.is_end() {
             self.ends += 1;
             self.finished_runs = self.finished_runs.saturating_add(visit.runs);
@@ -136,4 +139,11 @@ impl Found {
             self.blame(WRITTEN_OUT, program, &text);
         }
     }
+}
+
+/// Writes of two locations stand in it.
+pub fn is_shared(queue: &Queue) -> bool {
+    let mut writes = queue.used().iter().filter_map(|held| held.location());
+    let first = writes.next();
+    writes.any(|other| Some(other) != first)
 }

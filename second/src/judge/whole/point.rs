@@ -62,15 +62,15 @@ impl Point {
             || state.queues.iter().any(|queue| queue.count > 0)
     }
 
-    /// Bytes that two points share only if they are the same: all that the program's threads and
-    /// locations have, and behind each count what it counts.
+    /// Bytes that two points share only if they are the same: all that the program's threads,
+    /// locations and lines have, and behind each count what it counts.
     pub fn key(&self, case: &Case) -> Vec<u8> {
         let (threads, locations) = (usize::from(case.threads), usize::from(case.locations));
         let state = &self.state;
         let mut key = Vec::with_capacity(160);
         key.extend_from_slice(&state.issued);
         put(&mut key, &state.words[..locations]);
-        for queue in &state.queues[..locations] {
+        for queue in &state.queues[..usize::from(case.lines)] {
             key.push(queue.count);
             for held in queue.used() {
                 key.push(held.mark);

@@ -24,6 +24,9 @@ impl Program {
             code: case.code,
             threads: case.threads,
             locations: case.locations,
+            version: case.version,
+            lines: case.lines,
+            line: case.line,
             ..Case::empty()
         };
         let threads = 0..usize::from(case.threads);
@@ -89,7 +92,7 @@ impl Program {
         let mut run = Vec::new();
         for thread in others.chain([last]) {
             for one in code(&self.case, thread) {
-                run.extend(carry_through(thread as u8, one));
+                run.extend(carry_through(&self.case, thread as u8, one));
             }
         }
         run
@@ -97,13 +100,13 @@ impl Program {
 }
 
 /// With every buffer and queue empty.
-fn carry_through(thread: u8, one: &Instruction) -> Vec<Step> {
+fn carry_through(case: &Case, thread: u8, one: &Instruction) -> Vec<Step> {
     let mut steps = vec![issue(thread)];
     if [1, 2, 5, 6, 7].contains(&one.operation) {
         steps.push(shift(thread, 0));
     }
     if [1, 2, 4, 6].contains(&one.operation) {
-        steps.push(persist(one.location));
+        steps.push(persist(case.line_of(one.location) as u8));
     }
     steps
 }

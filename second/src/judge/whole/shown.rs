@@ -7,13 +7,14 @@ use crate::judge::machine::steps::printed;
 
 pub fn program(program: &Program) -> String {
     let case = &program.case;
-    let firsts = &case.first[..usize::from(case.locations)];
+    let locations = usize::from(case.locations);
+    let (firsts, lines) = (&case.first[..locations], &case.line[..locations]);
     let threads = (0..usize::from(case.threads)).map(|thread| {
         let code: Vec<String> = code(case, thread).iter().map(instruction).collect();
         format!("{{{}}}", code.join("; "))
     });
     let threads: Vec<String> = threads.collect();
-    format!("program {firsts:?} {}", threads.join(" "))
+    format!("program {firsts:?} lines {lines:?} {}", threads.join(" "))
 }
 
 /// x is a location, r a register.

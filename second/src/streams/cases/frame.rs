@@ -6,7 +6,7 @@ use std::io::{self, Read, Write};
 
 pub const MOST_INPUT: u32 = 65536;
 /// From this field number on a frame changes nothing.
-pub const FIELDS_END: u32 = 548;
+pub const FIELDS_END: u32 = 558;
 
 #[derive(Clone, Debug, PartialEq, Eq)]
 pub struct Frame {
@@ -72,7 +72,7 @@ impl Slot<'_> {
     }
 }
 
-/// The field of that number; none for 0 and from 548 on.
+/// The field of that number; none for 0 and from 558 on.
 pub fn slot(case: &mut Case, field: u32) -> Option<Slot<'_>> {
     let field = field as usize;
     let found = match field {
@@ -86,6 +86,9 @@ pub fn slot(case: &mut Case, field: u32) -> Option<Slot<'_>> {
         159..=162 => Slot::Byte(&mut case.passed[field - 159]),
         163 => Slot::Short(&mut case.count),
         164..=547 => step_slot(case, field - 164),
+        548 => Slot::Short(&mut case.version),
+        549 => Slot::Byte(&mut case.lines),
+        550..=557 => Slot::Byte(&mut case.line[field - 550]),
         _ => return None,
     };
     Some(found)
@@ -107,6 +110,6 @@ fn step_slot(case: &mut Case, at: usize) -> Slot<'_> {
         0 => &mut step.thread,
         1 => &mut step.code,
         2 => &mut step.position,
-        _ => &mut step.location,
+        _ => &mut step.line,
     })
 }

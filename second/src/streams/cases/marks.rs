@@ -15,8 +15,9 @@ const fn family(name: &'static str, least: u64) -> Family {
     Family { name, least }
 }
 
-/// The number in a name is the expected one; of two it is the first.
-pub const FAMILIES: [Family; 33] = [
+/// The number in a name is the expected one; of two it is the first. A header is a program record: its
+/// faults are named in the order of their checks.
+pub const FAMILIES: [Family; 68] = [
     family("fault 1 (head)", 100),
     family("fault 1 (payload)", 100),
     family("fault 2", 100),
@@ -48,8 +49,43 @@ pub const FAMILIES: [Family; 33] = [
     family("valid file", 100),
     family("boundary accepted", 100),
     family("boundary refused", 100),
-    family("fault behind 1,328 valid bytes", 100),
+    family("fault behind a longest file", 100),
     family("any bytes behind a valid file", 100),
+    family("header: head", 60),
+    family("header: kind", 60),
+    family("header: outside", 60),
+    family("header: cut", 60),
+    family("header: misplaced", 60),
+    family("header: range", 60),
+    family("header: length", 60),
+    family("header: order", 60),
+    family("header: head+kind", 60),
+    family("header: head+outside", 60),
+    family("header: head+cut", 60),
+    family("header: head+misplaced", 60),
+    family("header: head+range", 60),
+    family("header: head+length", 60),
+    family("header: head+order", 60),
+    family("header: kind+outside", 60),
+    family("header: kind+cut", 60),
+    family("header: kind+misplaced", 60),
+    family("header: kind+range", 60),
+    family("header: kind+length", 60),
+    family("header: kind+order", 60),
+    family("header: outside+cut", 60),
+    family("header: outside+misplaced", 60),
+    family("header: outside+range", 60),
+    family("header: outside+order", 60),
+    family("header: cut+misplaced", 60),
+    family("header: cut+range", 60),
+    family("header: cut+length", 60),
+    family("header: cut+order", 60),
+    family("header: misplaced+range", 60),
+    family("header: misplaced+length", 60),
+    family("header: misplaced+order", 60),
+    family("header: range+length", 60),
+    family("header: range+order", 60),
+    family("header: length+order", 60),
 ];
 
 /// What a marked frame must be answered.

@@ -6,3 +6,4 @@ pub mod counts;
 pub mod frame;
 pub mod generate;
 pub mod marks;
+mod sorts;

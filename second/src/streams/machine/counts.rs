@@ -4,12 +4,14 @@ use super::answer::{answer, Answer};
 use super::frame::{Job, Trial};
 use super::marks::{mark_of, FAMILIES};
 use super::raw;
+use super::sharing::SHARING;
 use super::sorts::SORTS;
 use crate::judge::case::MOST_STEPS;
 use crate::judge::form;
 use crate::judge::machine::fit::CLAUSES;
 use crate::judge::machine::judge::LEGAL;
 use crate::streams::cases::frame::FIELDS_END;
+use crate::streams::layouts::LayoutCounts;
 use crate::streams::tally::{row, Counts, Row};
 
 /// Every number that is answered, and the least number of frames in which it is.
@@ -45,6 +47,9 @@ pub struct TrialCounts {
     numbers: [[u64; 3]; 256],
     clauses: [u64; CLAUSES.len()],
     sorts: [u64; SORTS.len()],
+    sharing: [u64; SHARING.len()],
+    /// Of the cases whose run or step was judged.
+    layouts: LayoutCounts,
     families: [u64; FAMILIES.len()],
     /// Lengths of legal runs, and indexes of illegal steps.
     lengths: [bool; MOST_STEPS + 1],
@@ -59,6 +64,8 @@ impl TrialCounts {
             numbers: [[0; 3]; 256],
             clauses: [0; CLAUSES.len()],
             sorts: [0; SORTS.len()],
+            sharing: [0; SHARING.len()],
+            layouts: LayoutCounts::default(),
             families: [0; FAMILIES.len()],
             lengths: [false; MOST_STEPS + 1],
             indexes: [false; MOST_STEPS],
@@ -145,6 +152,13 @@ impl Counts<Trial> for TrialCounts {
         for (sort, count) in SORTS.iter().zip(&mut self.sorts) {
             *count += u64::from((sort.told)(trial, &answer));
         }
+        for (sort, count) in SHARING.iter().zip(&mut self.sharing) {
+            *count += u64::from((sort.told)(trial, &answer));
+        }
+        let number = answer.verdict.number;
+        if trial.job != Job::Start && (number == LEGAL || RULES.contains(&number)) {
+            self.layouts.take(&answer.case);
+        }
         self.check(trial, &answer);
     }
 
@@ -165,6 +179,10 @@ impl Counts<Trial> for TrialCounts {
         for (sort, &count) in SORTS.iter().zip(&self.sorts) {
             rows.push(row(sort.name, count, sort.least));
         }
+        for (sort, &count) in SHARING.iter().zip(&self.sharing) {
+            rows.push(row(sort.name, count, sort.least));
+        }
+        rows.extend(self.layouts.rows(150, 1..=8));
         for (family, &count) in FAMILIES.iter().zip(&self.families) {
             rows.push(row(family.name, count, family.least));
         }

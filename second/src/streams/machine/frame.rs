@@ -45,7 +45,7 @@ impl Trial {
         }
         out.write_all(&self.input)?;
         if let Job::Step(step, state) = &self.job {
-            out.write_all(&[step.thread, step.code, step.position, step.location])?;
+            out.write_all(&[step.thread, step.code, step.position, step.line])?;
             out.write_all(state)?;
         }
         Ok(())
@@ -84,7 +84,7 @@ fn read_step(stream: &mut impl Read) -> io::Result<Job> {
         thread: fields[0],
         code: fields[1],
         position: fields[2],
-        location: fields[3],
+        line: fields[3],
     };
     Ok(Job::Step(step, read_part(stream, STATE_BYTES)?))
 }

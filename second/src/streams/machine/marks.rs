@@ -17,7 +17,7 @@ const fn family(name: &'static str, least: u64) -> Family {
 }
 
 /// Of two numbers the first is the expected one; `script`, `step` and `start` are by construction.
-pub const FAMILIES: [Family; 88] = [
+pub const FAMILIES: [Family; 104] = [
     family("legal run", 1500),
     family("run: rule 21", 150),
     family("run: rule 22", 150),
@@ -43,7 +43,7 @@ pub const FAMILIES: [Family; 88] = [
     family("script: 28", 100),
     family("script: 29", 100),
     family("legal: each done at once", 100),
-    family("legal: passes other locations", 60),
+    family("legal: passes other lines", 60),
     family("legal: passes a flush-opt", 60),
     family("legal: flush, other queues", 60),
     family("legal: fence, other's marker", 60),
@@ -52,6 +52,12 @@ pub const FAMILIES: [Family; 88] = [
     family("legal: exchange, queue filled", 60),
     family("legal: sfence before flush-opt", 60),
     family("legal: empty case", 50),
+    family("script: 26, a neighbour's", 100),
+    family("script: 27, a neighbour's", 100),
+    family("script: 29, a neighbour's gone", 100),
+    family("legal: a neighbour's persist", 100),
+    family("legal: load past a neighbour's", 100),
+    family("legal: fence, neighbour's gone", 100),
     family("reading refused", 500),
     family("step: reading refused", 50),
     family("step: reachable state", 1000),
@@ -78,18 +84,28 @@ pub const FAMILIES: [Family; 88] = [
     family("step: legal passing", 100),
     family("step: legal sfence", 100),
     family("step: legal persist", 100),
+    family("step: 26, a neighbour's", 100),
+    family("step: 27, a neighbour's", 100),
+    family("step: load past a neighbour's", 100),
+    family("step: exchange past a neighbour's", 100),
     family("33 above: lacking thread", 100),
-    family("33 above: lacking queue", 100),
+    family("33 above: lacking line", 100),
+    family("33 above: location that is no line", 100),
     family("33 above: entry's location", 100),
     family("33 above: marker's thread", 100),
+    family("33 above: write's location", 100),
+    family("33 above: write of another line", 100),
     family("33 above: issued", 100),
     family("33 above: buffer of 8", 100),
     family("33 above: queue of 32", 100),
     family("33 at: last thread", 100),
-    family("33 at: last queue", 100),
+    family("33 at: last line", 100),
     family("33 at: entry's location", 100),
     family("33 at: sfence names none", 100),
     family("33 at: marker's thread", 100),
+    family("33 at: marker of thread 0", 100),
+    family("33 at: write's location", 100),
+    family("33 at: write of a shared line", 100),
     family("33 at: issued", 100),
     family("33 at: buffer of 8", 100),
     family("33 at: queue of 32", 100),
@@ -146,7 +162,7 @@ pub fn mark_of(trial: &Trial) -> Option<Mark> {
     })
 }
 
-/// Threads, locations, instructions of a thread or steps: whatever the input is, 32.
+/// Threads, locations, instructions of a thread, steps, the version or lines: whatever the input is, 32.
 fn sets_bad_count(trial: &Trial) -> bool {
     let byte = trial.value as u8;
     let bad = match trial.field {
@@ -154,6 +170,8 @@ fn sets_bad_count(trial: &Trial) -> bool {
         2 => !(1..=8).contains(&byte),
         11..=14 => byte > 8,
         163 => trial.value as u16 > 96,
+        548 => !(1..=2).contains(&(trial.value as u16)),
+        549 => !(1..=8).contains(&byte),
         _ => false,
     };
     bad && trial.job != Job::Bytes

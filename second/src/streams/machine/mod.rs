@@ -6,4 +6,5 @@ pub mod frame;
 pub mod generate;
 mod marks;
 pub mod raw;
+mod sharing;
 mod sorts;

@@ -9,13 +9,14 @@ use crate::judge::machine::judge::LEGAL;
 use crate::judge::machine::state::State;
 use crate::streams::tally::{sort, Sort};
 
-pub const SORTS: [Sort<fn(&Trial, &Answer) -> bool>; 38] = [
+pub const SORTS: [Sort<fn(&Trial, &Answer) -> bool>; 39] = [
     sort("job 0", 3000, |t, _| t.job == Job::Bytes),
     sort("job 1", 2000, |t, _| t.job == Job::Case),
     sort("job 2", 6000, |_, a| a.given.is_some()),
     sort("job 4", 1500, |t, _| t.job == Job::Start),
     sort("input empty", 20, |t, _| t.input.is_empty()),
-    sort("input of 1,328 bytes", 50, |t, _| t.input.len() == 1328),
+    sort("input of 1,328 bytes", 20, |t, _| t.input.len() == 1328),
+    sort("input of 1,336 bytes", 30, |t, _| t.input.len() == 1336),
     sort("input of 2,048 bytes", 20, |t, _| t.input.len() == 2048),
     sort("legal run of 96 steps", 15, |_, a| legal_run(a, 96, 96)),
     sort("legal run of 64 to 95 steps", 400, |_, a| {

@@ -2,12 +2,16 @@
 //! from there on one and the same answer.
 
 use super::counts::Sight;
-use crate::judge::ask::{RECORD, UNDECIDED};
+use crate::judge::ask::{search, End, REACHED, RECORD, UNDECIDED, UNREACHABLE};
 use crate::judge::case::{Case, Step};
 use crate::judge::refusal::BUFFER_TOO_SHORT;
 use crate::judge::writing::encode;
+use crate::streams::layouts::{self, LayoutCounts};
 use crate::streams::tally::{row, Row};
 use std::collections::BTreeMap;
+
+/// So many runs at most are looked at for what a line each would answer.
+const APART: u32 = 4000;
 
 #[derive(Default)]
 struct Known {
@@ -41,6 +45,10 @@ pub struct Ledger {
     twins: BTreeMap<u8, u64>,
     /// Frames answered 31 in whose buffer the run to be shown has room.
     short_but_fits: u64,
+    /// Of the decided cases, each once.
+    layouts: LayoutCounts,
+    /// Unreachable cases that are reached where each location has a line of its own.
+    kept_whole: u64,
 }
 
 /// The file of a case without its steps.
@@ -65,7 +73,18 @@ impl Ledger {
                 None
             }
             UNDECIDED => known.undecided(sight.query.budget),
-            _ => known.decided(sight, number),
+            _ => {
+                let mut wrong = None;
+                if known.decided.is_none() {
+                    self.layouts.take(&sight.case);
+                    let apart = with_a_line_each(&sight.case);
+                    self.kept_whole += u64::from((number, apart) == (UNREACHABLE, Some(REACHED)));
+                    // A shared line only takes runs away.
+                    wrong = (number == REACHED && apart == Some(UNREACHABLE))
+                        .then_some("reached, but not where each location has its own line");
+                }
+                known.decided(sight, number).or(wrong)
+            }
         };
         wrong.or_else(|| self.take_twin(sight, case))
     }
@@ -104,7 +123,9 @@ impl Ledger {
             row("cases unreachable", ended(101), 250),
             row("cases undecided by all budgets", ended(0), 40),
             row("31, but the run has room", self.short_but_fits, 200),
+            row("101, with a line each 100", self.kept_whole, 30),
         ];
+        rows.extend(self.layouts.rows(20, 1..=8));
         for number in [31, 100, 101, 102] {
             let name = format!("other steps, again {number}");
             let count = self.twins.get(&number).copied().unwrap_or(0);
@@ -120,6 +141,19 @@ impl Ledger {
             None => false,
         };
         self.cases.values().filter(open).count()
+    }
+}
+
+/// What is answered where each location has a line of its own; none where that takes too long, or where
+/// each has one.
+fn with_a_line_each(case: &Case) -> Option<u8> {
+    if case.lines == case.locations {
+        return None;
+    }
+    match search(&layouts::apart(case), APART).end {
+        End::Reached(_) => Some(REACHED),
+        End::Unreachable => Some(UNREACHABLE),
+        End::Undecided => None,
     }
 }
 

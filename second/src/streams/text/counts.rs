@@ -4,12 +4,14 @@ use super::freedoms::FREEDOMS;
 use super::sight::Sight;
 use super::sorts::SORTS;
 use super::written::Written;
+use crate::streams::layouts::LayoutCounts;
 use crate::streams::tally::{row, Counts, Row};
 
 pub struct TextCounts {
     cases: u64,
     /// Of the sorts, and behind them of the freedoms.
     sorts: [u64; SORTS.len() + FREEDOMS.len()],
+    layouts: LayoutCounts,
     faults: Vec<String>,
 }
 
@@ -18,6 +20,7 @@ impl TextCounts {
         TextCounts {
             cases: 0,
             sorts: [0; SORTS.len() + FREEDOMS.len()],
+            layouts: LayoutCounts::default(),
             faults: Vec::new(),
         }
     }
@@ -38,13 +41,13 @@ impl Counts<Written> for TextCounts {
         for (sort, count) in sorts.zip(&mut self.sorts) {
             *count += u64::from((sort.told)(&sight));
         }
+        self.layouts.take(&sight.case);
     }
 
     fn rows(&self) -> Vec<Row> {
         let sorts = SORTS.iter().chain(&FREEDOMS).zip(self.sorts);
-        sorts
-            .map(|(sort, count)| row(sort.name, count, sort.least))
-            .collect()
+        let rows = sorts.map(|(sort, count)| row(sort.name, count, sort.least));
+        rows.chain(self.layouts.rows(20, 1..=8)).collect()
     }
 
     fn frames(&self) -> u64 {

@@ -42,6 +42,8 @@ struct Habits {
     hexadecimal: usize,
     zeros: usize,
     letters: usize,
+    unsaid: usize,
+    beside: usize,
 }
 
 impl Habits {
@@ -56,6 +58,9 @@ impl Habits {
             hexadecimal: often(),
             zeros: often(),
             letters: often(),
+            // Seven eighths at most: it is asked for until it is not taken.
+            unsaid: often().min(7),
+            beside: often(),
         }
     }
 }
@@ -95,14 +100,43 @@ impl Pen<'_> {
         let single = |lines: Vec<Line>| lines.into_iter().map(|line| vec![line]);
         let behind = single([wants(case), passed(case)].concat()).chain(self.run(case));
         let mut lists = threads(case);
+        let before = single([self.lines(case), firsts(case)].concat());
         if !self.taken(self.habits.order) {
-            return single(firsts(case)).chain(lists).chain(behind).collect();
+            return before.chain(lists).chain(behind).collect();
         }
-        for list in single(firsts(case)).chain(behind) {
+        for list in before.chain(behind) {
             let at = self.random.below(lists.len() + 1);
             lists.insert(at, list);
         }
         lists
+    }
+
+    /// Lines with one location alone may go without, but not all of them; names in any order.
+    fn lines(&mut self, case: &Case) -> Vec<Line> {
+        let mut all = lines(case);
+        while all.len() > 1 && self.taken(self.habits.unsaid) {
+            let at = self.random.below(all.len());
+            if all[at].len() == 2 {
+                all.remove(at);
+            }
+        }
+        for line in &mut all {
+            for at in 2..line.len() {
+                if self.taken(self.habits.order) {
+                    line.swap(at, 1 + self.random.below(at));
+                }
+            }
+        }
+        all
+    }
+
+    /// Which location of its line a persist names.
+    fn neighbour(&mut self) -> usize {
+        if self.taken(self.habits.beside) {
+            self.random.below(8)
+        } else {
+            0
+        }
     }
 
     /// The run as one list; where it has no steps, perhaps the line `run` alone.
@@ -116,7 +150,8 @@ impl Pen<'_> {
             list.push(if letters {
                 in_letters(step)
             } else {
-                in_words(step)
+                let by = self.neighbour();
+                in_words(case, step, by)
             });
         }
         Some(list)

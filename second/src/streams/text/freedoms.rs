@@ -2,9 +2,10 @@
 
 use super::names::{KEYS, LIKE_REGISTERS, LIKE_STEPS, MOST_CHARACTERS, PLAIN};
 use super::sight::Sight;
+use crate::streams::layouts::on_line;
 use crate::streams::tally::{sort, Sort};
 
-pub const FREEDOMS: [Sort<fn(&Sight) -> bool>; 49] = [
+pub const FREEDOMS: [Sort<fn(&Sight) -> bool>; 58] = [
     sort("name: a word of the grammar", 100, |s| named(s, &KEYS)),
     sort("name: like a step", 100, |s| named(s, &LIKE_STEPS)),
     sort("name: nearly a register", 100, |s| {
@@ -20,6 +21,24 @@ pub const FREEDOMS: [Sort<fn(&Sight) -> bool>; 49] = [
             .any(|name| name.contains(&['_', '-', '.'][..]))
     }),
     sort("names: apart by capitals alone", 20, apart_by_capitals),
+    sort("line behind first", 50, |s| s.behind("line", "first")),
+    sort("line behind a thread", 50, |s| s.behind("line", "thread")),
+    sort("line behind the run", 50, |s| s.behind("line", "run")),
+    sort("line lines not by number", 50, |s| falls(s, "line")),
+    sort("names not by number in a line", 50, line_falls),
+    sort("one line alone is said", 50, |s| {
+        s.case.lines > 1 && s.places("line").len() == 1
+    }),
+    sort("a line of its own is not said", 50, |s| {
+        let said = s.places("line").len();
+        said > 0 && said < usize::from(s.case.lines)
+    }),
+    sort("persist names the first of a line", 50, |s| {
+        persists(s, |at, first| at == first)
+    }),
+    sort("persist names a later one of it", 50, |s| {
+        persists(s, |at, first| at != first)
+    }),
     sort("first behind a thread", 100, |s| {
         s.behind("first", "thread")
     }),
@@ -153,15 +172,37 @@ fn passed_before_thread(s: &Sight) -> bool {
     })
 }
 
+/// The number of the location with that name.
+fn number_of(s: &Sight, name: &str) -> Option<usize> {
+    s.names().iter().position(|other| *other == name)
+}
+
 /// Two lines of the sort where the later one has the location with the lower number.
 fn falls(s: &Sight, key: &str) -> bool {
-    let place_of = |name: &str| s.names().iter().position(|other| *other == name);
     let lines = s.places(key);
     let at: Vec<Option<usize>> = lines
         .iter()
-        .map(|&line| place_of(s.statements[line][1]))
+        .map(|&line| number_of(s, s.statements[line][1]))
         .collect();
     at.windows(2).any(|pair| pair[0] > pair[1])
+}
+
+/// A line whose names stand in another order than those of the locations.
+fn line_falls(s: &Sight) -> bool {
+    s.places("line").iter().any(|&place| {
+        let names = s.statements[place][1..].iter();
+        let at: Vec<Option<usize>> = names.map(|name| number_of(s, name)).collect();
+        at.windows(2).any(|pair| pair[0] > pair[1])
+    })
+}
+
+/// A persist names such a location of a line that has several, told beside the line's first.
+fn persists(s: &Sight, such: fn(u8, u8) -> bool) -> bool {
+    s.places("persist").iter().any(|&place| {
+        let at = number_of(s, s.statements[place][1]).map_or(0, |at| at as u8);
+        let line = on_line(&s.case, s.case.line_of(at));
+        line.len() > 1 && such(at, line[0])
+    })
 }
 
 fn said(s: &Sight, such: fn(&str) -> bool) -> bool {
@@ -174,7 +215,16 @@ fn blank(said: &str) -> bool {
 
 /// A line that says nothing, with an instruction or a step behind it.
 fn inside_a_list(s: &Sight) -> bool {
-    let outside = ["locations", "first", "thread", "want", "passed", "run", ""];
+    let outside = [
+        "locations",
+        "line",
+        "first",
+        "thread",
+        "want",
+        "passed",
+        "run",
+        "",
+    ];
     s.lines.windows(2).any(|pair| {
         let next = pair[1].said.split_whitespace().next().unwrap_or("");
         pair[0].said.trim().is_empty() && !outside.contains(&next)

@@ -9,8 +9,9 @@ pub const REGISTERS: [&str; 4] = ["r0", "r1", "r2", "r3"];
 pub const MOST_CHARACTERS: usize = 24;
 
 /// The words that statements begin with.
-pub const KEYS: [&str; 16] = [
+pub const KEYS: [&str; 17] = [
     "locations",
+    "line",
     "first",
     "thread",
     "store",

@@ -5,10 +5,15 @@ use super::statements::*;
 use crate::judge::case::Case;
 
 pub fn text(case: &Case) -> String {
-    let mut groups = vec![flat(&[locations(case)]), flat(&firsts(case))];
+    let mut groups = vec![
+        flat(&[locations(case)]),
+        flat(&lines(case)),
+        flat(&firsts(case)),
+    ];
     groups.extend(threads(case).iter().map(|lines| list(lines)));
     groups.push(flat(&wants(case)) + &flat(&passed(case)));
-    let behind: Vec<Line> = steps(case).iter().map(in_words).collect();
+    let all = steps(case).iter();
+    let behind: Vec<Line> = all.map(|step| in_words(case, step, 0)).collect();
     if !behind.is_empty() {
         groups.push(list(&[vec![run()], behind].concat()));
     }

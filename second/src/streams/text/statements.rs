@@ -1,8 +1,9 @@
 //! What a text says: the statements of a case as lines of words, before it is said how a word is
 //! written and in which order the lines stand.
 
-use crate::judge::case::{Case, Instruction, Step};
+use crate::judge::case::{Case, Instruction, Step, TOLD_LINES};
 use crate::judge::machine::rules::{ISSUE, MOVE};
+use crate::streams::layouts::on_line;
 
 #[derive(Clone, Debug)]
 pub enum Word {
@@ -12,7 +13,7 @@ pub enum Word {
     Register(u8),
     /// Decimal or hexadecimal.
     Number(u32),
-    /// A thread, position, count or location number.
+    /// A thread, position, count or line number.
     Digits(u8),
     /// One word of several parts.
     Joined(Vec<Word>),
@@ -25,6 +26,20 @@ pub type Line = Vec<Word>;
 pub fn locations(case: &Case) -> Line {
     let names = (0..case.locations).map(Location);
     [Key("locations")].into_iter().chain(names).collect()
+}
+
+/// Every line with its locations; none in version 1.
+pub fn lines(case: &Case) -> Vec<Line> {
+    let told = if case.version == TOLD_LINES {
+        case.lines
+    } else {
+        0
+    };
+    let line = |line: u8| {
+        let names = on_line(case, line.into()).into_iter().map(Location);
+        [Key("line")].into_iter().chain(names).collect()
+    };
+    (0..told).map(line).collect()
 }
 
 pub fn firsts(case: &Case) -> Vec<Line> {
@@ -84,11 +99,15 @@ pub fn steps(case: &Case) -> &[Step] {
     &case.steps[..usize::from(case.count)]
 }
 
-pub fn in_words(step: &Step) -> Line {
+/// A persist names its line by the given one of the line's locations, counted from 0.
+pub fn in_words(case: &Case, step: &Step, by: usize) -> Line {
     match step.code {
         ISSUE => vec![Key("issue"), Digits(step.thread)],
         MOVE => vec![Key("move"), Digits(step.thread), Digits(step.position)],
-        _ => vec![Key("persist"), Location(step.location)],
+        _ => {
+            let names = on_line(case, step.line.into());
+            vec![Key("persist"), Location(names[by % names.len()])]
+        }
     }
 }
 
@@ -97,7 +116,7 @@ pub fn in_letters(step: &Step) -> Line {
     let parts = match step.code {
         ISSUE => vec![Key("I"), thread],
         MOVE => vec![Key("M"), thread, Key("."), position],
-        _ => vec![Key("P"), Digits(step.location)],
+        _ => vec![Key("P"), Digits(step.line)],
     };
     vec![Joined(parts)]
 }

@@ -7,6 +7,7 @@ use super::sums::SUMS;
 use crate::judge::reading::read;
 use crate::judge::whole::program::Program;
 use crate::judge::writing::encode;
+use crate::streams::layouts::LayoutCounts;
 use crate::streams::machine::answer::answer;
 use crate::streams::machine::frame::{Job, Trial};
 use crate::streams::tally::{row, Counts, Row};
@@ -78,6 +79,10 @@ impl Counts<Trial> for WholeCounts {
             let all = self.programs.values().map(sum.told);
             rows.push(row(sum.name, all.sum::<u128>(), sum.least));
         }
+        let mut layouts = LayoutCounts::default();
+        let programs = self.programs.values();
+        programs.for_each(|known| layouts.take(&known.program.case));
+        rows.extend(layouts.rows(15, 2..=3));
         let most = self.greatest(|known| known.found.states);
         rows.push(row("most states of a program", most, 5000));
         let longest = self.greatest(|known| known.program.full.into());

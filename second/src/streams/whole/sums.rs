@@ -4,7 +4,7 @@ use super::ledger::Known;
 use crate::judge::whole::program::code;
 use crate::streams::tally::{sort as sum, Sort as Sum};
 
-pub const SUMS: [Sum<fn(&Known) -> u128>; 35] = [
+pub const SUMS: [Sum<fn(&Known) -> u128>; 37] = [
     sum("different programs", 300, |_| 1),
     sum("threads 1, locations 3", 50, |k| sized(k, 1, 3)),
     sum("threads 2, locations 2", 50, |k| sized(k, 2, 2)),
@@ -33,6 +33,12 @@ pub const SUMS: [Sum<fn(&Known) -> u128>; 35] = [
         k.found.finished_runs
     }),
     sum("all runs", 10_000_000, |k| k.found.runs),
+    sum("states, two locations in a queue", 1000, |k| {
+        k.found.shared.into()
+    }),
+    sum("programs with such a state", 50, |k| {
+        u128::from(k.found.shared > 0)
+    }),
     sum("locations of 0 writers", 150, |k| written_by(k, 0)),
     sum("locations of 1 writer", 200, |k| written_by(k, 1)),
     sum("locations of 2 writers", 60, |k| written_by(k, 2)),

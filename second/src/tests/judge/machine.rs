@@ -116,7 +116,7 @@ fn loads_look_into_the_buffer_then_the_queue_then_the_word() {
     assert_eq!(verdict.state.registers[1], [70, 2, 9, 0]);
     assert_eq!(verdict.state.registers[0], [0, 0, 0, 2]);
     assert_eq!(verdict.state.words[..2], [1, 80]);
-    let held = [Held::write(2), Held::marker(0)];
+    let held = [Held::write(X, 2), Held::marker(0)];
     assert_eq!(verdict.state.queues[0].used(), held);
 }
 
@@ -128,9 +128,9 @@ fn exchanges_and_stores_of_registers() {
     let verdict = run(&case, &[issue(0), issue(0), issue(0), shift(0, 0)]);
     assert_eq!(verdict.state.registers[0], [0, 0, 4, 5]);
     assert_eq!(verdict.state.words[0], 4);
-    let written = [Held::write(5), Held::write(6)];
+    let written = [Held::write(X, 5), Held::write(X, 6)];
     assert_eq!(verdict.state.queues[0].used(), written);
-    assert_eq!(verdict.state.queues[1].used(), [Held::write(5)]);
+    assert_eq!(verdict.state.queues[1].used(), [Held::write(Y, 5)]);
 }
 
 #[test]

@@ -1,5 +1,6 @@
 //! Tests of the judge.
 
+mod lines;
 mod machine;
 mod question;
 mod reading;

@@ -6,8 +6,9 @@ use crate::judge::machine::judge::{single_step, LEGAL};
 use crate::judge::machine::state::{Entry, Held, State};
 use crate::judge::machine::steps::{issue, persist, shift};
 use crate::judge::machine::work::work_left;
+use crate::streams::layouts::Layout;
 use crate::streams::machine::raw::{decode, STATE_BYTES};
-use crate::tests::by_hand::{program, store, Y};
+use crate::tests::by_hand::{laid_out, program, store, Y};
 
 /// A store, one thread, two locations.
 fn small() -> Case {
@@ -50,23 +51,23 @@ fn steps_keep_what_they_do_not_change() {
     next.buffers[0].count = 0;
     next.buffers[0].places[0] = Entry::default();
     next.queues[1].count = 1;
-    next.queues[1].places[0] = Held::write(7);
+    next.queues[1].places[0] = Held::write(Y, 7);
     step(&state, shift(0, 0), &next);
     state = next.clone();
     next.queues[1].count = 0;
-    next.queues[1].places[0] = Held::write(0);
+    next.queues[1].places[0] = Held::default();
     next.words[1] = 7;
     step(&state, persist(1), &next);
     // A marker's word is moved down with it.
     state.queues[1].count = 3;
-    state.queues[1].places[1] = Held { word: 5, mark: 1 };
+    state.queues[1].places[1] = Held { word: 5, mark: 128 };
     next = state.clone();
     next.words[1] = 7;
     next.queues[1].count = 2;
     next.queues[1].places[0] = state.queues[1].places[1];
-    next.queues[1].places[1] = Held::write(0);
-    next.queues[1].places[2] = Held::write(0);
-    state.queues[1].places[2] = Held::write(0);
+    next.queues[1].places[1] = Held::write(Y, 9);
+    next.queues[1].places[2] = Held::default();
+    state.queues[1].places[2] = Held::write(Y, 9);
     step(&state, persist(1), &next);
 }
 
@@ -82,6 +83,12 @@ fn after(change: fn(&mut State)) -> bool {
     fitting
 }
 
+/// So many writes of y, at most as many as there is room for.
+fn fill(state: &mut State, count: u8) {
+    state.queues[1].places.fill(Held::write(Y, 0));
+    state.queues[1].count = count;
+}
+
 #[test]
 fn each_clause_at_its_limit_and_above() {
     assert!(after(|_| {}));
@@ -89,8 +96,8 @@ fn each_clause_at_its_limit_and_above() {
     assert!(!after(|state| state.buffers[0].count = 8));
     assert!(!after(|state| state.buffers[0].count = 255));
     assert!(!after(|state| state.buffers[1].count = 1));
-    assert!(after(|state| state.queues[1].count = 31));
-    assert!(!after(|state| state.queues[1].count = 32));
+    assert!(after(|state| fill(state, 31)));
+    assert!(!after(|state| fill(state, 32)));
     assert!(!after(|state| state.queues[1].count = 255));
     assert!(!after(|state| state.queues[2].count = 1));
     assert!(after(|state| state.issued[0] = 1));
@@ -105,10 +112,32 @@ fn each_clause_at_its_limit_and_above() {
     // Each queue alone; words and registers that the program lacks are not looked at.
     assert!(after(|state| {
         state.queues[0].count = 31;
-        state.queues[1].count = 31;
+        fill(state, 31);
         state.words[5] = 1;
         state.registers[3][3] = 1;
     }));
+}
+
+/// Whether the state fits that holds such a mark in the queue of that line; two threads, x and z on line
+/// 0 and y on line 1.
+fn held(line: usize, mark: u8) -> bool {
+    let case = laid_out(&Layout::told(&[0, 1, 0]), &[&[], &[]]);
+    let mut state = State::start(&case);
+    state.queues[line].push(Held { word: 7, mark });
+    let number = single_step(&case, state.clone(), &persist(1)).number;
+    assert_eq!(fits(&case, &state), number != 33);
+    number != 33
+}
+
+#[test]
+fn marks_that_fit_their_queue() {
+    let fitting = |line| (0..=255).filter(move |&mark| held(line, mark));
+    assert_eq!(fitting(0).collect::<Vec<u8>>(), [0, 2, 128, 129]);
+    assert_eq!(fitting(1).collect::<Vec<u8>>(), [1, 128, 129]);
+    // There is a location 2, and no line 2.
+    for line in 2..8 {
+        assert_eq!(fitting(line).count(), 0);
+    }
 }
 
 #[test]

@@ -109,9 +109,9 @@ fn judged(case: &Case, run: &[Step], runs: &mut Vec<(Vec<Step>, State)>) {
             code: (fields / 256) as u8,
             thread: (fields / 64 % 4) as u8,
             position: (fields / 8 % 8) as u8,
-            location: (fields % 8) as u8,
+            line: (fields % 8) as u8,
         };
-        if check_step(case.threads, case.locations, &step).is_ok() {
+        if check_step(case.threads, case.lines, &step).is_ok() {
             judged(case, &[run, &[step]].concat(), runs);
         }
     }

@@ -4,6 +4,7 @@ use crate::judge::case::{Case, Instruction};
 use crate::judge::machine::steps::{issue, persist, shift};
 use crate::judge::reading::read;
 use crate::streams::cases::generate::valid::ROW;
+use crate::streams::layouts::Layout;
 use crate::streams::machine::frame::Job;
 use crate::streams::random::Random;
 use crate::streams::tally::Counts;
@@ -12,7 +13,7 @@ use crate::streams::text::counts::TextCounts;
 use crate::streams::text::files;
 use crate::streams::text::written::Written;
 use crate::tests::by_hand::{
-    exchange, flush, flush_opt, load, program, store, MFENCE, SFENCE, X, Y,
+    exchange, flush, flush_opt, laid_out, load, store, MFENCE, SFENCE, X, Y,
 };
 use std::collections::BTreeMap;
 use std::fs;
@@ -77,8 +78,7 @@ fn everything() -> Case {
         SFENCE,
         MFENCE,
     ];
-    let mut case = program(&[&first, &[], &[store(7, 9)]]);
-    case.locations = 8;
+    let mut case = laid_out(&Layout::own(8), &[&first, &[], &[store(7, 9)]]);
     (case.first[1], case.first[7]) = (u32::MAX, 7);
     (case.wanted[0], case.wanted[7], case.want[7]) = (true, true, 12);
     (case.passed[0], case.passed[2]) = (8, 1);
@@ -120,25 +120,45 @@ fn a_seed_gives_the_same_cases() {
     assert_eq!(fewer[..], all[..fewer.len()]);
 }
 
-/// A statement in one way of writing it: steps in words, locations by number, decimal numbers.
-fn told_one_way(names: &[&str], words: &[&str]) -> String {
+/// The line of each location, as the text has it: two are on one if some statement names both. Each
+/// line is known by its first location.
+fn lines_said(names: &[&str], statements: &[Vec<&str>]) -> Vec<usize> {
+    let together = |one: &&str, other: &&str| {
+        let mut lines = statements.iter().filter(|words| words[0] == "line");
+        one == other || lines.any(|words| words[1..].contains(one) && words[1..].contains(other))
+    };
+    let first = |name: &&str| names.iter().position(|other| together(name, other));
+    names.iter().filter_map(|name| first(name)).collect()
+}
+
+/// A statement in one way of writing it: steps in words, locations and lines by the number of the first
+/// location, decimal numbers.
+fn told_one_way(names: &[&str], lines: &[usize], words: &[&str]) -> String {
+    let mut firsts = lines.to_vec();
+    firsts.sort_unstable();
+    firsts.dedup();
     let letters = words[0].split_at(1);
     let numbers = letters.1.replace('.', " ");
     let numbers: Vec<&str> = numbers.split(' ').collect();
+    let number_of = |name: &str| names.iter().position(|other| *other == name);
     let words = match letters.0 {
         "I" => [&["issue"], &numbers[..]].concat(),
         "M" => [&["move"], &numbers[..]].concat(),
-        "P" => vec!["persist", names[decimal(letters.1) as usize]],
+        "P" => vec!["persist", names[firsts[decimal(letters.1) as usize]]],
+        _ if words[0] == "persist" => {
+            let first = number_of(words[1]).map(|at| lines[at]);
+            vec!["persist", first.map_or("", |first| names[first])]
+        }
         _ => words.to_vec(),
     };
-    let behind = words[1..].iter().enumerate().map(|(place, word)| {
-        let at = names.iter().position(|name| name == word);
-        match at {
+    let behind = words[1..]
+        .iter()
+        .enumerate()
+        .map(|(place, word)| match number_of(word) {
             Some(at) if place == 0 => format!("at {at}"),
             _ if word.starts_with('r') => word.to_string(),
             _ => decimal(word).to_string(),
-        }
-    });
+        });
     [words[0].to_string()]
         .into_iter()
         .chain(behind)
@@ -161,12 +181,16 @@ fn says(text: &str) -> BTreeMap<String, Vec<String>> {
         .lines()
         .map(|line| line.split('#').next().unwrap_or(""));
     let lines = said.map(|said| said.split_whitespace().collect::<Vec<&str>>());
-    let mut lines = lines.filter(|words| !words.is_empty());
-    let names = lines.next().unwrap_or_default();
-    let mut said = BTreeMap::from([(format!("{} locations", names.len() - 1), Vec::new())]);
+    let mut statements: Vec<Vec<&str>> = lines.filter(|words| !words.is_empty()).collect();
+    let names = statements.remove(0).split_off(1);
+    let lines = lines_said(&names, &statements);
+    let all = statements.len();
+    statements.retain(|words| words[0] != "line");
+    let version = if statements.len() < all { 2 } else { 1 };
+    let mut said = BTreeMap::from([(format!("version {version} {lines:?}"), Vec::new())]);
     let mut head = String::new();
-    for words in lines {
-        let line = told_one_way(&names[1..], &words);
+    for words in statements {
+        let line = told_one_way(&names, &lines, &words);
         if heads.contains(&words[0]) {
             head = line;
             assert_eq!(said.insert(head.clone(), Vec::new()), None);
@@ -218,6 +242,7 @@ fn what_the_one_text_counts_for() {
             "no run",
             "an empty line",
             "line ends: LF alone",
+            "version 1",
             "all frames",
         ]
     );
@@ -228,7 +253,7 @@ const FREE: &str = "#store x 1\u{1}\r\nlocations\tP1  p1\n \nwant p1 0x1 \r\npas
                     run\nwant P1 0x0\nthread 0\n#\nstore P1 0x01F4\nstore p1 01";
 
 /// What it counts for behind the sorts of its case.
-const TAKEN: [&str; 30] = [
+const TAKEN: [&str; 31] = [
     "name: like a step",
     "names: apart by capitals alone",
     "want before a thread",
@@ -258,6 +283,7 @@ const TAKEN: [&str; 30] = [
     "hexadecimal, zeros before",
     "a decimal number, zeros before",
     "a passed line, zeros before",
+    "version 1",
     "all frames",
 ];
 
@@ -269,6 +295,73 @@ fn freedoms_are_told() {
     let at = told.iter().position(|name| name == "no run").unwrap_or(0);
     assert_eq!(told[at + 1..], TAKEN);
     assert_eq!(says(FREE), says(&written(&case).plain));
+}
+
+/// x and z on one line, y and w alone: each line is told, and named by its first location.
+const LINED: &str = "\
+locations x y z w
+
+line x z
+line y
+line w
+
+thread 0
+  store z 1
+
+run
+  persist x
+  persist y
+  persist w
+";
+
+fn lined() -> Case {
+    let mut case = laid_out(&Layout::told(&[0, 1, 0, 2]), &[&[store(2, 1)]]);
+    case.set_run(&[persist(0), persist(1), persist(2)]);
+    case
+}
+
+/// The same; a line of its own goes without being said, but one line is said in any case.
+const LINED_FREELY: &str = "locations a b c d\nrun\nP0\npersist b\nthread 0\nstore c 1\nline c a\n";
+
+#[test]
+fn lines_are_told() {
+    assert_eq!(written(&lined()).plain, LINED);
+    let own = laid_out(&Layout::told(&[0, 1]), &[&[]]);
+    let text = "locations x y\n\nline x\nline y\n\nthread 0\n";
+    assert_eq!(written(&own).plain, text);
+    assert_ne!(says(text), says("locations x y\nthread 0\n"));
+    let in_one = "locations x y\nline y x\nthread 0\n";
+    assert_ne!(says(text), says(in_one));
+    assert_eq!(says("locations a b\nthread 0\nline b\n"), says(text));
+    let mut case = lined();
+    case.set_run(&[persist(0), persist(1)]);
+    assert_eq!(says(LINED_FREELY), says(&written(&case).plain));
+    let beside = LINED_FREELY.replace("P0", "persist c");
+    assert_eq!(says(&beside), says(LINED_FREELY));
+    assert_ne!(
+        says(&beside.replace("persist b", "persist d")),
+        says(&beside)
+    );
+    let of = |text: &str| {
+        let mut all = told(&case, text);
+        all.retain(|name| name.contains("line") || name.contains("version"));
+        all.retain(|name| name != "line ends: LF alone");
+        all
+    };
+    let shared = ["version 2, shared and own", "version 2, a line comes again"];
+    let sizes = ["version 2, locations: 4", "version 2, lines: 3"];
+    let free = [
+        "line behind a thread",
+        "line behind the run",
+        "names not by number in a line",
+        "one line alone is said",
+        "a line of its own is not said",
+    ];
+    assert_eq!(of(LINED_FREELY), [&free[..], &shared, &sizes].concat());
+    let first = ["persist names the first of a line", "an empty line"];
+    assert_eq!(of(LINED), [&first[..], &shared, &sizes].concat());
+    let later = "persist names a later one of it".to_string();
+    assert!(told(&case, &beside).contains(&later) && !told(&case, LINED).contains(&later));
 }
 
 #[test]

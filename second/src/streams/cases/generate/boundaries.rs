@@ -4,6 +4,7 @@ use super::records::*;
 use super::sketch::Sketch;
 use crate::streams::cases::frame::Frame;
 use crate::streams::cases::marks::marked;
+use crate::streams::layouts::Layout;
 use crate::streams::random::Random;
 
 /// The last record decides: its number is 0 or what it must be refused with.
@@ -14,17 +15,22 @@ struct Edge {
 
 pub fn all(random: &mut Random) -> Vec<Frame> {
     let mut edges = programs();
+    edges.extend(lengths());
+    edges.extend(lines());
     for (threads, locations) in [(1, 1), (1, 8), (4, 1), (4, 8), (2, 3), (3, 5)] {
-        let mut records = words(locations);
-        records.extend(operations(threads, locations));
-        records.extend(steps(threads, locations));
-        for (record, number) in records {
-            edges.push(Edge {
-                records: vec![program(threads, locations), record],
-                number,
-            });
-        }
+        edges.extend(behind_program(threads, &Layout::own(locations)));
         edges.extend(passed(random, threads, locations));
+    }
+    let all = (0..8).collect::<Vec<u8>>();
+    for line in [
+        &[0][..],
+        &[0; 8],
+        &all,
+        &[0, 0],
+        &[0, 1, 0],
+        &[0, 0, 1, 1, 2],
+    ] {
+        edges.extend(behind_program(2, &Layout::told(line)));
     }
     for _ in 0..8 {
         edges.extend(limits(random));
@@ -52,13 +58,32 @@ fn or(good: bool, number: u8) -> u8 {
     }
 }
 
+/// A record of each kind behind a program record, each field at its ends.
+fn behind_program(threads: u8, layout: &Layout) -> Vec<Edge> {
+    let locations = layout.locations();
+    let mut records = words(locations);
+    records.extend(operations(threads, locations));
+    records.extend(steps(threads, layout.lines()));
+    let behind = records.into_iter().map(|(record, number)| Edge {
+        records: vec![program(threads, layout), record],
+        number,
+    });
+    behind.collect()
+}
+
+/// A program record alone.
+fn alone(payload: &[u8], number: u8) -> Edge {
+    Edge {
+        records: vec![Record::new(1, payload)],
+        number,
+    }
+}
+
+/// Ranges, with the length that the version has, or with the least one.
 fn programs() -> Vec<Edge> {
     let mut edges = Vec::new();
     let mut try_payload = |payload: [u8; 4], good: bool| {
-        edges.push(Edge {
-            records: vec![Record::new(1, &payload)],
-            number: or(good, 5),
-        });
+        edges.push(alone(&payload, or(good, 5)));
     };
     for threads in [0, 1, 2, 3, 4, 5, 255] {
         for locations in [0, 1, 7, 8, 9, 255] {
@@ -66,15 +91,76 @@ fn programs() -> Vec<Edge> {
             try_payload([1, 0, threads, locations], good);
         }
     }
-    for version in [0u16, 1, 2, 255, 256, 257, 65535] {
+    for version in [0u16, 1, 3, 255, 256, 257, 258, 512, 65535] {
         let [low, high] = version.to_le_bytes();
         try_payload([low, high, 4, 8], version == 1);
         try_payload([low, high, 1, 1], version == 1);
     }
+    for threads in [0, 1, 4, 5, 255] {
+        let number = or((1..=4).contains(&threads), 5);
+        edges.push(alone(&[2, 0, threads, 2, 0, 0], number));
+    }
+    for locations in [0, 1, 8, 9, 255] {
+        let lines = vec![0; usize::from(locations).min(8)];
+        let payload = [&[2, 0, 1, locations], &lines[..]].concat();
+        edges.push(alone(&payload, or((1..=8).contains(&locations), 5)));
+    }
+    for version in [0u16, 2, 3, 256, 257, 258, 512, 514, 65535] {
+        let payload = [&version.to_le_bytes()[..], &[1, 3, 0, 1, 0]].concat();
+        edges.push(alone(&payload, or(version == 2, 5)));
+    }
     edges
 }
 
-/// Threads or locations at the end of the program and beyond it.
+/// Every length from 3 to 13 of both versions, with each number of locations and lines in order.
+fn lengths() -> Vec<Edge> {
+    let mut edges = Vec::new();
+    for (version, locations) in [1, 2]
+        .into_iter()
+        .flat_map(|one| (1..=8).map(move |n| (one, n)))
+    {
+        let right = if version == 2 {
+            4 + usize::from(locations)
+        } else {
+            4
+        };
+        for length in 3..=13 {
+            let mut payload = vec![version, 0, 1, locations];
+            payload.resize(length, 0);
+            edges.push(alone(&payload, or(length == right, 3)));
+        }
+    }
+    edges
+}
+
+/// Each line byte at its last good value and beyond it, behind lines that are seen or all new.
+fn lines() -> Vec<Edge> {
+    let mut edges = Vec::new();
+    for (at, seen) in (0..8u8).flat_map(|at| [(at, at), (at, at.min(1)), (at, at.min(2))]) {
+        let before = (0..at).map(|one| one.min(seen.saturating_sub(1)));
+        let before: Vec<u8> = before.collect();
+        for next in [
+            0,
+            seen.saturating_sub(1),
+            seen,
+            seen + 1,
+            127,
+            128,
+            254,
+            255,
+        ] {
+            let mut payload = [&[2, 0, 1, 8][..], &before, &[next]].concat();
+            payload.resize(12, 0);
+            edges.push(alone(&payload, or(next <= seen, 8)));
+        }
+    }
+    edges.push(alone(&[2, 0, 1, 2, 0, 2], 8));
+    edges.push(alone(&[2, 0, 1, 2, 1, 0], 8));
+    edges.push(alone(&[2, 0, 1, 2, 0, 0, 0], 3));
+    edges
+}
+
+/// Threads, locations or lines at the end of the program and beyond it.
 fn ends(size: u8) -> [(u8, bool); 4] {
     [(0, true), (size - 1, true), (size, false), (255, false)]
 }
@@ -126,7 +212,7 @@ fn field_number(used: bool, value: u8, good: bool) -> u8 {
     }
 }
 
-fn steps(threads: u8, locations: u8) -> Vec<(Record, u8)> {
+fn steps(threads: u8, lines: u8) -> Vec<(Record, u8)> {
     let mut tried = Vec::new();
     for code in [3, 4, 255] {
         tried.push((Record::new(6, &[0, code, 0, 0]), 5));
@@ -140,9 +226,9 @@ fn steps(threads: u8, locations: u8) -> Vec<(Record, u8)> {
             let number = field_number(uses[1], position, good);
             tried.push((Record::new(6, &[0, code, position, 0]), number));
         }
-        for (location, good) in ends(locations) {
-            let number = field_number(uses[2], location, good);
-            tried.push((Record::new(6, &[0, code, 0, location]), number));
+        for (line, good) in ends(lines) {
+            let number = field_number(uses[2], line, good);
+            tried.push((Record::new(6, &[0, code, 0, line]), number));
         }
     }
     tried
@@ -154,7 +240,7 @@ fn passed(random: &mut Random, threads: u8, locations: u8) -> Vec<Edge> {
     for count in [0u8, 1, 5, 8] {
         for (thread, there) in ends(threads) {
             for least in [0, 1, count, count + 1, 9, 255] {
-                let mut records = vec![program(threads, locations)];
+                let mut records = vec![program(threads, &Layout::own(locations))];
                 let issuer = if there { thread } else { 0 };
                 for _ in 0..count {
                     records.push(random_instruction(random, issuer, locations));
@@ -177,7 +263,7 @@ fn limits(random: &mut Random) -> Vec<Edge> {
     let mut edges = Vec::new();
     let locations = random.between(1, 8);
     for thread in 0..4 {
-        let mut records = vec![program(4, locations)];
+        let mut records = vec![program(4, &Layout::draw(random, locations))];
         for _ in 0..8 {
             records.push(random_instruction(random, thread, locations));
         }
@@ -188,12 +274,13 @@ fn limits(random: &mut Random) -> Vec<Edge> {
         records.push(random_instruction(random, thread, locations));
         edges.push(Edge { records, number: 7 });
     }
-    let mut records = Sketch::longest(random).records();
+    let longest = Sketch::longest(random);
+    let mut records = longest.records();
     edges.push(Edge {
         records: records.clone(),
         number: 0,
     });
-    records.push(random_step(random, 4, 8));
+    records.push(longest.record(random, 6));
     edges.push(Edge { records, number: 9 });
     edges
 }

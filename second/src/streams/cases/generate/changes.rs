@@ -1,12 +1,18 @@
 //! Single fields of a case changed in memory between reading and writing.
 
-use super::sketch::{Fill, Sketch};
+use super::records::program;
+use super::sketch::{any_layout, Fill, Sketch};
 use super::valid::ROW;
 use crate::judge::form::fits;
 use crate::judge::reading::read;
 use crate::streams::cases::answer::answer;
 use crate::streams::cases::frame::{slot, Frame, FIELDS_END};
+use crate::streams::layouts::Layout;
 use crate::streams::random::Random;
+
+const ALL: (u32, u32) = (1, FIELDS_END);
+/// The fields of version and lines.
+const LINES: (u32, u32) = (548, FIELDS_END);
 
 /// Every field, each with telling values.
 pub fn all(random: &mut Random) -> Vec<Frame> {
@@ -32,8 +38,8 @@ pub fn some(random: &mut Random) -> Vec<Frame> {
         .map(|_| {
             let file = base(random);
             // The many steps must not crowd out the other fields.
-            let end = random.pick(&[15, 164, 200, FIELDS_END as usize]);
-            let field = 1 + random.below(end - 1) as u32;
+            let (first, end) = random.pick(&[(1, 15), (1, 164), (1, 200), ALL, LINES]);
+            let field = first + random.below((end - first) as usize) as u32;
             let turn = random.below(8);
             let value = value(random, &file, field, turn);
             frame(random, file, field, value)
@@ -44,9 +50,16 @@ pub fn some(random: &mut Random) -> Vec<Frame> {
 /// Changes that leave a readable case, and another one; the filter only chooses what to ask.
 pub fn readable(random: &mut Random) -> Vec<Frame> {
     let mut frames = Vec::new();
-    while frames.len() < 400 {
+    while frames.len() < 600 {
         let file = base(random);
-        let (first, end) = random.pick(&[(1, 15), (15, 143), (143, 163), (163, FIELDS_END)]);
+        let (first, end) = random.pick(&[
+            (1, 15),
+            (15, 143),
+            (143, 163),
+            (163, 548),
+            LINES,
+            (550, 558),
+        ]);
         let field = first + random.below((end - first) as usize) as u32;
         let turn = 1 + random.below(7);
         let value = value(random, &file, field, turn);
@@ -59,15 +72,31 @@ pub fn readable(random: &mut Random) -> Vec<Frame> {
     frames
 }
 
-/// Counts at their ends, junk behind them, wants with and without flag.
+/// The version changed from 1 to 2 or back: readable where each location has a line of its own.
+pub fn versions(random: &mut Random) -> Vec<Frame> {
+    let change = |_| {
+        let own = Layout::told(&[0, 1, 2]);
+        let file = match random.below(3) {
+            0 => program(2, &own).bytes(),
+            _ => base(random),
+        };
+        let version = read(&file).case.version;
+        frame(random, file, LINES.0, u32::from(3 - version))
+    };
+    (0..150).map(change).collect()
+}
+
+/// Counts at their ends, junk behind them, wants with and without flag, versions and lines.
 pub fn telling(random: &mut Random) -> Vec<Frame> {
     let mut frames = Vec::new();
     let mut try_all = |field: u32, values: &[u32]| {
         for &value in values {
+            let own_lines = Layout::told(&[0, 1]);
             for file in [
                 ROW.to_vec(),
                 base(random),
                 Sketch::any(random).bytes(),
+                program(1, &own_lines).bytes(),
                 Vec::new(),
             ] {
                 frames.push(frame(random, file, field, value));
@@ -80,11 +109,17 @@ pub fn telling(random: &mut Random) -> Vec<Frame> {
         try_all(11 + thread, &[0, 1, 2, 7, 8, 9, 255, 256, 258]);
         try_all(159 + thread, &[0, 1, 2, 3, 8, 9, 255, 256, 257]);
     }
+    try_all(
+        548,
+        &[0, 1, 2, 3, 255, 256, 257, 258, 65535, 65536, 65537, 65538],
+    );
+    try_all(549, &[0, 1, 2, 3, 7, 8, 9, 255, 256, 257, 258, 264]);
     try_all(163, &[0, 1, 2, 95, 96, 97, 255, 256, 65535, 65536, 65632]);
     for location in 0..8 {
         try_all(3 + location, &[0, 1, 256, 65536, 1 << 31]);
         try_all(143 + location, &[0, 1, 2, 256, 65536, 1 << 31]);
         try_all(151 + location, &[0, 1, 256, 65536, 1 << 31]);
+        try_all(550 + location, &[0, 1, 2, 7, 8, 255, 256, 257]);
     }
     frames
 }
@@ -103,8 +138,8 @@ fn base(random: &mut Random) -> Vec<u8> {
                 steps: (0, 40),
                 eighths: 4,
             };
-            let (threads, locations) = (random.between(3, 4), random.between(4, 8));
-            Sketch::new(random, threads, locations, &fill).bytes()
+            let (threads, layout) = (random.between(3, 4), any_layout(random, 4));
+            Sketch::new(random, threads, layout, &fill).bytes()
         }
     }
 }

@@ -5,10 +5,14 @@ use super::sketch::Sketch;
 use super::valid::ROW;
 use crate::streams::cases::frame::Frame;
 use crate::streams::cases::marks::marked;
+use crate::streams::layouts::Layout;
 use crate::streams::random::Random;
 
+/// No file is longer.
+pub const LONGEST: usize = 1336;
+
 fn plain(random: &mut Random, input: Vec<u8>) -> Frame {
-    let length = input.len().min(1328) as u32;
+    let length = input.len().min(LONGEST) as u32;
     Frame {
         room: random.pick(&[0, 7, 8, 16, 16, length, length + 8]),
         input,
@@ -17,13 +21,14 @@ fn plain(random: &mut Random, input: Vec<u8>) -> Frame {
     }
 }
 
-/// Every length of several files, the longest among them.
+/// Every length of several files, the longest of both versions among them.
 pub fn truncated(random: &mut Random) -> Vec<Frame> {
     let files = [
         ROW.to_vec(),
         Sketch::lively(random).bytes(),
         Sketch::lively(random).bytes(),
-        Sketch::longest(random).bytes(),
+        longest(random, LONGEST - 8),
+        longest(random, LONGEST),
     ];
     let mut frames = Vec::new();
     for file in files {
@@ -34,13 +39,27 @@ pub fn truncated(random: &mut Random) -> Vec<Frame> {
     frames
 }
 
-/// Every bit of the row's file, every byte of others.
+/// A file of the greatest size that is as long.
+fn longest(random: &mut Random, length: usize) -> Vec<u8> {
+    loop {
+        let file = Sketch::longest(random).bytes();
+        if file.len() == length {
+            return file;
+        }
+    }
+}
+
+/// Every bit of the row's file and of headers with lines, every byte of others.
 pub fn flipped(random: &mut Random) -> Vec<Frame> {
     let mut frames = Vec::new();
-    for at in 0..ROW.len() * 8 {
-        let mut file = ROW.to_vec();
-        file[at / 8] ^= 1 << (at % 8);
-        frames.push(plain(random, file));
+    let layouts = [&[0, 1][..], &[0, 0, 1], &[0, 1, 0, 2, 1, 3, 3, 0]];
+    let headers = layouts.map(|line| program(2, &Layout::told(line)).bytes());
+    for file in [ROW.to_vec()].into_iter().chain(headers) {
+        for at in 0..file.len() * 8 {
+            let mut file = file.clone();
+            file[at / 8] ^= 1 << (at % 8);
+            frames.push(plain(random, file));
+        }
     }
     let files = [
         Sketch::lively(random).bytes(),
@@ -120,14 +139,14 @@ pub fn tailed(random: &mut Random) -> Vec<Frame> {
 /// 64 KiB each.
 pub fn large(random: &mut Random) -> Vec<Frame> {
     const SIZE: usize = 65536;
-    let longest = Sketch::longest(random).bytes();
+    let longest = longest(random, LONGEST);
     let steps: Vec<u8> = (0..8192)
-        .flat_map(|_| random_step(random, 4, 8).bytes())
+        .flat_map(|_| random_step(random, 4, 1).bytes())
         .collect();
     let starts = [
         Vec::new(),
         longest.clone(),
-        longest[..8].to_vec(),
+        longest[..16].to_vec(),
         Sketch::lively(random).bytes(),
     ];
     let mut inputs = Vec::new();
@@ -148,15 +167,15 @@ pub fn large(random: &mut Random) -> Vec<Frame> {
         .collect()
 }
 
-/// More than 1,340 bytes, the longest file in front, whole or damaged.
+/// More than the longest file and the longest record, the longest file in front, whole or damaged.
 pub fn long(random: &mut Random) -> Vec<Frame> {
     let mut frames = Vec::new();
     for _ in 0..40 {
         let mut file = Sketch::longest(random).bytes();
-        let length = 13 + random.below(300);
+        let length = 25 + random.below(300);
         file.extend_from_slice(&random.bytes(length));
         frames.push(plain(random, file.clone()));
-        let at = random.below(1328);
+        let at = random.below(LONGEST - 8);
         file[at] ^= 1 << random.below(8);
         frames.push(plain(random, file));
     }
@@ -205,7 +224,7 @@ fn behind(random: &mut Random, file: &[u8], length: usize) -> Frame {
     marked(name, number, file.len(), input, room)
 }
 
-/// A faulty record right behind 1,328 valid bytes: nothing more can be accepted there.
+/// A faulty record right behind the longest file of its version: nothing more can be accepted there.
 fn behind_longest(random: &mut Random) -> Frame {
     let sketch = Sketch::longest(random);
     let step = sketch.record(random, 6);
@@ -227,7 +246,14 @@ fn behind_longest(random: &mut Random) -> Frame {
         (9, step.bytes().repeat(1 + random.below(4))),
     ];
     let (number, ref tail) = choices[random.below(choices.len())];
-    let file = [sketch.bytes(), tail.clone()].concat();
+    let valid = sketch.bytes();
+    let file = [&valid[..], tail].concat();
     let room = random.pick(&[0, 8, 16]);
-    marked("fault behind 1,328 valid bytes", number, 1328, file, room)
+    marked(
+        "fault behind a longest file",
+        number,
+        valid.len(),
+        file,
+        room,
+    )
 }

@@ -1,5 +1,6 @@
 //! Frames with one fault or two in one record, marked with the answer they must get.
 
+use super::headers;
 use super::pairs::*;
 use super::records::{join, random_instruction};
 use super::sketch::Sketch;
@@ -52,10 +53,13 @@ pub fn all(random: &mut Random) -> Vec<Frame> {
     frames
 }
 
-/// A batch of single faults and pairs, each sort as often as any other.
+/// A batch of single faults and pairs, each sort as often as any other, and of headers.
 pub fn some(random: &mut Random) -> Vec<Frame> {
     (0..50)
-        .map(|_| {
+        .map(|turn| {
+            if turn % 4 == 0 {
+                return headers::one(random);
+            }
             let (name, maker, _) = random.pick(&MAKERS);
             frame(random, name, maker)
         })
@@ -64,6 +68,10 @@ pub fn some(random: &mut Random) -> Vec<Frame> {
 
 fn frame(random: &mut Random, name: &str, maker: Maker) -> Frame {
     let faulty = maker(random);
+    marked_faulty(random, name, faulty)
+}
+
+pub fn marked_faulty(random: &mut Random, name: &str, faulty: Faulty) -> Frame {
     let offset = faulty.before.len();
     let input = [faulty.before, faulty.record, faulty.after].concat();
     let room = random.pick(&[0, 7, 8, 9, 12, 64]);

@@ -4,6 +4,7 @@ mod boundaries;
 mod changes;
 mod damage;
 pub mod faults;
+mod headers;
 mod pairs;
 pub mod records;
 pub mod sketch;
@@ -15,7 +16,7 @@ use crate::streams::parts::{hand_out, Part, Take};
 use std::io;
 
 /// Made once, whatever the number of frames asked for.
-const ONCE: [Part<Frame>; 13] = [
+const ONCE: [Part<Frame>; 15] = [
     valid::all,
     damage::truncated,
     damage::flipped,
@@ -25,8 +26,10 @@ const ONCE: [Part<Frame>; 13] = [
     damage::long,
     damage::followed,
     faults::all,
+    headers::all,
     boundaries::all,
     changes::telling,
+    changes::versions,
     changes::all,
     changes::readable,
 ];

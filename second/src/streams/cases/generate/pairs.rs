@@ -39,11 +39,11 @@ pub fn wrong_length_cut(random: &mut Random) -> Faulty {
     let kind = any_kind(random);
     let before = valid_part(random, &sketch, kind);
     let record = sketch.record(random, kind);
-    let right = record.payload.len() as u16;
+    let (_, most) = LENGTHS[usize::from(kind) - 1];
     let any = random.below(60000) as u16;
-    let length = right + random.pick(&[1, 2, 256, 65000, any]).max(1);
+    let length = most + random.pick(&[1, 2, 256, 65000, any]).max(1);
     let mut bytes = record.with_length(length);
-    bytes.truncate(4 + random.below(usize::from(right) + 1));
+    bytes.truncate(4 + random.below(record.payload.len() + 1));
     Faulty {
         before: join(&before),
         record: bytes,

@@ -1,6 +1,7 @@
 //! Records in range, made apart from the reader and the writer, so that a fault put into one
 //! is known by construction.
 
+use crate::streams::layouts::Layout;
 use crate::streams::random::Random;
 
 /// Location, register, word: which of them operations 1 to 8 use.
@@ -15,14 +16,15 @@ pub const OPERATION_USES: [[bool; 3]; 8] = [
     [false, false, false],
 ];
 
-/// Thread, position, location: which of them step codes 0 to 2 use.
+/// Thread, position, line: which of them step codes 0 to 2 use.
 pub const CODE_USES: [[bool; 3]; 3] = [
     [true, false, false],
     [true, true, false],
     [false, false, true],
 ];
 
-pub const LENGTHS: [usize; 6] = [4, 5, 8, 5, 2, 4];
+/// The least and the most payload bytes of kinds 1 to 6.
+pub const LENGTHS: [(u16, u16); 6] = [(4, 12), (5, 5), (8, 8), (5, 5), (2, 2), (4, 4)];
 
 #[derive(Clone, Debug)]
 pub struct Record {
@@ -55,8 +57,11 @@ pub fn join(records: &[Record]) -> Vec<u8> {
     records.iter().flat_map(Record::bytes).collect()
 }
 
-pub fn program(threads: u8, locations: u8) -> Record {
-    Record::new(1, &[1, 0, threads, locations])
+pub fn program(threads: u8, layout: &Layout) -> Record {
+    let mut payload = layout.version.to_le_bytes().to_vec();
+    payload.extend_from_slice(&[threads, layout.locations()]);
+    payload.extend_from_slice(layout.told_lines());
+    Record { kind: 1, payload }
 }
 
 pub fn placed_word(kind: u16, location: u8, word: u32) -> Record {
@@ -87,9 +92,9 @@ pub fn random_instruction(random: &mut Random, thread: u8, locations: u8) -> Rec
     instruction(fields, if word { random.word() } else { 0 })
 }
 
-pub fn random_step(random: &mut Random, threads: u8, locations: u8) -> Record {
+pub fn random_step(random: &mut Random, threads: u8, lines: u8) -> Record {
     let code = random.between(0, 2);
-    let [thread, position, location] = CODE_USES[usize::from(code)];
+    let [thread, position, line] = CODE_USES[usize::from(code)];
     let payload = [
         if thread {
             random.between(0, threads - 1)
@@ -98,8 +103,8 @@ pub fn random_step(random: &mut Random, threads: u8, locations: u8) -> Record {
         },
         code,
         if position { random.between(0, 7) } else { 0 },
-        if location {
-            random.between(0, locations - 1)
+        if line {
+            random.between(0, lines - 1)
         } else {
             0
         },

@@ -1,11 +1,13 @@
 //! A valid file as its records, kind by kind.
 
 use super::records::*;
+use crate::streams::layouts::Layout;
 use crate::streams::random::Random;
 
 pub struct Sketch {
     pub threads: u8,
     pub locations: u8,
+    pub layout: Layout,
     pub counts: [u8; 4],
     /// Records of kind k at k - 1.
     pub sections: [Vec<Record>; 6],
@@ -20,21 +22,22 @@ pub struct Fill {
 }
 
 impl Sketch {
-    pub fn new(random: &mut Random, threads: u8, locations: u8, fill: &Fill) -> Sketch {
+    pub fn new(random: &mut Random, threads: u8, layout: Layout, fill: &Fill) -> Sketch {
         let mut sketch = Sketch {
             threads,
-            locations,
+            locations: layout.locations(),
+            layout,
             counts: [0; 4],
             sections: Default::default(),
         };
-        sketch.sections[0].push(program(threads, locations));
+        sketch.sections[0].push(program(threads, &sketch.layout));
         for thread in 0..threads {
             let count = random.between(fill.instructions.0, fill.instructions.1);
             sketch.fill_thread(random, thread, count);
         }
         sketch.fill_questions(random, fill.eighths);
         for _ in 0..random.between(fill.steps.0, fill.steps.1) {
-            let step = random_step(random, threads, locations);
+            let step = sketch.record(random, 6);
             sketch.sections[5].push(step);
         }
         sketch
@@ -68,14 +71,14 @@ impl Sketch {
 
     /// Any size from 8 bytes up, large and small ones alike often.
     pub fn any(random: &mut Random) -> Sketch {
-        let (threads, locations) = (random.between(1, 4), random.between(1, 8));
+        let (threads, layout) = (random.between(1, 4), any_layout(random, 1));
         let most = random.pick(&[0, 1, 2, 4, 8]);
         let fill = Fill {
             instructions: (random.between(0, most), most),
             steps: random.pick(&[(0, 0), (0, 4), (0, 4), (5, 20), (20, 96), (96, 96)]),
             eighths: random.pick(&[0, 2, 4, 6, 8]),
         };
-        Sketch::new(random, threads, locations, &fill)
+        Sketch::new(random, threads, layout, &fill)
     }
 
     /// A small one with a record of every kind, so that a fault of any sort finds its place.
@@ -86,22 +89,23 @@ impl Sketch {
             eighths: 4,
         };
         loop {
-            let (threads, locations) = (random.between(2, 4), random.between(2, 8));
-            let sketch = Sketch::new(random, threads, locations, &fill);
+            let (threads, layout) = (random.between(2, 4), any_layout(random, 2));
+            let sketch = Sketch::new(random, threads, layout, &fill);
             if sketch.sections.iter().all(|section| !section.is_empty()) {
                 return sketch;
             }
         }
     }
 
-    /// 1,328 bytes.
+    /// 1,328 bytes in version 1, 1,336 in version 2.
     pub fn longest(random: &mut Random) -> Sketch {
         let fill = Fill {
             instructions: (8, 8),
             steps: (96, 96),
             eighths: 8,
         };
-        Sketch::new(random, 4, 8, &fill)
+        let layout = Layout::draw(random, 8);
+        Sketch::new(random, 4, layout, &fill)
     }
 
     pub fn records(&self) -> Vec<Record> {
@@ -123,7 +127,7 @@ impl Sketch {
     /// A record of the kind with every field in range; its order is the caller's matter.
     pub fn record(&self, random: &mut Random, kind: u16) -> Record {
         match kind {
-            1 => program(self.threads, self.locations),
+            1 => program(self.threads, &self.layout),
             2 | 4 => {
                 let location = random.between(0, self.locations - 1);
                 self.record_at(random, kind, location)
@@ -132,7 +136,7 @@ impl Sketch {
                 let thread = random.between(0, self.threads - 1);
                 self.record_at(random, kind, thread)
             }
-            _ => random_step(random, self.threads, self.locations),
+            _ => random_step(random, self.threads, self.layout.lines()),
         }
     }
 
@@ -148,4 +152,10 @@ impl Sketch {
             }
         }
     }
+}
+
+/// Of so many locations at least.
+pub fn any_layout(random: &mut Random, least: u8) -> Layout {
+    let locations = random.between(least, 8);
+    Layout::draw(random, locations)
 }

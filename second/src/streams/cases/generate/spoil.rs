@@ -52,14 +52,26 @@ pub fn strange_kind(random: &mut Random) -> u16 {
     random.pick(&[0, 7, 8, 255, 256, 257, 259, 262, 0x0600, 65535, any])
 }
 
-/// A length that is not the kind's.
+/// A length that no record of the kind has.
 pub fn odd_length(random: &mut Random, kind: u16) -> u16 {
-    let right = LENGTHS[usize::from(kind) - 1] as u16;
+    let (least, most) = LENGTHS[usize::from(kind) - 1];
     let any = random.below(65536) as u16;
-    let near = [right + 1, right - 1, right + 256, 0, 4, 5, 8, 2, 65535, any];
+    let near = [
+        most + 1,
+        least - 1,
+        least + 256,
+        most + 256,
+        0,
+        4,
+        5,
+        8,
+        2,
+        65535,
+        any,
+    ];
     loop {
         let length = random.pick(&near);
-        if length != right {
+        if !(least..=most).contains(&length) {
             return length;
         }
     }
@@ -163,7 +175,7 @@ pub fn leave_range(random: &mut Random, sketch: &Sketch, record: &mut Record) {
 fn leave_program_range(random: &mut Random, payload: &mut [u8]) {
     match random.below(3) {
         0 => {
-            let version: u16 = random.pick(&[0, 2, 256, 257, 0x0101, 65535]);
+            let version: u16 = random.pick(&[0, 3, 4, 256, 257, 258, 512, 65535]);
             payload[..2].copy_from_slice(&version.to_le_bytes());
         }
         1 => payload[2] = random.pick(&[0, 5, 6, 128, 255]),
@@ -190,7 +202,7 @@ fn instruction_exits(random: &mut Random, sketch: &Sketch, record: &Record) -> V
 
 /// The used fields of a step with values out of range.
 fn step_exits(random: &mut Random, sketch: &Sketch, record: &Record) -> Vec<(usize, u8)> {
-    let [thread, position, location] = CODE_USES[usize::from(record.payload[1])];
+    let [thread, position, line] = CODE_USES[usize::from(record.payload[1])];
     let mut exits = vec![(1, random.beyond(3))];
     if thread {
         exits.push((0, random.beyond(sketch.threads)));
@@ -198,8 +210,8 @@ fn step_exits(random: &mut Random, sketch: &Sketch, record: &Record) -> Vec<(usi
     if position {
         exits.push((2, random.beyond(8)));
     }
-    if location {
-        exits.push((3, random.beyond(sketch.locations)));
+    if line {
+        exits.push((3, random.beyond(sketch.layout.lines())));
     }
     exits
 }
@@ -239,8 +251,8 @@ fn unused_bytes(record: &Record) -> Vec<usize> {
             .chain((4..8).map(|byte| (byte, word)))
             .collect()
     } else {
-        let [thread, position, location] = CODE_USES[usize::from(record.payload[1])];
-        vec![(0, thread), (2, position), (3, location)]
+        let [thread, position, line] = CODE_USES[usize::from(record.payload[1])];
+        vec![(0, thread), (2, position), (3, line)]
     };
     let unused = fields.into_iter().filter(|(_, used)| !used);
     unused.map(|(byte, _)| byte).collect()

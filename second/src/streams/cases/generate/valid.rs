@@ -1,9 +1,10 @@
 //! Valid files of all sizes, written again into buffers of telling sizes.
 
-use super::records::{join, program};
+use super::records::program;
 use super::sketch::Sketch;
 use crate::streams::cases::frame::Frame;
 use crate::streams::cases::marks::marked;
+use crate::streams::layouts::Layout;
 use crate::streams::random::Random;
 
 /// The 50 bytes of the second row of document 01.
@@ -17,12 +18,14 @@ pub const ROW: [u8; 50] = [
 pub fn all(random: &mut Random) -> Vec<Frame> {
     let mut files = vec![ROW.to_vec()];
     for threads in 1..=4 {
-        files.push(join(&[program(threads, 9 - 2 * threads)]));
+        let locations = 9 - 2 * threads;
+        files.push(program(threads, &Layout::own(locations)).bytes());
+        files.push(program(threads, &Layout::draw(random, locations)).bytes());
     }
-    for _ in 0..10 {
+    for _ in 0..20 {
         files.push(Sketch::longest(random).bytes());
     }
-    for _ in 0..200 {
+    for _ in 0..300 {
         files.push(Sketch::any(random).bytes());
     }
     files

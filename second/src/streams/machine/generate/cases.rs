@@ -42,7 +42,7 @@ pub fn refused(random: &mut Random) -> Vec<Trial> {
 /// The longest files, alone and with more behind them up to the longest input; and no bytes.
 pub fn longest(random: &mut Random) -> Vec<Trial> {
     let mut trials = Vec::new();
-    for _ in 0..30 {
+    for _ in 0..40 {
         let file = longest_file(random);
         let step = encode_steps(random);
         let more = MOST_INPUT as usize - file.len();
@@ -54,7 +54,8 @@ pub fn longest(random: &mut Random) -> Vec<Trial> {
         ];
         for (number, tail) in tails {
             let input = [file.clone(), tail].concat();
-            trials.push(marked("reading refused", number, 1328, input, Job::Bytes));
+            let offset = file.len();
+            trials.push(marked("reading refused", number, offset, input, Job::Bytes));
         }
         trials.push(marked("legal run", LEGAL, 96, file.clone(), Job::Bytes));
         trials.push(marked("legal run", LEGAL, 96, file, Job::Case));
@@ -67,7 +68,7 @@ pub fn longest(random: &mut Random) -> Vec<Trial> {
     trials
 }
 
-/// 1,328 bytes, with a legal run of 96 steps.
+/// 1,328 bytes or 1,336, with a legal run of 96 steps.
 fn longest_file(random: &mut Random) -> Vec<u8> {
     let mut case = program(random, 8, &[8; 4], &LONG);
     for location in 0..8 {
@@ -83,7 +84,7 @@ fn longest_file(random: &mut Random) -> Vec<u8> {
 
 /// Step records in range, as many as an input may have.
 fn encode_steps(random: &mut Random) -> Vec<u8> {
-    let records = (0..MOST_INPUT / 8).flat_map(|_| random_step(random, 4, 8).bytes());
+    let records = (0..MOST_INPUT / 8).flat_map(|_| random_step(random, 4, 1).bytes());
     records.collect()
 }
 
@@ -137,9 +138,13 @@ pub fn run_to_change(random: &mut Random) -> Trial {
     }
 }
 
+/// The fields of version and lines.
+pub const LINES: (u32, u32) = (548, FIELDS_END);
+
 /// The many steps must not crowd out the other fields.
 pub fn change(random: &mut Random, trial: &mut Trial) {
-    let (first, end) = random.pick(&[(0, 15), (15, 143), (15, 143), (143, 164), (164, FIELDS_END)]);
+    let ranges = [(0, 15), (15, 143), (15, 143), (143, 164), (164, 548), LINES];
+    let (first, end) = random.pick(&ranges);
     change_in(random, trial, first, end);
 }
 

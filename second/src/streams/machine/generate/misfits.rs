@@ -2,7 +2,8 @@
 
 use super::runs::any_step;
 use super::scene::*;
-use crate::judge::machine::state::Entry;
+use crate::judge::case::Case;
+use crate::judge::machine::state::{Entry, MARKER};
 use crate::judge::refusal::STATE_DOES_NOT_FIT;
 use crate::streams::machine::frame::Trial;
 use crate::streams::machine::marks::FITS;
@@ -10,29 +11,50 @@ use crate::streams::random::Random;
 
 type Maker = fn(&mut Random) -> Scene;
 
-pub const ABOVE: [(&str, Maker); 7] = [
+pub const ABOVE: [(&str, Maker); 10] = [
     ("33 above: lacking thread", lacking_thread),
-    ("33 above: lacking queue", lacking_queue),
+    ("33 above: lacking line", |random| {
+        lacking_line(random, false)
+    }),
+    ("33 above: location that is no line", |random| {
+        lacking_line(random, true)
+    }),
     ("33 above: entry's location", |random| {
         entry_names(random, |random, locations| random.beyond(locations))
     }),
     ("33 above: marker's thread", |random| {
-        marker_names(random, |random, threads| random.beyond(threads + 1))
+        bears_mark(random, |random, case| random.beyond(MARKER + case.threads))
     }),
+    ("33 above: write's location", |random| {
+        bears_mark(random, |random, case| {
+            let any = random.between(case.locations, MARKER - 1);
+            random.pick(&[case.locations, MARKER - 1, any])
+        })
+    }),
+    ("33 above: write of another line", write_of_another_line),
     ("33 above: issued", issued_above),
     ("33 above: buffer of 8", |random| buffer_sum(random, 9)),
     ("33 above: queue of 32", |random| queue_sum(random, 33)),
 ];
 
-const AT: [(&str, Maker); 9] = [
+const AT: [(&str, Maker); 12] = [
     ("33 at: last thread", last_thread),
-    ("33 at: last queue", last_queue),
+    ("33 at: last line", last_line),
     ("33 at: entry's location", |random| {
         entry_names(random, |_, locations| locations - 1)
     }),
     ("33 at: sfence names none", sfence_names_none),
     ("33 at: marker's thread", |random| {
-        marker_names(random, |_, threads| threads)
+        bears_mark(random, |_, case| MARKER + case.threads - 1)
+    }),
+    ("33 at: marker of thread 0", |random| {
+        bears_mark(random, |_, _| MARKER)
+    }),
+    ("33 at: write's location", |random| {
+        of_last_location(random, |_| true)
+    }),
+    ("33 at: write of a shared line", |random| {
+        of_last_location(random, shares)
     }),
     ("33 at: issued", issued_all),
     ("33 at: buffer of 8", |random| buffer_sum(random, 8)),
@@ -74,17 +96,44 @@ fn lacking_thread(random: &mut Random) -> Scene {
     scene
 }
 
-fn lacking_queue(random: &mut Random) -> Scene {
+/// So many entries in the queue of a line that the program lacks, though it may have a location of that
+/// number.
+fn lacking_line(random: &mut Random, has_location: bool) -> Scene {
     let need = Need {
-        locations: (1, 7),
         spare: random.pick(&[1, 1, 4]),
         ..ANY
     };
-    let mut scene = Scene::new(random, &need);
-    let lacking = random.between(scene.case.locations, 7);
+    let such: fn(&Case) -> bool = if has_location {
+        shares
+    } else {
+        |case| case.lines < 8
+    };
+    let mut scene = scene_with(random, &need, such);
+    let last = if has_location {
+        scene.case.locations - 1
+    } else {
+        7
+    };
+    let any = random.between(scene.case.lines, last);
+    let lacking = random.pick(&[scene.case.lines, any]);
     scene.state.queues[usize::from(lacking)].count = random.between(1, need.spare);
     scene.fill(random);
     scene
+}
+
+/// Two locations on one line, so that the last location's number is no line's.
+fn shares(case: &Case) -> bool {
+    case.lines < case.locations
+}
+
+/// Drawn until its case is such a one.
+fn scene_with(random: &mut Random, need: &Need, such: fn(&Case) -> bool) -> Scene {
+    loop {
+        let scene = Scene::new(random, need);
+        if such(&scene.case) {
+            return scene;
+        }
+    }
 }
 
 /// One entry names a location, drawn from the number of them.
@@ -105,17 +154,38 @@ fn entry_names(random: &mut Random, draw: fn(&mut Random, u8) -> u8) -> Scene {
     scene
 }
 
-/// One marker's mark, drawn from the number of threads.
-fn marker_names(random: &mut Random, draw: fn(&mut Random, u8) -> u8) -> Scene {
-    let need = Need {
-        length: (1, 32),
-        ..ANY
-    };
-    let mut scene = Scene::new(random, &need);
-    let mark = draw(random, scene.case.threads);
-    let queue = &mut scene.state.queues[scene.at];
-    queue.places[random.below(queue.count.into())].mark = mark;
+const QUEUED: Need = Need {
+    length: (1, 32),
+    ..ANY
+};
+
+/// One mark in a queue, drawn for the program.
+fn bears_mark(random: &mut Random, draw: fn(&mut Random, &Case) -> u8) -> Scene {
+    let mut scene = Scene::new(random, &QUEUED);
+    let mark = draw(random, &scene.case);
+    scene.any_held(random).mark = mark;
     scene
+}
+
+fn write_of_another_line(random: &mut Random) -> Scene {
+    let mut scene = scene_with(random, &QUEUED, |case| case.lines > 1);
+    let mut others: Vec<u8> = (0..scene.case.locations).collect();
+    others.retain(|&other| scene.case.line_of(other) != scene.line());
+    let mark = random.pick(&others);
+    scene.any_held(random).mark = mark;
+    scene
+}
+
+/// A write of the program's last location, in its line's queue.
+fn of_last_location(random: &mut Random, such: fn(&Case) -> bool) -> Scene {
+    loop {
+        let mut scene = scene_with(random, &QUEUED, such);
+        if scene.at + 1 == scene.case.locations {
+            let mark = scene.at;
+            scene.any_held(random).mark = mark;
+            return scene;
+        }
+    }
 }
 
 /// Of any thread, one that the program lacks too.
@@ -151,7 +221,8 @@ fn queue_sum(random: &mut Random, sum: u8) -> Scene {
     let mut scene = Scene::new(random, &ANY);
     let length = sum - scene.to_come();
     let above = random.beyond(length);
-    scene.state.queues[scene.at].count = match sum {
+    let line = scene.line();
+    scene.state.queues[line].count = match sum {
         32 => length,
         _ => random.pick(&[length, length, length, above]),
     };
@@ -162,14 +233,13 @@ fn queue_sum(random: &mut Random, sum: u8) -> Scene {
 /// Each queue alone is within its limit, and all of them together are above 32.
 fn queues_together(random: &mut Random) -> Scene {
     let need = Need {
-        locations: (2, 8),
         length: (17, 32),
         ..ANY
     };
-    let mut scene = Scene::new(random, &need);
+    let mut scene = scene_with(random, &need, |case| case.lines > 1);
     let length = 32 - scene.to_come();
-    let locations = usize::from(scene.case.locations);
-    for queue in &mut scene.state.queues[..locations] {
+    let lines = usize::from(scene.case.lines);
+    for queue in &mut scene.state.queues[..lines] {
         queue.count = length;
     }
     scene.fill(random);
@@ -189,14 +259,10 @@ fn last_thread(random: &mut Random) -> Scene {
     }
 }
 
-fn last_queue(random: &mut Random) -> Scene {
-    let need = Need {
-        length: (1, 32),
-        ..ANY
-    };
+fn last_line(random: &mut Random) -> Scene {
     loop {
-        let scene = Scene::new(random, &need);
-        if scene.at + 1 == usize::from(scene.case.locations) {
+        let scene = Scene::new(random, &QUEUED);
+        if scene.line() + 1 == usize::from(scene.case.lines) {
             return scene;
         }
     }

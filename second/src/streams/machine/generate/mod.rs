@@ -1,5 +1,6 @@
 //! The frames of the machine's comparison, from a seed.
 
+mod beside;
 mod cases;
 mod misfits;
 mod moves;
@@ -10,6 +11,7 @@ pub mod runs;
 mod scene;
 mod script;
 mod scripts;
+mod shared;
 mod starts;
 mod steps;
 

@@ -5,6 +5,7 @@ use super::scene::*;
 use crate::judge::case::Step;
 use crate::judge::machine::state::Entry;
 use crate::judge::machine::steps::shift;
+use crate::streams::layouts;
 use crate::streams::random::Random;
 
 fn move_by(scene: Scene, position: usize) -> (Scene, Step) {
@@ -25,7 +26,7 @@ pub fn beyond_the_last(random: &mut Random) -> (Scene, Step) {
 }
 
 /// What is no flush-opt, behind position 0: 1 store, 2 flush, 7 sfence; 3 store, 4 flush behind
-/// a store of its location; 5 a flush of a filled queue; 6 an sfence while a marker is left.
+/// a store of its line; 5 a flush of a filled queue; 6 an sfence while a marker is left.
 pub fn behind(random: &mut Random, sorts: &[u8]) -> (Scene, Step) {
     let sort = random.pick(sorts);
     let need = Need {
@@ -34,19 +35,20 @@ pub fn behind(random: &mut Random, sorts: &[u8]) -> (Scene, Step) {
         ..ANY
     };
     let mut scene = Scene::new(random, &need);
-    let location = scene.at as u8;
+    let location = scene.at;
     let word = word(random);
-    let store = Entry::Store { location, word };
+    let store = |location| Entry::Store { location, word };
+    let neighbour = layouts::neighbour(random, &scene.case, location);
     if sort == 6 {
         scene.plant(random);
     }
     let entries = scene.entries();
     let position = 1 + random.below(entries.len() - 1);
     if sort == 3 || sort == 4 {
-        entries[random.below(position)] = store;
+        entries[random.below(position)] = store(neighbour);
     }
     entries[position] = match sort {
-        1 | 3 => store,
+        1 | 3 => store(location),
         2 | 4 | 5 => Entry::Flush(location),
         _ => Entry::Sfence,
     };
@@ -59,11 +61,12 @@ pub fn barred(random: &mut Random) -> (Scene, Step) {
         ..ANY
     };
     let mut scene = Scene::new(random, &need);
-    let location = scene.at as u8;
+    let own = scene.at;
+    let location = layouts::neighbour(random, &scene.case, own);
     let word = word(random);
     let entries = scene.entries();
     let position = 1 + random.below(entries.len() - 1);
-    entries[position] = Entry::FlushOpt(location);
+    entries[position] = Entry::FlushOpt(own);
     entries[random.below(position)] = random.pick(&[
         Entry::Store { location, word },
         Entry::Flush(location),
@@ -72,33 +75,40 @@ pub fn barred(random: &mut Random) -> (Scene, Step) {
     move_by(scene, position)
 }
 
-/// Nothing before the flush-opt bars it: other locations, and flush-opts of its own.
+/// Nothing before the flush-opt bars it: other lines, and flush-opts of its own.
 pub fn passing(random: &mut Random) -> (Scene, Step) {
     let need = Need {
         waiting: (2, 8),
         locations: (2, 8),
         ..ANY
     };
-    let mut scene = Scene::new(random, &need);
-    let own = scene.at as u8;
-    let others = scene.case.locations - 1;
+    let mut scene = loop {
+        let scene = Scene::new(random, &need);
+        if scene.case.lines > 1 {
+            break scene;
+        }
+    };
+    let own = scene.at;
+    let beside = layouts::neighbour(random, &scene.case, own);
+    let mut others: Vec<u8> = (0..scene.case.locations).collect();
+    others.retain(|&other| scene.case.line_of(other) != scene.line());
     let entries = scene.entries();
     let position = 1 + random.below(entries.len() - 1);
     for entry in &mut entries[..position] {
-        let location = (own + random.between(1, others)) % (others + 1);
+        let location = random.pick(&others);
         let word = word(random);
         *entry = random.pick(&[
             Entry::Store { location, word },
             Entry::Flush(location),
             Entry::FlushOpt(location),
-            Entry::FlushOpt(own),
+            Entry::FlushOpt(beside),
         ]);
     }
     entries[position] = Entry::FlushOpt(own);
     move_by(scene, position)
 }
 
-/// The first entry is of the scene's location, whose queue is empty (0), filled (1), or any (2).
+/// The first entry is of the scene's location, whose line's queue is empty (0), filled (1), or any (2).
 pub fn first(random: &mut Random, entry: fn(u8) -> Entry, filled: u8) -> (Scene, Step) {
     let need = Need {
         waiting: (1, 8),
@@ -106,7 +116,7 @@ pub fn first(random: &mut Random, entry: fn(u8) -> Entry, filled: u8) -> (Scene,
         ..ANY
     };
     let mut scene = Scene::new(random, &need);
-    let location = scene.at as u8;
+    let location = scene.at;
     scene.entries()[0] = entry(location);
     move_by(scene, 0)
 }

@@ -20,11 +20,11 @@ pub fn pass_others(random: &mut Random, s: &mut Script) {
     s.shift(s.thread, before);
 }
 
-/// Flush-opts of its own location do not bar a flush-opt.
+/// Flush-opts of its own line do not bar a flush-opt.
 pub fn pass_flush_opts(random: &mut Random, s: &mut Script) {
     let before = random.between(1, 4);
     for _ in 0..before {
-        s.own(random, &[6]);
+        s.own_beside(random, &[6]);
     }
     s.own(random, &[6]);
     s.shift(s.thread, before);
@@ -52,7 +52,7 @@ pub fn sfence_others_marker(random: &mut Random, s: &mut Script) {
 }
 
 pub fn fence_marker_gone(random: &mut Random, s: &mut Script) {
-    s.queue(random, s.thread, s.at, &[6]);
+    s.queue(random, s.thread, s.neighbour, &[6]);
     s.persist(s.at);
     if random.one_in(2) {
         s.own_anywhere(random, &FENCES);

@@ -59,18 +59,22 @@ fn misfit(random: &mut Random) -> Scene {
     maker(random)
 }
 
-/// A used field beyond its range: of such a thread, position or location there is nothing.
+/// A used field beyond its range: of such a thread, position or line there is nothing, though there may
+/// be a location of that number.
 fn field_beyond(random: &mut Random, scene: &Scene) -> Option<Step> {
     let case = &scene.case;
     let (thread, position) = (random.beyond(case.threads), random.beyond(8));
     let own = random.between(0, case.threads - 1);
     let first = random.between(0, 7);
-    let location = random.beyond(case.locations);
+    let last = case.locations.max(case.lines + 1) - 1;
+    let line = random.between(case.lines, last);
+    let beyond = random.beyond(case.lines);
     Some(random.pick(&[
         issue(thread),
         shift(thread, first),
         shift(own, position),
-        persist(location),
+        persist(line),
+        persist(beyond),
     ]))
 }
 
@@ -96,7 +100,7 @@ fn unused_set(random: &mut Random, mut step: Step) -> Step {
     let first = random.one_in(2);
     match step.code {
         ISSUE if first => step.position = junk,
-        ISSUE | MOVE => step.location = junk,
+        ISSUE | MOVE => step.line = junk,
         _ if first => step.thread = junk,
         _ => step.position = junk,
     }
@@ -118,7 +122,7 @@ fn of_nothing(random: &mut Random, scene: &Scene) -> Option<Step> {
         match step.code {
             ISSUE => scene.unissued(thread) == 0,
             MOVE => step.position >= scene.state.buffers[thread].count,
-            _ => scene.state.queues[usize::from(step.location)].count == 0,
+            _ => scene.state.queues[usize::from(step.line)].count == 0,
         }
     });
     random.pick_some(&steps)
@@ -161,12 +165,22 @@ pub fn beaten(random: &mut Random) -> Vec<Trial> {
     trials
 }
 
-/// Threads, locations, instructions of a thread, steps; the bits above the field's are cut.
+/// Threads, locations, instructions of a thread, steps, the version, lines; the bits above the field's
+/// are cut.
 fn set_bad_count(random: &mut Random, trial: &mut Trial) {
     let thread = u32::from(random.between(0, 3));
-    let (field, most) = random.pick(&[(1, 4), (2, 8), (11 + thread, 8), (163, 96)]);
+    let counts = [
+        (1, 4),
+        (2, 8),
+        (11 + thread, 8),
+        (163, 96),
+        (548, 2),
+        (549, 8),
+    ];
+    let (field, most) = random.pick(&counts);
     let above = random.beyond(most + 1);
-    let bad = if field < 3 {
+    // No program has 0 threads, locations or lines, or is of version 0.
+    let bad = if [1, 2, 548, 549].contains(&field) {
         random.pick(&[above, above, above, 0])
     } else {
         above

@@ -3,6 +3,7 @@
 use crate::judge::case::{Case, Instruction};
 use crate::judge::machine::work::full_length;
 use crate::streams::cases::generate::records::OPERATION_USES;
+use crate::streams::layouts::{self, Layout};
 use crate::streams::random::Random;
 
 pub const EVERY: [u8; 8] = [1, 2, 3, 4, 5, 6, 7, 8];
@@ -56,11 +57,10 @@ pub fn add(case: &mut Case, thread: usize, instruction: Instruction) {
     case.counts[thread] += 1;
 }
 
-/// A program with so many instructions of each thread.
+/// A program with so many instructions of each thread, its locations on lines in any way.
 pub fn program(random: &mut Random, locations: u8, counts: &[u8], operations: &[u8]) -> Case {
-    let mut case = Case::empty();
-    case.threads = counts.len() as u8;
-    case.locations = locations;
+    let layout = Layout::draw(random, locations);
+    let mut case = layouts::case(counts.len() as u8, &layout);
     for (thread, &count) in counts.iter().enumerate() {
         for _ in 0..count {
             let operation = random.pick(operations);

@@ -3,15 +3,16 @@
 use super::programs::*;
 use super::runs::any_step;
 use crate::judge::case::{Case, Instruction, Step};
-use crate::judge::machine::state::{Entry, Held, State, QUEUE_ROOM};
+use crate::judge::machine::state::{Entry, Held, State, MARKER, QUEUE_ROOM};
 use crate::judge::writing::encode;
+use crate::streams::layouts;
 use crate::streams::machine::frame::{Job, Trial};
 use crate::streams::machine::marks::marked;
 use crate::streams::machine::raw::{self, ENTRIES_AT, ENTRY_BYTES};
 use crate::streams::random::Random;
 
 /// Least and most of what a scene must have: entries waiting and instructions unissued of its
-/// thread, entries in its location's queue; and how much every queue stays below its limit.
+/// thread, entries in the queue of its location's line; and how much every queue stays below its limit.
 pub struct Need {
     pub threads: (u8, u8),
     pub locations: (u8, u8),
@@ -34,7 +35,7 @@ pub struct Scene {
     pub case: Case,
     pub state: State,
     pub thread: usize,
-    pub at: usize,
+    pub at: u8,
 }
 
 impl Scene {
@@ -46,11 +47,11 @@ impl Scene {
         }
     }
 
-    /// None where the sums leave no room for what the location's queue must have.
+    /// None where the sums leave no room for what the line's queue must have.
     fn try_new(random: &mut Random, need: &Need) -> Option<Scene> {
         let threads = usize::from(random.between(need.threads.0, need.threads.1));
         let locations = random.between(need.locations.0, need.locations.1);
-        let (thread, at) = (random.below(threads), random.below(locations.into()));
+        let (thread, at) = (random.below(threads), random.between(0, locations - 1));
         let loads = draw_loads(random, need, threads, thread);
         let to_come: u8 = loads.iter().map(|load| load.waiting + load.unissued).sum();
         let free = (QUEUE_ROOM as u8).checked_sub(to_come + need.spare)?;
@@ -64,11 +65,12 @@ impl Scene {
             state.issued[one] = case.counts[one] - load.unissued;
             state.buffers[one].count = load.waiting;
         }
-        for queue in &mut state.queues[..usize::from(locations)] {
+        for queue in &mut state.queues[..usize::from(case.lines)] {
             let some = random.between(0, free);
             queue.count = random.pick(&[0, free, free.min(1), some]);
         }
-        state.queues[at].count = random.between(need.length.0, need.length.1.min(free));
+        let length = random.between(need.length.0, need.length.1.min(free));
+        state.queues[case.line_of(at)].count = length;
         let mut scene = Scene {
             case,
             state,
@@ -91,9 +93,9 @@ impl Scene {
         {
             *register = super::programs::word(random);
         }
-        for queue in &mut self.state.queues {
+        for (line, queue) in self.state.queues.iter_mut().enumerate() {
             for place in queue.places.iter_mut().take(queue.count.into()) {
-                *place = random_held(random, threads);
+                *place = random_held(random, &self.case, line);
             }
         }
         for buffer in &mut self.state.buffers {
@@ -116,23 +118,32 @@ impl Scene {
             .sum()
     }
 
-    /// A marker of the scene's thread in the location's queue.
-    pub fn plant(&mut self, random: &mut Random) {
-        let queue = &mut self.state.queues[self.at];
-        let place = random.below(queue.count.into());
-        queue.places[place].mark = self.thread as u8 + 1;
+    /// The line of the scene's location.
+    pub fn line(&self) -> usize {
+        self.case.line_of(self.at)
     }
 
-    /// No queue holds a marker of the scene's thread.
+    /// One of the entries in the queue of that line.
+    pub fn any_held(&mut self, random: &mut Random) -> &mut Held {
+        let line = self.line();
+        let queue = &mut self.state.queues[line];
+        &mut queue.places[random.below(queue.count.into())]
+    }
+
+    /// A marker of the scene's thread in the queue of the location's line.
+    pub fn plant(&mut self, random: &mut Random) {
+        let mark = MARKER + self.thread as u8;
+        self.any_held(random).mark = mark;
+    }
+
+    /// No queue holds a marker of the scene's thread: in its place stands a write of the line.
     pub fn strip(&mut self) {
-        for held in self
-            .state
-            .queues
-            .iter_mut()
-            .flat_map(|queue| &mut queue.places)
-        {
-            if held.is_marker_of(self.thread) {
-                held.mark = 0;
+        for line in 0..usize::from(self.case.lines) {
+            let location = layouts::on_line(&self.case, line)[0];
+            for held in &mut self.state.queues[line].places {
+                if held.is_marker_of(self.thread) {
+                    held.mark = location;
+                }
             }
         }
     }
@@ -190,12 +201,17 @@ fn draw_loads(random: &mut Random, need: &Need, threads: usize, thread: usize) -
         .collect()
 }
 
-pub fn random_held(random: &mut Random, threads: u8) -> Held {
-    let mark = random.between(1, threads);
+/// A marker or, twice as often, a write of a location on the line; of any location, if there is no such
+/// line.
+fn random_held(random: &mut Random, case: &Case, line: usize) -> Held {
+    let marker = MARKER + random.between(0, case.threads - 1);
+    let any = random.between(0, case.locations - 1);
+    let own = layouts::on_line(case, line);
+    let write = random.pick_some(&own).unwrap_or(any);
     Held {
         // A marker's word, 0 in a reachable state.
         word: word(random),
-        mark: random.pick(&[0, 0, mark]),
+        mark: random.pick(&[write, write, marker]),
     }
 }
 
@@ -225,7 +241,7 @@ pub fn add_junk(random: &mut Random, case: &Case, state: &mut State) {
         let used = queue.used().len();
         for place in &mut queue.places[used..] {
             place.word = super::programs::word(random);
-            place.mark = random.pick(&[0, 1, 2, 3, 4, 5, 255]);
+            place.mark = random.pick(&[0, 1, 2, 7, 8, 127, 128, 131, 132, 255]);
         }
     }
     for buffer in &mut state.buffers {

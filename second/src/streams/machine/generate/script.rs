@@ -4,34 +4,47 @@
 use super::programs::*;
 use crate::judge::case::{Case, Instruction, Step, MOST_INSTRUCTIONS};
 use crate::judge::machine::steps::{issue, persist, shift};
+use crate::streams::layouts::{self, Layout};
 use crate::streams::random::Random;
 
 pub struct Script {
     pub case: Case,
     pub steps: Vec<Step>,
-    /// Two different threads and two different locations. Both threads' buffers and all
+    /// Two different threads, and two locations on different lines. Both threads' buffers and all
     /// queues are empty when the script proper starts.
     pub thread: u8,
     pub other: u8,
     pub at: u8,
     pub elsewhere: u8,
+    /// Another location on the first one's line, or that one itself.
+    pub neighbour: u8,
 }
 
 impl Script {
-    pub fn new(random: &mut Random) -> Script {
-        let mut case = Case::empty();
-        case.threads = random.between(2, 4);
-        case.locations = random.between(2, 8);
+    /// Where locations are to share lines, the neighbour is another location.
+    pub fn new(random: &mut Random, sharing: bool) -> Script {
+        let locations = random.between(2 + u8::from(sharing), 8);
+        let layout = Layout::with_lines(random, locations, 2, sharing);
+        let case = layouts::case(random.between(2, 4), &layout);
+        let (at, neighbour) = loop {
+            let at = random.between(0, locations - 1);
+            let neighbour = layouts::neighbour(random, &case, at);
+            if !sharing || neighbour != at {
+                break (at, neighbour);
+            }
+        };
+        let mut others: Vec<u8> = (0..locations).collect();
+        others.retain(|&other| case.line_of(other) != case.line_of(at));
         let mut script = Script {
             thread: random.between(0, case.threads - 1),
             other: random.between(0, case.threads - 2),
-            at: random.between(0, case.locations - 1),
-            elsewhere: random.between(0, case.locations - 2),
+            at,
+            elsewhere: random.pick(&others),
+            neighbour: random.pick(&[neighbour, if sharing { neighbour } else { at }]),
             case,
             steps: Vec::new(),
         };
         script.other += u8::from(script.other >= script.thread);
-        script.elsewhere += u8::from(script.elsewhere >= script.at);
         dress(random, &mut script.case);
         for _ in 0..random.below(10) {
             let thread = random.between(0, script.case.threads - 1);
@@ -85,8 +98,10 @@ impl Script {
         self.steps.push(shift(thread, position));
     }
 
+    /// The oldest entry of the location's line.
     pub fn persist(&mut self, location: u8) {
-        self.steps.push(persist(location));
+        let line = self.case.line_of(location);
+        self.steps.push(persist(line as u8));
     }
 
     /// One of the operations, at the script's location, issued by its thread.
@@ -96,7 +111,14 @@ impl Script {
         self.issue(self.thread, made);
     }
 
-    /// The same, at the other location.
+    /// The same, at its neighbour, which is on the same line.
+    pub fn own_beside(&mut self, random: &mut Random, operations: &[u8]) {
+        let operation = random.pick(operations);
+        let made = instruction_at(random, operation, self.neighbour);
+        self.issue(self.thread, made);
+    }
+
+    /// The same, at the location on another line.
     pub fn own_elsewhere(&mut self, random: &mut Random, operations: &[u8]) {
         let operation = random.pick(operations);
         let made = instruction_at(random, operation, self.elsewhere);
@@ -110,7 +132,7 @@ impl Script {
         self.issue(self.thread, made);
     }
 
-    /// A write or a marker in the location's queue, from the thread's empty buffer.
+    /// A write or a marker in the queue of the location's line, from the thread's empty buffer.
     pub fn queue(&mut self, random: &mut Random, thread: u8, location: u8, operations: &[u8]) {
         let operation = random.pick(operations);
         let made = instruction_at(random, operation, location);

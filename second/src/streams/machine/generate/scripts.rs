@@ -1,6 +1,7 @@
 //! Runs by construction: for each rule, for two rules where they meet, and legal ones that come
-//! near to a rule.
+//! near to a rule; and what locations on one line do to one another.
 
+use super::beside::*;
 use super::near::*;
 use super::programs::WAITING;
 use super::runs::{any_step, judged};
@@ -22,7 +23,7 @@ const MAKERS: [(&str, Maker, u8); 23] = [
     ("script: 23", fence_marked, 23),
     ("script: 24", beyond_the_last, 24),
     ("script: 25", not_a_flush_opt, 25),
-    ("script: 25+26", not_a_flush_opt_same_location, 25),
+    ("script: 25+26", not_a_flush_opt_same_line, 25),
     ("script: 25+27", flush_behind, 25),
     ("script: 25+28", sfence_behind, 25),
     ("script: 26", barred, 26),
@@ -30,7 +31,7 @@ const MAKERS: [(&str, Maker, u8); 23] = [
     ("script: 28", sfence_marked, 28),
     ("script: 29", persist_nothing, 29),
     ("legal: each done at once", at_once, LEGAL),
-    ("legal: passes other locations", pass_others, LEGAL),
+    ("legal: passes other lines", pass_others, LEGAL),
     ("legal: passes a flush-opt", pass_flush_opts, LEGAL),
     ("legal: flush, other queues", flush_others_filled, LEGAL),
     ("legal: fence, other's marker", fence_others_marker, LEGAL),
@@ -48,16 +49,41 @@ const MAKERS: [(&str, Maker, u8); 23] = [
     ),
 ];
 
+/// The neighbour is another location on the line.
+const SHARING: [(&str, Maker, u8); 6] = [
+    ("script: 26, a neighbour's", barred_beside, 26),
+    ("script: 27, a neighbour's", flush_queue_filled, 27),
+    ("script: 29, a neighbour's gone", persist_beside_gone, 29),
+    ("legal: a neighbour's persist", persist_beside, LEGAL),
+    ("legal: load past a neighbour's", load_past_beside, LEGAL),
+    ("legal: fence, neighbour's gone", fence_beside_gone, LEGAL),
+];
+
 pub fn all(random: &mut Random) -> Vec<Trial> {
-    by_turns(random, &MAKERS, 110, trial)
+    let mut trials = by_turns(random, &MAKERS, 110, trial);
+    trials.extend(by_turns(random, &SHARING, 110, sharing));
+    trials
 }
 
 pub fn some(random: &mut Random) -> Vec<Trial> {
-    by_chance(random, &MAKERS, trial)
+    let mut trials = by_chance(random, &MAKERS, trial);
+    trials.truncate(20);
+    trials.extend(by_turns(random, &SHARING, 2, sharing));
+    trials
 }
 
-fn trial(random: &mut Random, (name, maker, number): &(&str, Maker, u8)) -> Trial {
-    let mut script = Script::new(random);
+fn trial(random: &mut Random, row: &(&str, Maker, u8)) -> Trial {
+    let script = Script::new(random, false);
+    written(random, script, row)
+}
+
+fn sharing(random: &mut Random, row: &(&str, Maker, u8)) -> Trial {
+    let script = Script::new(random, true);
+    written(random, script, row)
+}
+
+fn written(random: &mut Random, mut script: Script, row: &(&str, Maker, u8)) -> Trial {
+    let (name, maker, number) = row;
     maker(random, &mut script);
     let mut place = script.steps.len();
     // Rule 21 needs a thread without instructions left.
@@ -109,10 +135,10 @@ fn fence_marked(random: &mut Random, s: &mut Script) {
     s.own_anywhere(random, &FENCES);
 }
 
-/// Perhaps something of the other thread in the location's queue.
+/// Perhaps something of the other thread in the queue of the location's line.
 pub fn surround(random: &mut Random, s: &mut Script) {
     if random.one_in(2) {
-        s.queue(random, s.other, s.at, &QUEUED);
+        s.queue(random, s.other, s.neighbour, &QUEUED);
     }
 }
 
@@ -135,16 +161,16 @@ fn not_a_flush_opt(random: &mut Random, s: &mut Script) {
     s.shift(s.thread, before);
 }
 
-/// Behind a store of its location: a flush-opt there would be barred.
-fn not_a_flush_opt_same_location(random: &mut Random, s: &mut Script) {
-    s.own(random, &[1, 2, 5, 7]);
+/// Behind a store of its line: a flush-opt there would be barred.
+fn not_a_flush_opt_same_line(random: &mut Random, s: &mut Script) {
+    s.own_beside(random, &[1, 2, 5, 7]);
     s.own(random, &[1, 2, 5]);
     s.shift(s.thread, 1);
 }
 
 fn flush_behind(random: &mut Random, s: &mut Script) {
     let filler = random.pick(&[s.thread, s.other]);
-    s.queue(random, filler, s.at, &[1, 2, 6]);
+    s.queue(random, filler, s.neighbour, &[1, 2, 6]);
     s.own_elsewhere(random, &WAITING);
     s.own(random, &[5]);
     s.shift(s.thread, 1);
@@ -157,13 +183,17 @@ fn sfence_behind(random: &mut Random, s: &mut Script) {
     s.shift(s.thread, 1);
 }
 
-/// A store or flush of its location, or an sfence, before a flush-opt; others around it.
+/// A store or flush of its line, or an sfence, before a flush-opt; others around it.
 fn barred(random: &mut Random, s: &mut Script) {
+    barred_by(random, s, &[1, 2, 5, 7]);
+}
+
+pub fn barred_by(random: &mut Random, s: &mut Script, operations: &[u8]) {
     let (before, between) = (random.between(0, 1), random.between(0, 2));
     for _ in 0..before {
         s.own_elsewhere(random, &[1, 2, 5, 6]);
     }
-    s.own(random, &[1, 2, 5, 7]);
+    s.own_beside(random, operations);
     for _ in 0..between {
         s.own_elsewhere(random, &[1, 2, 5, 6]);
     }
@@ -173,7 +203,7 @@ fn barred(random: &mut Random, s: &mut Script) {
 
 fn flush_queue_filled(random: &mut Random, s: &mut Script) {
     let filler = random.pick(&[s.thread, s.other]);
-    s.queue(random, filler, s.at, &[1, 2, 4, 6, 6]);
+    s.queue(random, filler, s.neighbour, &[1, 2, 4, 6, 6]);
     s.own(random, &[5]);
     s.shift(s.thread, 0);
 }

@@ -1,7 +1,7 @@
 //! The start asked for: of cases as they were read, of the empty one, and of cases changed in
 //! memory.
 
-use super::cases::{change, change_in, run_to_change};
+use super::cases::{change, change_in, run_to_change, LINES};
 use crate::judge::machine::judge::LEGAL;
 use crate::streams::cases::generate::faults;
 use crate::streams::machine::frame::{Job, Trial, MOST_INPUT};
@@ -35,8 +35,9 @@ fn changed(random: &mut Random) -> Trial {
         job: Job::Start,
         ..run_to_change(random)
     };
-    match random.below(3) {
+    match random.below(4) {
         0 => change(random, &mut trial),
+        3 => change_in(random, &mut trial, LINES.0, LINES.1),
         1 => change_in(random, &mut trial, SHAPE.0, SHAPE.1),
         _ => change_in(random, &mut trial, FIRST_CONTENTS.0, FIRST_CONTENTS.1),
     }

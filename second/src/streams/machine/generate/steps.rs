@@ -4,6 +4,7 @@ use super::moves::*;
 use super::programs::*;
 use super::runs::*;
 use super::scene::*;
+use super::shared::*;
 use super::{by_chance, by_turns};
 use crate::judge::case::Step;
 use crate::judge::machine::judge::LEGAL;
@@ -16,7 +17,7 @@ use crate::streams::random::Random;
 type Maker = fn(&mut Random) -> (Scene, Step);
 
 /// Family, its maker, the number it must be answered.
-const MAKERS: [(&str, Maker, u8); 22] = [
+const MAKERS: [(&str, Maker, u8); 26] = [
     ("step: 21", none_left, 21),
     ("step: 22", |random| fence(random, (1, 7), false), 22),
     ("step: 22+23", |random| fence(random, (1, 7), true), 22),
@@ -47,6 +48,14 @@ const MAKERS: [(&str, Maker, u8); 22] = [
     ("step: legal passing", passing, LEGAL),
     ("step: legal sfence", |r| first_sfence(r, false), LEGAL),
     ("step: legal persist", |r| persist_of(r, (1, 32)), LEGAL),
+    ("step: 26, a neighbour's", barred_beside, 26),
+    ("step: 27, a neighbour's", filled_beside, 27),
+    ("step: load past a neighbour's", |r| look_past(r, 3), LEGAL),
+    (
+        "step: exchange past a neighbour's",
+        |r| look_past(r, 4),
+        LEGAL,
+    ),
 ];
 
 pub fn all(random: &mut Random) -> Vec<Trial> {
@@ -155,6 +164,6 @@ fn issue_of(random: &mut Random, operations: &[u8]) -> (Scene, Step) {
 fn persist_of(random: &mut Random, length: (u8, u8)) -> (Scene, Step) {
     let need = Need { length, ..ANY };
     let scene = Scene::new(random, &need);
-    let step = persist(scene.at as u8);
+    let step = persist(scene.line() as u8);
     (scene, step)
 }

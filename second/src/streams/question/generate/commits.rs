@@ -3,6 +3,7 @@
 use super::queries::decided_within;
 use super::wants::want;
 use crate::judge::case::{Case, Instruction};
+use crate::streams::layouts::{self, Layout};
 use crate::streams::machine::generate::programs::{add, instruction, instruction_at};
 use crate::streams::question::frame::Query;
 use crate::streams::random::Random;
@@ -46,9 +47,10 @@ fn draw(random: &mut Random, between: &[(u8, bool)]) -> Vec<Query> {
 }
 
 fn commit(random: &mut Random, between: &[(u8, bool)]) -> Case {
-    let mut case = Case::empty();
-    case.threads = random.between(1, 4);
-    case.locations = random.between(2, 3);
+    let locations = random.between(2, 3);
+    let sharing = random.one_in(2);
+    let layout = Layout::with_lines(random, locations, 1, sharing);
+    let mut case = layouts::case(random.between(1, 4), &layout);
     let thread = usize::from(random.between(0, case.threads - 1));
     let valid = random.between(1, case.locations - 1);
     add(&mut case, thread, Instruction::new(1, 0, 0, 500));

@@ -4,6 +4,7 @@
 use super::queries::decided_within;
 use super::wants::want;
 use crate::judge::case::{Case, Instruction};
+use crate::streams::layouts::{self, Layout};
 use crate::streams::machine::generate::programs::{add, instruction, word};
 use crate::streams::question::frame::Query;
 use crate::streams::random::Random;
@@ -29,9 +30,8 @@ fn draw(random: &mut Random, count: usize, (least, most): (u32, u32)) -> Vec<Vec
 
 /// Each thread but the last takes the word from the next thread's location to its own.
 fn handed(random: &mut Random) -> Case {
-    let mut case = Case::empty();
-    case.threads = random.pick(&[2, 2, 2, 3]);
-    case.locations = case.threads;
+    let threads = random.pick(&[2, 2, 2, 3]);
+    let mut case = layouts::case(threads, &Layout::draw(random, threads));
     let last = case.threads - 1;
     for thread in 0..last {
         let take = random.pick(&[3, 3, 4]);

@@ -2,6 +2,7 @@
 
 use crate::judge::case::{Case, Instruction};
 use crate::judge::whole::program::{code, writes, writes_word};
+use crate::streams::layouts::{self, Layout};
 use crate::streams::machine::generate::programs::{add, instruction, instruction_at, FENCED, LONG};
 use crate::streams::random::Random;
 
@@ -42,9 +43,8 @@ pub type Bent = fn(&mut Random, &mut Case);
 pub const BENTS: [Bent; 5] = [|_, _| {}, contended, alone, idle, handed];
 
 pub fn draw(random: &mut Random, size: &Size, bent: Bent) -> Case {
-    let mut case = Case::empty();
-    case.threads = size.threads;
-    case.locations = size.locations;
+    let layout = Layout::draw(random, size.locations);
+    let mut case = layouts::case(size.threads, &layout);
     let operations: [&[u8]; 6] = [&MIXED, &MIXED, &HANDING, &HANDING, &LONG, &FENCED];
     let operations = random.pick(&operations);
     for thread in 0..usize::from(size.threads) {

@@ -65,7 +65,7 @@ fn an_sfence_that_never_leaves() {
     let behind_store = [store(X, 1), SFENCE];
     check_broken(engine, &[&behind_store], &[WEDGED, LENGTH, WRITTEN_OUT]);
     let text = &found(engine, &[&[SFENCE], &[load(X, 0)]]).faults[0].text;
-    let place = "program [0, 0] {sfence} {r0 = x0}: behind 'I0 I1': words [0, ";
+    let place = "program [0, 0] lines [0, 1] {sfence} {r0 = x0}: behind 'I0 I1': words [0, ";
     assert!(
         text.starts_with(&format!("{WEDGED}: not so of {place}")),
         "{text}"
@@ -97,7 +97,7 @@ fn a_persist_that_takes_the_newest() {
     let engine = Engine {
         advance: |case, state, step| {
             if step.code == PERSIST {
-                let queue = &mut state.queues[usize::from(step.location)];
+                let queue = &mut state.queues[usize::from(step.line)];
                 let used = usize::from(queue.count);
                 queue.places[..used].rotate_right(1);
             }

@@ -1,0 +1,178 @@
+//! Sorts of frames of cases that are told by the frame and its answer.
+
+use super::answer::Answer;
+use super::frame::{Frame, FIELDS_END};
+use crate::judge::case::{OWN_LINES, TOLD_LINES};
+use crate::judge::form::fits;
+use crate::streams::tally::{sort, Sort};
+
+/// Accepted and written again as it was read.
+pub fn rewritten(frame: &Frame, answer: &Answer) -> bool {
+    answer.reading.number == 0 && !changes(frame)
+}
+
+pub fn changes(frame: &Frame) -> bool {
+    (1..FIELDS_END).contains(&frame.field)
+}
+
+fn length_in(frame: &Frame, answer: &Answer, least: usize, most: usize) -> bool {
+    rewritten(frame, answer) && (least..=most).contains(&frame.input.len())
+}
+
+/// As many bytes from one byte earlier on are others.
+fn shows_its_place(input: &[u8], offset: usize) -> bool {
+    let within = (1..input.len()).contains(&offset);
+    within && input[offset - 1..input.len() - 1] != input[offset..]
+}
+
+pub const SORTS: [Sort<fn(&Frame, &Answer) -> bool>; 47] = [
+    sort("written: 0", 500, |_, a| a.number == 0),
+    sort("written: 31", 500, |_, a| a.number == 31),
+    sort("written: 32", 500, |_, a| a.number == 32),
+    sort("field changed: 32", 500, |f, a| {
+        changes(f) && a.number == 32
+    }),
+    sort("field changed: readable", 500, |f, a| {
+        changes(f) && a.changed != a.reading.case && a.number != 32
+    }),
+    sort("field set to what it holds", 500, |f, a| {
+        changes(f) && a.changed == a.reading.case
+    }),
+    sort("field of the empty case changed", 100, |f, a| {
+        changes(f) && a.reading.number != 0
+    }),
+    sort("field beyond all fields", 500, |f, _| f.field >= FIELDS_END),
+    sort("wanted set, word 0, readable", 20, |f, a| {
+        (143..151).contains(&f.field) && f.value != 0 && a.changed != a.reading.case && {
+            a.number == 0 && a.changed.want[f.field as usize - 143] == 0
+        }
+    }),
+    sort("want word where not wanted", 20, |f, a| {
+        (151..159).contains(&f.field) && !a.changed.wanted[f.field as usize - 151] && f.value != 0
+    }),
+    sort("version 1 to 2, readable", 30, |f, a| {
+        of_version(f, a, OWN_LINES) && a.changed.version == TOLD_LINES && fits(&a.changed)
+    }),
+    sort("version 2 to 1, readable", 30, |f, a| {
+        of_version(f, a, TOLD_LINES) && a.changed.version == OWN_LINES && fits(&a.changed)
+    }),
+    sort("version 2 to 1: 32", 30, |f, a| {
+        of_version(f, a, TOLD_LINES) && a.changed.version == OWN_LINES && a.number == 32
+    }),
+    sort("version to no version: 32", 20, |f, a| {
+        f.field == 548 && !(1..=2).contains(&a.changed.version) && a.number == 32
+    }),
+    sort("number of lines changed: 32", 30, |f, a| {
+        f.field == 549 && a.changed != a.reading.case && a.number == 32
+    }),
+    sort("line changed, readable", 30, |f, a| {
+        of_line(f, a, true) && a.changed != a.reading.case && fits(&a.changed)
+    }),
+    sort("line changed, version 1: 32", 30, |f, a| {
+        of_line(f, a, true) && a.changed.version == OWN_LINES && a.number == 32
+    }),
+    sort("line changed, version 2: 32", 30, |f, a| {
+        of_line(f, a, true) && a.changed.version == TOLD_LINES && a.number == 32
+    }),
+    sort("line behind the locations: 32", 30, |f, a| {
+        of_line(f, a, false) && a.changed != a.reading.case && a.number == 32
+    }),
+    sort("accepted, 8 bytes", 5, |f, a| length_in(f, a, 8, 8)),
+    sort("accepted, 9 to 99 bytes", 100, |f, a| {
+        length_in(f, a, 9, 99)
+    }),
+    sort("accepted, 100 to 499 bytes", 100, |f, a| {
+        length_in(f, a, 100, 499)
+    }),
+    sort("accepted, 500 to 1,327 bytes", 100, |f, a| {
+        length_in(f, a, 500, 1327)
+    }),
+    sort("accepted, 1,328 bytes", 5, |f, a| {
+        length_in(f, a, 1328, 1328)
+    }),
+    sort("accepted, 1,336 bytes", 5, |f, a| {
+        length_in(f, a, 1336, 1336)
+    }),
+    sort("room just enough", 100, |f, a| {
+        rewritten(f, a) && f.room as usize == f.input.len()
+    }),
+    sort("room more than enough", 100, |f, a| {
+        rewritten(f, a) && f.room as usize > f.input.len()
+    }),
+    sort("room one byte short", 100, |f, a| {
+        rewritten(f, a) && f.room as usize + 1 == f.input.len()
+    }),
+    sort("room 0", 100, |f, _| f.room == 0),
+    sort("room 2,048", 20, |f, _| f.room == 2048),
+    sort("input empty", 5, |f, _| f.input.is_empty()),
+    sort("input above 1,352 bytes", 100, |f, _| f.input.len() > 1352),
+    sort("input of 65,536 bytes", 12, |f, _| f.input.len() == 65536),
+    sort("faulty head at 1,328", 50, |_, a| {
+        a.reading.number != 0 && a.reading.offset == 1328
+    }),
+    sort("faulty head at 1,336", 50, |_, a| {
+        a.reading.number != 0 && a.reading.offset == 1336
+    }),
+    sort("refused, nothing unread", 5, |_, a| {
+        a.reading.number != 0 && a.unread.is_empty()
+    }),
+    sort("unread: 1 to 2,048 bytes", 5000, |_, a| {
+        (1..=2048).contains(&a.unread.len())
+    }),
+    sort("unread: above 2,048 bytes", 80, |_, a| {
+        a.unread.len() > 2048
+    }),
+    sort("unread part tells its place", 5000, |f, a| {
+        shows_its_place(&f.input, a.reading.offset)
+    }),
+    sort("3 in document 01, now 1", 100, |_, a| now(a, 1)),
+    sort("3 in document 01, now 4", 100, |_, a| now(a, 4)),
+    sort("3 in document 01, now 5", 100, |_, a| now(a, 5)),
+    sort("3 in document 01, now 8", 100, |_, a| now(a, 8)),
+    sort("3 in document 01, again 3", 100, |_, a| now(a, 3)),
+    sort("5 in document 01, now 3: version 2", 10, |_, a| {
+        a.reading.number == 3 && a.unread.get(..6) == Some(&[4, 0, 1, 0, 2, 0])
+    }),
+    sort("8 for a line 255", 20, |_, a| {
+        let lines = header(a).and_then(|bytes| bytes.get(8..));
+        a.reading.number == 8 && lines.map_or(false, |lines| lines.contains(&255))
+    }),
+    sort("5 for a location that is no line", 8, |f, a| {
+        a.reading.number == 5 && names_no_line(f, a)
+    }),
+];
+
+/// The frame sets the version of a case that was read in that version.
+fn of_version(frame: &Frame, answer: &Answer, version: u16) -> bool {
+    let reading = &answer.reading;
+    frame.field == 548 && reading.number == 0 && reading.case.version == version
+}
+
+/// The frame sets the line of a location that the program has, or of one that it lacks.
+fn of_line(frame: &Frame, answer: &Answer, has: bool) -> bool {
+    let of_line = (550..FIELDS_END).contains(&frame.field);
+    of_line && (frame.field - 550 < u32::from(answer.changed.locations)) == has
+}
+
+/// The whole program record that was refused, if it is one.
+fn header(answer: &Answer) -> Option<&[u8]> {
+    let bytes = answer.unread.get(..4).filter(|head| head[2..] == [1, 0])?;
+    let length = usize::from(u16::from_le_bytes([bytes[0], bytes[1]]));
+    answer.unread.get(..4 + length)
+}
+
+/// Refused with that number is a program record whose length document 01 did not know.
+fn now(answer: &Answer, number: u8) -> bool {
+    let head = answer.unread.get(..4).unwrap_or(&[]);
+    let told = matches!(head, [5..=12, 0, 1, 0]);
+    told && answer.reading.number == number
+}
+
+/// Refused is a persist whose number is that of a location, but of no line.
+fn names_no_line(frame: &Frame, answer: &Answer) -> bool {
+    let before = crate::judge::reading::read(&frame.input[..answer.reading.offset]).case;
+    match answer.unread.get(..8) {
+        Some(&[4, 0, 6, 0, _, 2, _, line]) => (before.lines..before.locations).contains(&line),
+        _ => false,
+    }
+}

@@ -1,0 +1,90 @@
+//! Single steps by construction on states in which another location of the line decides.
+
+use super::programs::instruction_at;
+use super::scene::*;
+use crate::judge::case::Step;
+use crate::judge::machine::state::Entry;
+use crate::judge::machine::steps::{issue, shift};
+use crate::streams::layouts;
+use crate::streams::random::Random;
+
+/// A scene whose location is not alone on its line, and another location there.
+fn scene(random: &mut Random, need: &Need) -> (Scene, u8) {
+    loop {
+        let scene = Scene::new(random, need);
+        let beside = layouts::neighbour(random, &scene.case, scene.at);
+        if beside != scene.at {
+            return (scene, beside);
+        }
+    }
+}
+
+/// Before the flush-opt stand flush-opts, and a store or a flush of the neighbour.
+pub fn barred_beside(random: &mut Random) -> (Scene, Step) {
+    let need = Need {
+        waiting: (2, 8),
+        ..ANY
+    };
+    let (mut scene, location) = scene(random, &need);
+    let (own, locations) = (scene.at, scene.case.locations);
+    let word = super::programs::word(random);
+    let entries = scene.entries();
+    let position = 1 + random.below(entries.len() - 1);
+    for entry in &mut entries[..position] {
+        *entry = Entry::FlushOpt(random.between(0, locations - 1));
+    }
+    let bar = random.pick(&[Entry::Store { location, word }, Entry::Flush(location)]);
+    entries[random.below(position)] = bar;
+    entries[position] = Entry::FlushOpt(own);
+    let step = shift(scene.thread as u8, position as u8);
+    (scene, step)
+}
+
+/// The neighbour takes the place of the location in all writes of the queue.
+fn hand_over(scene: &mut Scene, beside: u8) {
+    let (own, line) = (scene.at, scene.line());
+    for held in &mut scene.state.queues[line].places {
+        if held.location() == Some(own) {
+            held.mark = beside;
+        }
+    }
+}
+
+/// The flush's location has no write in the queue, but the neighbour has.
+pub fn filled_beside(random: &mut Random) -> (Scene, Step) {
+    let need = Need {
+        waiting: (1, 8),
+        length: (1, 32),
+        ..ANY
+    };
+    let (mut scene, beside) = scene(random, &need);
+    hand_over(&mut scene, beside);
+    scene.any_held(random).mark = beside;
+    let own = scene.at;
+    scene.entries()[0] = Entry::Flush(own);
+    let step = shift(scene.thread as u8, 0);
+    (scene, step)
+}
+
+/// The newest write is the neighbour's; the location has one before it, or none.
+pub fn look_past(random: &mut Random, operation: u8) -> (Scene, Step) {
+    let need = Need {
+        unissued: (1, 8),
+        waiting: (0, 0),
+        length: (2, 32),
+        ..ANY
+    };
+    let (mut scene, beside) = scene(random, &need);
+    scene.set_next(instruction_at(random, operation, scene.at));
+    scene.strip();
+    hand_over(&mut scene, beside);
+    let (own, line) = (scene.at, scene.line());
+    let queue = &mut scene.state.queues[line];
+    let last = usize::from(queue.count) - 1;
+    queue.places[last].mark = beside;
+    if random.one_in(2) {
+        queue.places[random.below(last)].mark = own;
+    }
+    let step = issue(scene.thread as u8);
+    (scene, step)
+}
