@@ -25,6 +25,7 @@ const USAGE: &str = "usage: second answer | second generate SEED COUNT | second 
                      or machine-, question- or whole- in front of the mode, or second question-runs, \
                      or second machine-judged, \
                      or second text-generate SEED COUNT FOLDER | second text-counts FOLDER | \
+                     second text-mistakes SEED COUNT FOLDER | \
                      second text-frames FOLDER BUDGET | second text-judge-frames FOLDER";
 
 type Stream = BufReader<StdinLock<'static>>;
@@ -87,6 +88,11 @@ fn of_folders(words: &[&str]) -> io::Result<()> {
     match words[..] {
         ["text-generate", seed, count, folder] => {
             files::generate(number(seed)?, number(count)?, Path::new(folder))
+        }
+        ["text-mistakes", seed, count, folder] => {
+            let places = files::mistaken(number(seed)?, number(count)?, Path::new(folder))?;
+            print!("{places}");
+            Ok(())
         }
         ["text-counts", folder] => {
             let mut counts = TextCounts::new();

@@ -12,8 +12,8 @@ pub const fn sort<F: Copy>(name: &'static str, least: u64, told: F) -> Sort<F> {
 }
 
 pub struct Row {
-    name: String,
-    count: u128,
+    pub name: String,
+    pub count: u128,
     least: u64,
 }
 

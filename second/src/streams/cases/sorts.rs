@@ -25,7 +25,7 @@ fn shows_its_place(input: &[u8], offset: usize) -> bool {
     within && input[offset - 1..input.len() - 1] != input[offset..]
 }
 
-pub const SORTS: [Sort<fn(&Frame, &Answer) -> bool>; 47] = [
+pub const SORTS: [Sort<fn(&Frame, &Answer) -> bool>; 52] = [
     sort("written: 0", 500, |_, a| a.number == 0),
     sort("written: 31", 500, |_, a| a.number == 31),
     sort("written: 32", 500, |_, a| a.number == 32),
@@ -50,13 +50,13 @@ pub const SORTS: [Sort<fn(&Frame, &Answer) -> bool>; 47] = [
     sort("want word where not wanted", 20, |f, a| {
         (151..159).contains(&f.field) && !a.changed.wanted[f.field as usize - 151] && f.value != 0
     }),
-    sort("version 1 to 2, readable", 30, |f, a| {
+    sort("version 1 to 2, readable", 20, |f, a| {
         of_version(f, a, OWN_LINES) && a.changed.version == TOLD_LINES && fits(&a.changed)
     }),
     sort("version 2 to 1, readable", 30, |f, a| {
         of_version(f, a, TOLD_LINES) && a.changed.version == OWN_LINES && fits(&a.changed)
     }),
-    sort("version 2 to 1: 32", 30, |f, a| {
+    sort("version 2 to 1: 32", 20, |f, a| {
         of_version(f, a, TOLD_LINES) && a.changed.version == OWN_LINES && a.number == 32
     }),
     sort("version to no version: 32", 20, |f, a| {
@@ -107,7 +107,7 @@ pub const SORTS: [Sort<fn(&Frame, &Answer) -> bool>; 47] = [
     sort("input empty", 5, |f, _| f.input.is_empty()),
     sort("input above 1,352 bytes", 100, |f, _| f.input.len() > 1352),
     sort("input of 65,536 bytes", 12, |f, _| f.input.len() == 65536),
-    sort("faulty head at 1,328", 50, |_, a| {
+    sort("faulty head at 1,328", 40, |_, a| {
         a.reading.number != 0 && a.reading.offset == 1328
     }),
     sort("faulty head at 1,336", 50, |_, a| {
@@ -132,6 +132,18 @@ pub const SORTS: [Sort<fn(&Frame, &Answer) -> bool>; 47] = [
     sort("3 in document 01, again 3", 100, |_, a| now(a, 3)),
     sort("5 in document 01, now 3: version 2", 10, |_, a| {
         a.reading.number == 3 && a.unread.get(..6) == Some(&[4, 0, 1, 0, 2, 0])
+    }),
+    sort("header cut in version 1", 30, |_, a| is_cut(a, OWN_LINES)),
+    sort("header cut in version 2", 30, |_, a| is_cut(a, TOLD_LINES)),
+    sort("8 for the lines 0, 2", 1, |_, a| {
+        a.reading.number == 8 && has_lines(a, &[0, 2])
+    }),
+    sort("8 for the lines 1, 0", 1, |_, a| {
+        a.reading.number == 8 && has_lines(a, &[1, 0])
+    }),
+    sort("3 for 3 lines of 2 locations", 1, |_, a| {
+        let bytes = header(a).filter(|bytes| bytes.len() == 11);
+        a.reading.number == 3 && bytes.map_or(false, |bytes| bytes[7] == 2)
     }),
     sort("8 for a line 255", 20, |_, a| {
         let lines = header(a).and_then(|bytes| bytes.get(8..));
@@ -159,6 +171,17 @@ fn header(answer: &Answer) -> Option<&[u8]> {
     let bytes = answer.unread.get(..4).filter(|head| head[2..] == [1, 0])?;
     let length = usize::from(u16::from_le_bytes([bytes[0], bytes[1]]));
     answer.unread.get(..4 + length)
+}
+
+/// Refused is a program record that begins in that version and is cut.
+fn is_cut(answer: &Answer, version: u16) -> bool {
+    let begins = answer.unread.get(2..6);
+    answer.reading.number == 1 && begins == Some(&[1, 0, version as u8, 0])
+}
+
+/// Refused is a program record with just these lines.
+fn has_lines(answer: &Answer, lines: &[u8]) -> bool {
+    header(answer).and_then(|bytes| bytes.get(8..)) == Some(lines)
 }
 
 /// Refused with that number is a program record whose length document 01 did not know.

@@ -50,7 +50,7 @@ pub const SHARING: [Sort<fn(&Trial, &Answer) -> bool>; 13] = [
     sort("33 for the mark of no thread", 20, |t, a| {
         bears(t, a, |case, mark| mark == MARKER + case.threads)
     }),
-    sort("5 for a location that is no line", 30, |t, a| {
+    sort("5 for a location that is no line", 20, |t, a| {
         let named = |step: &Step| (a.case.lines..a.case.locations).contains(&step.line);
         stepped(t, a, 5).map_or(false, |(step, _)| step.code == PERSIST && named(step))
     }),

@@ -55,7 +55,7 @@ fn longest(random: &mut Random) -> Vec<Case> {
     files.map(|file| read(&file).case).collect()
 }
 
-fn sketched(random: &mut Random, count: usize) -> Vec<Case> {
+pub fn sketched(random: &mut Random, count: usize) -> Vec<Case> {
     let files = (0..count).map(|_| Sketch::any(random).bytes());
     files.map(|file| read(&file).case).collect()
 }

@@ -47,7 +47,7 @@ impl Counts<Written> for TextCounts {
     fn rows(&self) -> Vec<Row> {
         let sorts = SORTS.iter().chain(&FREEDOMS).zip(self.sorts);
         let rows = sorts.map(|(sort, count)| row(sort.name, count, sort.least));
-        rows.chain(self.layouts.rows(20, 1..=8)).collect()
+        rows.chain(self.layouts.rows(10, 1..=8)).collect()
     }
 
     fn frames(&self) -> u64 {

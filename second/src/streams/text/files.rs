@@ -1,6 +1,7 @@
 //! The folder of written cases: NNNN.bytes, NNNN.plain and NNNN.txt for each, and the frames made of it.
 
 use super::cases;
+use super::mistakes;
 use super::written::Written;
 use crate::judge::ask::RECORD;
 use crate::judge::case::MOST_STEPS;
@@ -12,11 +13,7 @@ use std::path::{Path, PathBuf};
 
 /// Writes so many cases, numbered from 0, into a folder that is empty or not there yet.
 pub fn generate(seed: u64, count: u64, folder: &Path) -> io::Result<()> {
-    fs::create_dir_all(folder)?;
-    if fs::read_dir(folder)?.next().is_some() {
-        let what = format!("{} is not empty", folder.display());
-        return Err(io::Error::new(io::ErrorKind::AlreadyExists, what));
-    }
+    make(folder)?;
     // Names of one length, so that their order is that of the numbers.
     let width = count.saturating_sub(1).to_string().len().max(4);
     let mut numbers = 0..count;
@@ -24,6 +21,27 @@ pub fn generate(seed: u64, count: u64, folder: &Path) -> io::Result<()> {
         let mut pairs = part.iter().zip(numbers.by_ref());
         pairs.try_for_each(|(one, number)| put(&folder.join(format!("{number:0width$}")), one))
     })
+}
+
+fn make(folder: &Path) -> io::Result<()> {
+    fs::create_dir_all(folder)?;
+    if fs::read_dir(folder)?.next().is_some() {
+        let what = format!("{} is not empty", folder.display());
+        return Err(io::Error::new(io::ErrorKind::AlreadyExists, what));
+    }
+    Ok(())
+}
+
+/// Writes texts with a mistake each into such a folder; their names, each with the mistake's line.
+pub fn mistaken(seed: u64, count: u64, folder: &Path) -> io::Result<String> {
+    make(folder)?;
+    let mut places = String::new();
+    for (number, one) in mistakes::draw(seed, count as usize).iter().enumerate() {
+        let name = format!("{number:04}.txt");
+        fs::write(folder.join(&name), &one.text)?;
+        places += &format!("{name}:{}\n", one.line);
+    }
+    Ok(places)
 }
 
 fn put(stem: &Path, one: &Written) -> io::Result<()> {

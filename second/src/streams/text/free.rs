@@ -1,5 +1,6 @@
 //! A text that takes the freedoms of the grammar at random.
 
+use super::mistakes::Place;
 use super::names;
 use super::statements::*;
 use crate::judge::case::Case;
@@ -73,24 +74,55 @@ struct Pen<'a> {
 }
 
 pub fn text(random: &mut Random, case: &Case) -> String {
-    let habits = Habits::draw(random);
-    let names = names::draw(random, case.locations);
-    let mut pen = Pen {
-        random,
-        habits,
-        names,
-        out: String::new(),
-    };
+    let mut pen = Pen::new(random, case);
     pen.line(&locations(case));
     for line in pen.ordered(case).concat() {
         pen.line(&line);
     }
-    pen.fill();
-    pen.leave_open();
-    pen.out
+    pen.end()
 }
 
-impl Pen<'_> {
+/// The text with a statement more, and the line where that stands, from 1.
+pub fn mistaken(
+    random: &mut Random,
+    case: &Case,
+    place: Place,
+    statement: &[Word],
+) -> (String, usize) {
+    let mut pen = Pen::new(random, case);
+    let mut all = [vec![locations(case)], pen.ordered(case).concat()].concat();
+    let at = match place {
+        Place::BeforeLocations => 0,
+        Place::BehindLocations => 1,
+        Place::Last => all.len(),
+    };
+    all.insert(at, statement.to_vec());
+    let mut line = 0;
+    for (number, words) in all.iter().enumerate() {
+        pen.line(words);
+        if number == at {
+            line = pen.out.matches('\n').count();
+        }
+    }
+    (pen.end(), line)
+}
+
+impl<'a> Pen<'a> {
+    fn new(random: &'a mut Random, case: &Case) -> Pen<'a> {
+        Pen {
+            habits: Habits::draw(random),
+            names: names::draw(random, case.locations),
+            random,
+            out: String::new(),
+        }
+    }
+
+    fn end(mut self) -> String {
+        self.fill();
+        self.leave_open();
+        self.out
+    }
+
     fn taken(&mut self, eighths: usize) -> bool {
         self.random.below(8) < eighths
     }

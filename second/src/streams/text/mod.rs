@@ -6,6 +6,7 @@ pub mod counts;
 pub mod files;
 mod free;
 mod freedoms;
+pub mod mistakes;
 mod names;
 mod plain;
 mod sight;

@@ -10,6 +10,8 @@ use crate::judge::machine::steps::{all_steps, issue, persist, printed, shift};
 use crate::judge::reading::read;
 use crate::judge::writing::{encode, write};
 use crate::streams::layouts::{self, Layout};
+use crate::streams::machine::generate::runs::runs_for_tests;
+use crate::streams::random::Random;
 use crate::tests::by_hand::*;
 
 /// x and y on one line, z on the other.
@@ -259,6 +261,28 @@ fn loads_and_exchanges_look_for_their_own_location() {
     own.first[0] = 70;
     own.set_run(&[issue(0), issue(0)]);
     assert_eq!(judge(&own).state.registers[0][0], 70);
+}
+
+/// A line each is the same in both versions, and the version is kept.
+#[test]
+fn lines_of_their_own_are_told_or_not() {
+    let mut tried = 0;
+    for (case, steps) in runs_for_tests(&mut Random::new(9), 300) {
+        if case.lines < case.locations {
+            continue;
+        }
+        let mut own = layouts::apart(&case);
+        own.set_run(&steps);
+        let mut told = own.clone();
+        told.version = 2;
+        let (number, place) = (judge(&own).number, judge(&own).place);
+        assert_eq!((judge(&told).number, judge(&told).place), (number, place));
+        assert_eq!(judge(&told).state, judge(&own).state);
+        assert_eq!(read(&encode(&told)).case, told);
+        assert_eq!(read(&encode(&own)).case, own);
+        tried += 1;
+    }
+    assert!(tried > 100, "{tried}");
 }
 
 /// The number and the run shown, within a million runs.

@@ -1,6 +1,7 @@
 //! Tests of the streams.
 
 mod cases;
+mod layouts;
 mod machine;
 mod question;
 mod text;

@@ -21,7 +21,7 @@ use crate::streams::random::Random;
 /// empty case.
 pub fn refused(random: &mut Random) -> Vec<Trial> {
     let mut trials = Vec::new();
-    while trials.len() < 1400 {
+    while trials.len() < 2000 {
         for frame in faults::some(random) {
             let mark = mark_of(&frame).filter(|_| frame.input.len() <= MOST_INPUT as usize);
             if let Some(mark) = mark {
@@ -42,7 +42,7 @@ pub fn refused(random: &mut Random) -> Vec<Trial> {
 /// The longest files, alone and with more behind them up to the longest input; and no bytes.
 pub fn longest(random: &mut Random) -> Vec<Trial> {
     let mut trials = Vec::new();
-    for _ in 0..40 {
+    for _ in 0..60 {
         let file = longest_file(random);
         let step = encode_steps(random);
         let more = MOST_INPUT as usize - file.len();

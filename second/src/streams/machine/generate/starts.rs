@@ -14,7 +14,7 @@ const SHAPE: (u32, u32) = (1, 15);
 const FIRST_CONTENTS: (u32, u32) = (3, 11);
 
 pub fn all(random: &mut Random) -> Vec<Trial> {
-    (0..60).flat_map(|_| some(random)).collect()
+    (0..80).flat_map(|_| some(random)).collect()
 }
 
 pub fn some(random: &mut Random) -> Vec<Trial> {

@@ -12,7 +12,10 @@ use crate::judge::whole::confirm::{confirm, Found, ANY_THREAD, BEYOND, WEIGHTS, 
 use crate::judge::whole::engine::{Engine, OURS};
 use crate::judge::whole::program::Program;
 use crate::judge::whole::sentences::*;
-use crate::tests::by_hand::{exchange, flush_opt, load, program, store, MFENCE, SFENCE, X};
+use crate::streams::layouts::Layout;
+use crate::tests::by_hand::{
+    exchange, flush_opt, laid_out, load, program, store, MFENCE, SFENCE, X, Y,
+};
 
 fn found(engine: Engine, code: &[&[Instruction]]) -> Found {
     confirm(&engine, &Program::of(&program(code)), MOST)
@@ -111,6 +114,28 @@ fn a_persist_that_takes_the_newest() {
     // Of one store each, any order is as good.
     let apart = found(engine, &[&[store(X, 1)], &[store(X, 2)]]);
     assert!(sentences(&apart).is_empty());
+}
+
+#[test]
+fn a_write_that_goes_to_its_lines_first_location() {
+    let engine = Engine {
+        advance: |case, state, step| {
+            if step.code == PERSIST {
+                let oldest = &mut state.queues[usize::from(step.line)].places[0];
+                oldest.mark = oldest.location().map_or(oldest.mark, |_| X);
+            }
+            advance(case, state, step);
+        },
+        ..OURS
+    };
+    let on_one_line = |code: &[Instruction]| {
+        let case = laid_out(&Layout::told(&[0, 0]), &[code]);
+        sentences(&confirm(&engine, &Program::of(&case), MOST))
+    };
+    let mut astray = [LAST_WRITE, ONE_WRITER, NO_WRITER, ANY_THREAD];
+    astray.sort_unstable();
+    assert_eq!(on_one_line(&[store(Y, 1)]), astray);
+    assert!(on_one_line(&[store(X, 1), flush_opt(Y)]).is_empty());
 }
 
 #[test]

@@ -9,11 +9,12 @@ use crate::judge::whole::confirm::{confirm, Found};
 use crate::judge::whole::engine::OURS;
 use crate::judge::whole::point::Point;
 use crate::judge::whole::program::Program;
+use crate::streams::layouts::Layout;
 use crate::streams::machine::raw;
 use crate::streams::random::Random;
 use crate::streams::whole::generate::programs::{draw, BENTS, SIZES};
 use crate::tests::by_hand::{
-    at, exchange, flush, flush_opt, load, program, store, MFENCE, SFENCE, X, Y,
+    at, exchange, flush, flush_opt, laid_out, load, program, store, MFENCE, SFENCE, X, Y,
 };
 use std::collections::BTreeSet;
 
@@ -27,7 +28,11 @@ fn sentences(found: &Found) -> Vec<&'static str> {
 
 /// States, steps, states without a step; runs that cannot go on, all runs.
 fn check_numbers(code: &[&[Instruction]], states: [u64; 3], runs: [u128; 2]) -> Found {
-    let found = confirm(&OURS, &Program::of(&program(code)), MOST);
+    check_case(&program(code), states, runs)
+}
+
+fn check_case(case: &Case, states: [u64; 3], runs: [u128; 2]) -> Found {
+    let found = confirm(&OURS, &Program::of(case), MOST);
     assert!(sentences(&found).is_empty());
     assert_eq!([found.states, found.steps, found.ends], states);
     assert_eq!([found.finished_runs, found.runs], runs);
@@ -62,6 +67,21 @@ fn two_stores_of_two_threads() {
     assert_eq!((found.contended, found.told_apart), (2, 2));
     assert_eq!(found.won_alone, BTreeSet::from([(0, 0), (0, 1)]));
     assert_eq!((found.memories.len(), found.handed_on), (2, 0));
+}
+
+/// On one line the second persist comes last: before it stand the first move and persist, the second
+/// issue, and the second move behind both issues and the first move, in five orders.
+#[test]
+fn two_stores_on_one_line() {
+    let code = [store(X, 1), store(Y, 2)];
+    let shared = laid_out(&Layout::told(&[0, 0]), &[&code]);
+    let found = check_case(&shared, [10, 12, 1], [5, 22]);
+    assert_eq!(found.shared, 1);
+    // With a line each the second may persist before the first: one state and two runs to an end more.
+    let apart = check_numbers(&[&code], [11, 14, 1], [7, 26]);
+    assert_eq!(apart.shared, 0);
+    let run = Program::of(&shared).carried(0);
+    assert_eq!(printed(&run), "I0 M0.0 P0 I0 M0.0 P0");
 }
 
 /// The load has four places, and reads the new word at the last two of them.
