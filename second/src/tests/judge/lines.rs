@@ -195,6 +195,12 @@ fn flushes_and_flush_opts_wait_for_their_line() {
         );
         assert_eq!(told(&own, &[&[before, flush_opt(Y)]], &barred), (LEGAL, 3));
     }
+    // The other location's number is that of the other line.
+    for before in [store(Y, 500), flush(Y)] {
+        assert_eq!(told(&rows(), &[&[before, flush_opt(X)]], &barred), (26, 2));
+        let passing = told(&rows(), &[&[before, flush_opt(Z)]], &barred);
+        assert_eq!(passing, (LEGAL, 3));
+    }
     let passed = [flush_opt(X), flush_opt(Y)];
     assert_eq!(told(&rows(), &[&passed], &barred), (LEGAL, 3));
     let filled = [issue(0), issue(0), shift(0, 0), shift(0, 0)];
