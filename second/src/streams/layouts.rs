@@ -126,7 +126,7 @@ const KINDS: [Kind; 6] = [
     ("version 2, a line each", |case| {
         told(case) && case.locations > 1 && case.lines == case.locations
     }),
-    ("version 2, shared and own", |case| {
+    ("version 2, some lines shared", |case| {
         told(case) && (2..case.locations).contains(&case.lines)
     }),
     ("version 2, a line comes again", |case| {

@@ -74,19 +74,22 @@ impl Ledger {
             }
             UNDECIDED => known.undecided(sight.query.budget),
             _ => {
-                let mut wrong = None;
-                if known.decided.is_none() {
-                    self.layouts.take(&sight.case);
-                    let apart = with_a_line_each(&sight.case);
-                    self.kept_whole += u64::from((number, apart) == (UNREACHABLE, Some(REACHED)));
-                    // A shared line only takes runs away.
-                    wrong = (number == REACHED && apart == Some(UNREACHABLE))
-                        .then_some("reached, but not where each location has its own line");
-                }
-                known.decided(sight, number).or(wrong)
+                let is_new = known.decided.is_none();
+                let wrong = known.decided(sight, number);
+                wrong.or_else(|| is_new.then(|| self.take_lines(sight)).flatten())
             }
         };
         wrong.or_else(|| self.take_twin(sight, case))
+    }
+
+    /// Takes a case that is decided: a shared line only takes runs away, and may keep a row whole.
+    fn take_lines(&mut self, sight: &Sight) -> Option<&'static str> {
+        let number = sight.answer.reply.number;
+        let apart = with_a_line_each(&sight.case);
+        self.layouts.take(&sight.case);
+        self.kept_whole += u64::from((number, apart) == (UNREACHABLE, Some(REACHED)));
+        let added = (number, apart) == (REACHED, Some(UNREACHABLE));
+        added.then_some("reached, but not where each location has its own line")
     }
 
     /// A frame with the same case, room and budget as the one before has the same line.

@@ -45,10 +45,10 @@ fn layouts_are_told() {
     assert_eq!(told(2, &[0, 0]), one);
     let own = ["a line each", "locations: 2", "lines: 2"];
     assert_eq!(told(2, &[0, 1]), own);
-    let pairs = ["in pairs", "shared and own", "locations: 3", "lines: 2"];
+    let pairs = ["in pairs", "some lines shared", "locations: 3", "lines: 2"];
     assert_eq!(told(2, &[0, 0, 1]), pairs);
     let again = [
-        "shared and own",
+        "some lines shared",
         "a line comes again",
         "locations: 3",
         "lines: 2",

@@ -11,6 +11,7 @@ use crate::streams::tally::Counts;
 use crate::streams::text::cases;
 use crate::streams::text::counts::TextCounts;
 use crate::streams::text::files;
+use crate::streams::text::mistakes;
 use crate::streams::text::written::Written;
 use crate::tests::by_hand::{
     exchange, flush, flush_opt, laid_out, load, store, MFENCE, SFENCE, X, Y,
@@ -348,7 +349,10 @@ fn lines_are_told() {
         all.retain(|name| name != "line ends: LF alone");
         all
     };
-    let shared = ["version 2, shared and own", "version 2, a line comes again"];
+    let shared = [
+        "version 2, some lines shared",
+        "version 2, a line comes again",
+    ];
     let sizes = ["version 2, locations: 4", "version 2, lines: 3"];
     let free = [
         "line behind a thread",
@@ -362,6 +366,41 @@ fn lines_are_told() {
     assert_eq!(of(LINED), [&first[..], &shared, &sizes].concat());
     let later = "persist names a later one of it".to_string();
     assert!(told(&case, &beside).contains(&later) && !told(&case, LINED).contains(&later));
+}
+
+/// The words of a line, its comment left out.
+fn words_of(line: &str) -> Vec<&str> {
+    let said = line.split('#').next().unwrap_or("");
+    said.split_whitespace().collect()
+}
+
+#[test]
+fn mistakes_stand_where_they_are_said() {
+    let all = mistakes::draw(4, 120);
+    assert_eq!(all.len(), 120);
+    for (turn, mistakes::Mistaken { text, line }) in all.iter().enumerate() {
+        let lines: Vec<Vec<&str>> = text.split('\n').map(words_of).collect();
+        let mistaken = &lines[line - 1];
+        let before = &lines[..line - 1];
+        let named = |word: &str| {
+            lines
+                .iter()
+                .any(|words| words.first() == Some(&"locations") && words[1..].contains(&word))
+        };
+        let is_line = |words: &&Vec<&str>| words.first() == Some(&"line");
+        assert!(is_line(&mistaken), "{text}");
+        assert!(match turn % mistakes::MAKERS.len() {
+            0 => mistaken.len() == 3 && mistaken[1] == mistaken[2],
+            1 => before
+                .iter()
+                .filter(is_line)
+                .any(|words| words.contains(&mistaken[1])),
+            2 => mistaken.len() == 2 && !named(mistaken[1]),
+            3 => named(mistaken[1]) && !named(mistaken[2]),
+            4 => mistaken.len() == 1,
+            _ => named(mistaken[1]) && before.iter().all(|words| words.is_empty()),
+        });
+    }
 }
 
 #[test]

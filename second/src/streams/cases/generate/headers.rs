@@ -39,6 +39,11 @@ const FAULTS: [(&str, u8, Spoil); 8] = [
     ("order", 8, disorder),
 ];
 
+/// Places of some of them.
+const OUTSIDE: usize = 2;
+const LENGTH: usize = 6;
+const ORDER: usize = 7;
+
 /// Places in FAULTS: of one fault, or of two.
 fn combinations() -> Vec<Vec<usize>> {
     let mut all: Vec<Vec<usize>> = (0..FAULTS.len()).map(|one| vec![one]).collect();
@@ -46,7 +51,7 @@ fn combinations() -> Vec<Vec<usize>> {
         all.extend((earlier + 1..FAULTS.len()).map(|later| vec![earlier, later]));
     }
     // A length that no header has is not that of the version either.
-    all.retain(|faults| !matches!(faults[..], [2, 6]));
+    all.retain(|faults| faults[..] != [OUTSIDE, LENGTH]);
     all
 }
 
@@ -74,7 +79,7 @@ fn frame(random: &mut Random, faults: &[usize]) -> Frame {
 
 /// The last fault is put in first: what is cut off is so when all else is there.
 fn spoiled(random: &mut Random, faults: &[usize]) -> Header {
-    let disordered = faults.contains(&(FAULTS.len() - 1));
+    let disordered = faults.contains(&ORDER);
     loop {
         let mut header = Header::draw(random);
         for &fault in faults.iter().rev() {

@@ -89,7 +89,7 @@ fn legal_run(random: &mut Random, length: usize) -> Trial {
 }
 
 /// Runs that issue all, then move all, then persist: buffers of eight, and a queue of
-/// thirty-two where there is one location.
+/// thirty-two where there is one line.
 pub fn filled(random: &mut Random) -> Vec<Trial> {
     let buffers = (20..=50).chain([32; 40]);
     let queues = (51..=80).chain([64; 40]);
