@@ -1,16 +1,19 @@
 //! Sorts of frames in which locations share a line, told by the frame and its answer.
 
 use super::answer::Answer;
+use super::counts::changes;
 use super::frame::{Job, Trial};
 use crate::judge::case::{Case, Step};
 use crate::judge::machine::judge::LEGAL;
 use crate::judge::machine::rules::{check, BARRED, ISSUE, PERSIST, QUEUE_NOT_EMPTY};
 use crate::judge::machine::state::{Entry, Held, State, MARKER};
+use crate::judge::reading::read;
 use crate::judge::whole::confirm::is_shared;
+use crate::streams::cases::frame::FIELDS_END;
 use crate::streams::layouts;
 use crate::streams::tally::{sort, Sort};
 
-pub const SHARING: [Sort<fn(&Trial, &Answer) -> bool>; 13] = [
+pub const SHARING: [Sort<fn(&Trial, &Answer) -> bool>; 15] = [
     sort("run to a queue of two locations", 200, |_, a| {
         a.given.is_none() && a.verdict.state.queues.iter().any(is_shared)
     }),
@@ -37,6 +40,12 @@ pub const SHARING: [Sort<fn(&Trial, &Answer) -> bool>; 13] = [
         persisted.map_or(false, |(step, state)| {
             is_shared(&state.queues[usize::from(step.line)])
         })
+    }),
+    sort("a line changed, then judged", 80, |t, a| {
+        is_line_changed(t, a) && matches!(a.verdict.number, LEGAL | 21..=29 | 33)
+    }),
+    sort("a line changed: 32", 50, |t, a| {
+        is_line_changed(t, a) && a.verdict.number == 32
     }),
     sort("33 for mark 127", 20, |t, a| {
         bears(t, a, |_, mark| mark == 127)
@@ -108,6 +117,12 @@ fn filled_by_line(answer: &Answer, step: &Step, state: &State) -> bool {
     let held = state.queues[answer.case.line_of(location)].used().iter();
     let writes: Vec<u8> = held.filter_map(|held| held.location()).collect();
     !writes.is_empty() && !writes.contains(&location)
+}
+
+/// The frame changes the line of a location.
+fn is_line_changed(trial: &Trial, answer: &Answer) -> bool {
+    let of_line = changes(trial) && (550..FIELDS_END).contains(&trial.field);
+    of_line && read(&trial.input).case.line != answer.case.line
 }
 
 /// A state refused by 33, in whose queues stands such a mark.

@@ -121,7 +121,33 @@ pub fn some(random: &mut Random) -> Vec<Trial> {
         change(random, trial);
     }
     trials.extend((0..6).map(|_| damaged(random)));
+    trials.extend((0..3).map(|_| moved_to_another_line(random)));
     trials
+}
+
+/// The line of a location changed so that the case is readable: neither the line that it leaves nor the
+/// one that it comes to begins with it.
+fn moved_to_another_line(random: &mut Random) -> Trial {
+    loop {
+        let mut trial = if random.one_in(2) {
+            run_to_change(random)
+        } else {
+            steps::some(random).remove(0)
+        };
+        let case = read(&trial.input).case;
+        let ways = (1..usize::from(case.locations)).flat_map(|at| {
+            let before = &case.line[..at];
+            let stays = before.contains(&case.line[at]);
+            let others = before
+                .iter()
+                .filter(move |&&line| stays && line != case.line[at]);
+            others.map(move |&line| (550 + at as u32, line.into()))
+        });
+        if let Some(way) = random.pick_some(&ways.collect::<Vec<(u32, u32)>>()) {
+            (trial.field, trial.value) = way;
+            return trial;
+        }
+    }
 }
 
 pub fn run_to_change(random: &mut Random) -> Trial {
