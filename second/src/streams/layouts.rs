@@ -105,6 +105,13 @@ pub fn on_line(case: &Case, line: usize) -> Vec<u8> {
     all.filter(|&at| case.line_of(at) == line).collect()
 }
 
+/// The locations on all other lines than that one's.
+pub fn elsewhere(case: &Case, at: u8) -> Vec<u8> {
+    let all = 0..case.locations;
+    all.filter(|&other| case.line_of(other) != case.line_of(at))
+        .collect()
+}
+
 /// Another location of its line, or itself where it has none.
 pub fn neighbour(random: &mut Random, case: &Case, at: u8) -> u8 {
     let mut others = on_line(case, case.line_of(at));

@@ -62,6 +62,7 @@ fn neighbours_are_on_the_line() {
     assert_eq!(layouts::on_line(&case, 0), [0, 2, 4]);
     assert_eq!(layouts::on_line(&case, 1), [1]);
     assert!(layouts::on_line(&case, 3).is_empty());
+    assert_eq!(layouts::elsewhere(&case, 2), [1, 3]);
     let mut random = Random::new(1);
     let mut met = BTreeSet::new();
     for _ in 0..50 {

@@ -115,19 +115,13 @@ fn programs() -> Vec<Edge> {
 /// Every length from 3 to 13 of both versions, with each number of locations and lines in order.
 fn lengths() -> Vec<Edge> {
     let mut edges = Vec::new();
-    for (version, locations) in [1, 2]
-        .into_iter()
-        .flat_map(|one| (1..=8).map(move |n| (one, n)))
-    {
-        let right = if version == 2 {
-            4 + usize::from(locations)
-        } else {
-            4
-        };
-        for length in 3..=13 {
-            let mut payload = vec![version, 0, 1, locations];
-            payload.resize(length, 0);
-            edges.push(alone(&payload, or(length == right, 3)));
+    for locations in 1..=8 {
+        for (version, right) in [(1, 4), (2, 4 + usize::from(locations))] {
+            for length in 3..=13 {
+                let mut payload = vec![version, 0, 1, locations];
+                payload.resize(length, 0);
+                edges.push(alone(&payload, or(length == right, 3)));
+            }
         }
     }
     edges
@@ -139,16 +133,7 @@ fn lines() -> Vec<Edge> {
     for (at, seen) in (0..8u8).flat_map(|at| [(at, at), (at, at.min(1)), (at, at.min(2))]) {
         let before = (0..at).map(|one| one.min(seen.saturating_sub(1)));
         let before: Vec<u8> = before.collect();
-        for next in [
-            0,
-            seen.saturating_sub(1),
-            seen,
-            seen + 1,
-            127,
-            128,
-            254,
-            255,
-        ] {
+        for next in [0, seen, seen + 1, 127, 128, 254, 255] {
             let mut payload = [&[2, 0, 1, 8][..], &before, &[next]].concat();
             payload.resize(12, 0);
             edges.push(alone(&payload, or(next <= seen, 8)));

@@ -5,6 +5,7 @@ use super::scene::*;
 use crate::judge::case::Case;
 use crate::judge::machine::state::{Entry, MARKER};
 use crate::judge::refusal::STATE_DOES_NOT_FIT;
+use crate::streams::layouts;
 use crate::streams::machine::frame::Trial;
 use crate::streams::machine::marks::FITS;
 use crate::streams::random::Random;
@@ -108,7 +109,7 @@ fn lacking_line(random: &mut Random, has_location: bool) -> Scene {
     } else {
         |case| case.lines < 8
     };
-    let mut scene = scene_with(random, &need, such);
+    let mut scene = Scene::of_case(random, &need, such);
     let last = if has_location {
         scene.case.locations - 1
     } else {
@@ -124,16 +125,6 @@ fn lacking_line(random: &mut Random, has_location: bool) -> Scene {
 /// Two locations on one line, so that the last location's number is no line's.
 fn shares(case: &Case) -> bool {
     case.lines < case.locations
-}
-
-/// Drawn until its case is such a one.
-fn scene_with(random: &mut Random, need: &Need, such: fn(&Case) -> bool) -> Scene {
-    loop {
-        let scene = Scene::new(random, need);
-        if such(&scene.case) {
-            return scene;
-        }
-    }
 }
 
 /// One entry names a location, drawn from the number of them.
@@ -168,10 +159,8 @@ fn bears_mark(random: &mut Random, draw: fn(&mut Random, &Case) -> u8) -> Scene 
 }
 
 fn write_of_another_line(random: &mut Random) -> Scene {
-    let mut scene = scene_with(random, &QUEUED, |case| case.lines > 1);
-    let mut others: Vec<u8> = (0..scene.case.locations).collect();
-    others.retain(|&other| scene.case.line_of(other) != scene.line());
-    let mark = random.pick(&others);
+    let mut scene = Scene::of_case(random, &QUEUED, |case| case.lines > 1);
+    let mark = random.pick(&layouts::elsewhere(&scene.case, scene.at));
     scene.any_held(random).mark = mark;
     scene
 }
@@ -179,7 +168,7 @@ fn write_of_another_line(random: &mut Random) -> Scene {
 /// A write of the program's last location, in its line's queue.
 fn of_last_location(random: &mut Random, such: fn(&Case) -> bool) -> Scene {
     loop {
-        let mut scene = scene_with(random, &QUEUED, such);
+        let mut scene = Scene::of_case(random, &QUEUED, such);
         if scene.at + 1 == scene.case.locations {
             let mark = scene.at;
             scene.any_held(random).mark = mark;
@@ -236,7 +225,7 @@ fn queues_together(random: &mut Random) -> Scene {
         length: (17, 32),
         ..ANY
     };
-    let mut scene = scene_with(random, &need, |case| case.lines > 1);
+    let mut scene = Scene::of_case(random, &need, |case| case.lines > 1);
     let length = 32 - scene.to_come();
     let lines = usize::from(scene.case.lines);
     for queue in &mut scene.state.queues[..lines] {

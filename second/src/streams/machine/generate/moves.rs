@@ -82,16 +82,10 @@ pub fn passing(random: &mut Random) -> (Scene, Step) {
         locations: (2, 8),
         ..ANY
     };
-    let mut scene = loop {
-        let scene = Scene::new(random, &need);
-        if scene.case.lines > 1 {
-            break scene;
-        }
-    };
+    let mut scene = Scene::of_case(random, &need, |case| case.lines > 1);
     let own = scene.at;
     let beside = layouts::neighbour(random, &scene.case, own);
-    let mut others: Vec<u8> = (0..scene.case.locations).collect();
-    others.retain(|&other| scene.case.line_of(other) != scene.line());
+    let others = layouts::elsewhere(&scene.case, own);
     let entries = scene.entries();
     let position = 1 + random.below(entries.len() - 1);
     for entry in &mut entries[..position] {

@@ -47,6 +47,16 @@ impl Scene {
         }
     }
 
+    /// Drawn until its case is such a one.
+    pub fn of_case(random: &mut Random, need: &Need, such: fn(&Case) -> bool) -> Scene {
+        loop {
+            let scene = Scene::new(random, need);
+            if such(&scene.case) {
+                return scene;
+            }
+        }
+    }
+
     /// None where the sums leave no room for what the line's queue must have.
     fn try_new(random: &mut Random, need: &Need) -> Option<Scene> {
         let threads = usize::from(random.between(need.threads.0, need.threads.1));

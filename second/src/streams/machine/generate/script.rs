@@ -33,13 +33,11 @@ impl Script {
                 break (at, neighbour);
             }
         };
-        let mut others: Vec<u8> = (0..locations).collect();
-        others.retain(|&other| case.line_of(other) != case.line_of(at));
         let mut script = Script {
             thread: random.between(0, case.threads - 1),
             other: random.between(0, case.threads - 2),
             at,
-            elsewhere: random.pick(&others),
+            elsewhere: random.pick(&layouts::elsewhere(&case, at)),
             neighbour: random.pick(&[neighbour, if sharing { neighbour } else { at }]),
             case,
             steps: Vec::new(),
