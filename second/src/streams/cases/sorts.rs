@@ -25,7 +25,7 @@ fn shows_its_place(input: &[u8], offset: usize) -> bool {
     within && input[offset - 1..input.len() - 1] != input[offset..]
 }
 
-pub const SORTS: [Sort<fn(&Frame, &Answer) -> bool>; 52] = [
+pub const SORTS: [Sort<fn(&Frame, &Answer) -> bool>; 54] = [
     sort("written: 0", 500, |_, a| a.number == 0),
     sort("written: 31", 500, |_, a| a.number == 31),
     sort("written: 32", 500, |_, a| a.number == 32),
@@ -112,6 +112,12 @@ pub const SORTS: [Sort<fn(&Frame, &Answer) -> bool>; 52] = [
     }),
     sort("faulty head at 1,336", 50, |_, a| {
         a.reading.number != 0 && a.reading.offset == 1336
+    }),
+    sort("header at 1,336, whole: 4", 3, |_, a| {
+        a.reading.number == 4 && a.reading.offset == 1336 && a.unread[..4] == [12, 0, 1, 0]
+    }),
+    sort("header at 1,336, a byte short: 1", 3, |_, a| {
+        a.reading.number == 1 && a.reading.offset == 1336 && a.unread.len() == 15
     }),
     sort("refused, nothing unread", 5, |_, a| {
         a.reading.number != 0 && a.unread.is_empty()

@@ -179,7 +179,7 @@ pub fn long(random: &mut Random) -> Vec<Frame> {
         file[at] ^= 1 << random.below(8);
         frames.push(plain(random, file));
     }
-    for _ in 0..120 {
+    for _ in 0..200 {
         frames.push(behind_longest(random));
     }
     frames
@@ -235,11 +235,18 @@ fn behind_longest(random: &mut Random) -> Frame {
     let strange = Record::new(7, &random.bytes(20));
     let beyond = Record::new(6, &[4, 0, 0, 0]);
     let junk = Record::new(6, &[0, 0, 1, 0]);
+    // The longest record there is, which reading may have to look at up to its end.
+    let header = program(4, &Layout::told(&[0; 8]));
+    let mut cut_header = header.bytes();
+    cut_header.truncate(15);
     let choices = [
         (1, step.bytes()[..1 + random.below(3)].to_vec()),
         (1, cut_step),
         (2, strange.bytes()),
         (3, step.with_length(5)),
+        (3, header.with_length(13)),
+        (1, cut_header),
+        (4, header.bytes()),
         (4, late),
         (5, beyond.bytes()),
         (8, junk.bytes()),
