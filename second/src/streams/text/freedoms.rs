@@ -36,7 +36,7 @@ pub const FREEDOMS: [Sort<fn(&Sight) -> bool>; 58] = [
     sort("persist names the first of a line", 50, |s| {
         persists(s, |at, first| at == first)
     }),
-    sort("persist names a later one of it", 50, |s| {
+    sort("persist names a later one of it", 30, |s| {
         persists(s, |at, first| at != first)
     }),
     sort("first behind a thread", 100, |s| {
