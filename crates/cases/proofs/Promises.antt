@@ -19,17 +19,15 @@ use Rattle.cases.specs.declared.writer.Wrote.the-variants.{Stored, Untou
 use Rattle.cases.specs.Sizes.{mostThreads, mostLocations, mostSteps, longest, longestRecord, stepSize}
 use Rattle.cases.specs.Choice.{both}
 use Rattle.cases.specs.Bytes.{IsBytes, half}
-use Rattle.cases.specs.Lines.{ownVersion, lineVersion, ownLines}
-use Rattle.cases.specs.Record.{rowList, recordOf, openNo, sizeOf}
+use Rattle.cases.specs.Lines.{ownVersion, lineVersion}
+use Rattle.cases.specs.Record.{recordOf, openNo, sizeOf}
 use Rattle.cases.specs.Checks.{linesOf, limitsOf, stepFault, faultOf}
-use Rattle.cases.specs.Draft.{noStep, emptyCase, runWith, withHeader, withRun, blankDraft, addOf}
+use Rattle.cases.specs.Draft.{noStep, emptyCase, runWith, withRun, withVersion, blankDraft, addOf}
 use Rattle.cases.specs.Reading.{numberOf, offsetOf, refusedOf, readFrom, readOf, unreadOf}
 use Rattle.cases.specs.Seats.{encodeOf, stepsBytes}
 use Rattle.cases.specs.Ranges.{ProgramSized, ProgramFits, Ranged}
 use Rattle.cases.specs.Writing.{readsAs, readsBack, wroteOf, writtenOf}
 use Rattle.cases.proofs.ChoiceLaws.{both-true}
-use Rattle.cases.proofs.draft.HeaderLaws as HeaderLaws
-use Rattle.cases.proofs.draft.RecordFitLaws as RecordFitLaws
 use Rattle.cases.proofs.reader.ReadLaws as ReadLaws
 use Rattle.cases.proofs.reader.RoundTripLaws.{round-trip}
 use Rattle.cases.proofs.reader.PrefixLaws.{read-prefix, read-fuel-same}
@@ -38,6 +36,7 @@ use Rattle.cases.proofs.draft.RangedLaws as RangedLaws
 use Rattle.cases.proofs.draft.RangedLaws.{sound-ranged}
 use Rattle.cases.proofs.parts.StepsLaws.{steps-length, steps-file-more}
 use Rattle.cases.proofs.parts.OtherRunLaws.{run-steps, other-readable}
+use Rattle.cases.proofs.parts.TwinLaws as TwinLaws
 use Rattle.cases.proofs.writer.WriteLaws.{write-stored-as, write-stored-is, write-untouched-is}
 use Rattle.cases.proofs.same.SameLaws.{case-is, case-self}
 
@@ -136,21 +135,6 @@ read-ranged s h =
     let d = round-trip s .sound h in
     rw (sym (d .3)) at (sound-ranged (d .0) (d .1) (d .2))
 
--- "Version 1 means a line each": a program's record of version 1 and one of version 2 that says the lines 0, 1,
--- 2, .. make the same program of a case
-pub own-lines-same : (c : Case) (h k : Header) → h .version ≡ ownVersion → k .version ≡ lineVersion
-    → k .threads ≡ h .threads
-    → k .locations ≡ h .locations
-    → h .locations ≤ mostLocations
-    → k .listed ≡ h .locations
-    → rowList (k .line) ≡ ownLines (h .locations)
-    → withHeader c h .program ≡ withHeader c k .program
-own-lines-same = HeaderLaws.header-same
-
--- a program has no more lines than there may be locations
-pub few-lines : (p : Program) → ProgramSized p → linesOf p ≤ mostLocations
-few-lines = RecordFitLaws.few-lines
-
 -- a thread of a program that fits is one that there may be
 pub thread-low : {p : Program} → ProgramFits p → {t : ℕ} → t < p .threads → t < mostThreads
 thread-low = RangedLaws.thread-low
@@ -236,6 +220,15 @@ pub same-bytes-same-case : (c d : Case) → readsBack c ≡ true → readsBack d
     → c ≡ d
 same-bytes-same-case c d h k e =
     sym (file-case c h) ∙ ap (λ (s : List ℕ). readOf s .case) e ∙ file-case d k
+
+-- "Version 1 means a line each": a case of version 1 that can be read is, as one of version 2, a case that can be read
+pub twin-reads-back : (c : Case) → readsBack c ≡ true → c .version ≡ ownVersion
+    → readsBack (withVersion c lineVersion) ≡ true
+twin-reads-back c readable one =
+    let f = readable-exactly c .0 readable in
+    let t = TwinLaws.twin-reads (f .0) (f .1) (f .2) (ap (λ (x : Case). x .version) (f .3) ∙ one) in
+    readable-exactly (withVersion c lineVersion) .1
+    (t .0, t .1, t .2, t .3 ∙ ap (λ (x : Case). withVersion x lineVersion) (f .3))
 
 -- The version is kept: cases of different versions write different bytes
 pub version-differs : (c d : Case) → readsBack c ≡ true → readsBack d ≡ true

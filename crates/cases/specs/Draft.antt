@@ -6,7 +6,7 @@
 --   withHeader   the case with what the program's record says: its version, and withSizes
 --   withSizes, withFirst, withInstruction, withWant, withPassed, withStep
 --                a part of the case with what one record says
---   withProgram, withAsk, withRun   a case with another such part
+--   withProgram, withAsk, withRun, withVersion   a case with another such part, or another version
 --   runWith ks   a run of the steps ks, as a case holds it
 --   blankDraft   the draft before any record
 --   addOf d r    the draft with the record r behind it
@@ -130,6 +130,9 @@ withAsk c a = record { version = c .version; program = c .program; ask = a; run 
 
 unfoldable pub withRun : Case → Run → Case
 withRun c r = record { version = c .version; program = c .program; ask = c .ask; run = r }
+
+unfoldable pub withVersion : Case → ℕ → Case
+withVersion c v = record { version = v; program = c .program; ask = c .ask; run = c .run }
 
 unfoldable pub withHeader : Case → Header → Case
 withHeader c h =

@@ -5,3 +5,5 @@ pub mod TableLaws
 pub mod AskedLaws
 -- legal: a run that the judge passes
 pub mod JudgedLaws
+-- twin: a case of two versions
+pub mod TwinAnswerLaws

@@ -2,5 +2,6 @@
 pub mod Order
 pub mod Writes
 pub mod Entered
+pub mod Twins
 pub mod Carried
 pub mod Example

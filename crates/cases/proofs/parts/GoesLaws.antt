@@ -35,7 +35,7 @@ use Rattle.cases.proofs.reader.ReadLaws.{asRecord, read-cases}
 use Rattle.cases.proofs.reader.PrefixLaws.{read-fuel-same}
 
 -- a record opens where its kind has a payload, its length is one of that kind, and it is whole
-opens : (t : List ℕ) → payloadOf (half t 2) ≢ 0 → mislong (half t 2) (half t 0) ≡ false
+pub opens : (t : List ℕ) → payloadOf (half t 2) ≢ 0 → mislong (half t 2) (half t 0) ≡ false
     → 4 + half t 0 ≤ length t
     → openNo t ≡ 0
 unfolding openNo refuse
