@@ -1,5 +1,5 @@
 -- Reading in parts, and a case with other steps.
--- goes, Goes: bytes are read behind a draft; front, step, Begins
+-- goes, Goes: bytes are read behind a draft; opens, front, step, Begins
 pub mod GoesLaws
 -- steps: a run at the end of a file
 pub mod StepsLaws

@@ -1,7 +1,7 @@
 -- A fit with room for one entry more in thread t's buffer and in each queue. Taking an entry out of a buffer,
 -- or counting an instruction as issued, leaves it; putting one in uses it up. Assumes nothing.
 use Prim.Native.Nat.{ℕ, suc, _+_, _≤_, _<_}
-use mathlib.Core.Path.{_≡_, refl, _∙_}
+use mathlib.Core.Path.{_≡_, refl, sym, ap, _∙_}
 use mathlib.Core.Logic.{_≢_}
 use mathlib.Core.List.{List, [], _∷_, _++_}
 use native.Mathlib.Omega.{arith}
@@ -46,6 +46,13 @@ marks-fit p s f q low =
     let m = f .sized .marks-long in
     let n = fits-queue-within p s f q low in
     queue-marks (s .held) (s .marks) (s .lengths) q (omega arith) (omega arith)
+
+-- they belong there: the oldest entry's, and the rest
+pub marks-borne : (p : Program) (s : State) (f : Fits p s) (q : ℕ) → q < mostLocations
+    → (h : Slot) (r : List Slot) → queue s q ≡ h ∷ r
+    → Borne p q (h .mark) × AllOf (Borne p q) (marksOf r)
+unfolding marksOf AllOf
+marks-borne p s f q low h r e = rw (sym (marks-fit p s f q low) ∙ ap marksOf e) at (f .borne q low)
 
 -- an entry taken out of a buffer
 module _ (p : Program) (s : State) (f : Fits p s) (t i : ℕ) (low : t < p .threads)

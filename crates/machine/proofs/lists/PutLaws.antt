@@ -1,6 +1,6 @@
 -- Laws of `put`, `shift` and `without`, over lists of any type. Assumes nothing.
-use Prim.Native.Nat.{ℕ, zero, suc, _+_, _-_, _≤_, _<_}
-use mathlib.Core.Path.{_≡_, refl, ap, _∙_}
+use Prim.Native.Nat.{ℕ, suc, _+_, _-_, _≤_, _<_}
+use mathlib.Core.Path.{_≡_, refl, _∙_}
 use mathlib.Core.Logic.{_⊎_, inl, inr}
 use mathlib.Core.List.{List, [], _∷_, _++_, append-nil, append-assoc}
 use native.Mathlib.Omega.{arith}
@@ -13,12 +13,6 @@ use Rattle.machine.specs.View.{part, put, shift, closeGap, without}
 use Rattle.machine.proofs.lists.PartLaws.{length-part, drop-part, take-part, part-more, part-front}
 
 module _ {ℓ} {A : Type ℓ} where
-  -- set: nothing, behind the end
-  pub set-beyond : (xs : List A) (i : ℕ) (x : A) → length xs ≤ i → set xs i x ≡ xs
-  set-beyond [] i x h = refl
-  set-beyond (y ∷ xs) zero x h = absurd (omega arith)
-  set-beyond (y ∷ xs) (suc i) x h = ap (λ r. y ∷ r) (set-beyond xs i x (omega arith))
-
   -- sets: what stands there already; what it leaves alone
   sets-same : (xs : List A) (base n : ℕ) → base + n ≤ length xs → sets xs base (part base n xs) ≡ xs
   unfolding part

@@ -8,7 +8,7 @@ use native.Mathlib.Omega.{arith}
 use native.Mathlib.Nat.{add-zero}
 use native.Mathlib.Decide.{ℕ-discrete}
 use lib.ListN.{length, getD, drop}
-use lib.Seq.{getD-set-same, getD-set-other}
+use lib.Seq.{getD-set-same, getD-set-other, set-out}
 use lib.Dec.{eqb}
 use Rattle.cases.specs.Choice.{pick}
 use Rattle.cases.specs.declared.case.Location.{Location}
@@ -31,7 +31,6 @@ use Rattle.machine.specs.Rules.{settled, persistOf}
 use Rattle.cases.specs.Ranges.{ProgramFits}
 use Rattle.machine.specs.Fit.{Named, Roomy}
 use Rattle.machine.proofs.lists.PartLaws.{getD-part}
-use Rattle.machine.proofs.lists.PutLaws.{set-beyond}
 use Rattle.machine.proofs.view.LineOfLaws.{line-low}
 use Rattle.machine.proofs.rules.LentLaws.{effect-lent}
 use Rattle.machine.proofs.view.SlotLaws.{slots-next}
@@ -132,7 +131,8 @@ module _ (s : State) (h : Slot) (long : length (s .words) ≡ mostLocations) whe
 
   pub settled-none : mostLocations ≤ h .mark → settled s h ≡ s
   unfolding settled withWord
-  settled-none high = pick-cases (λ u. u ≡ s) _ _ s (λ c. rw (set-beyond (s .words) (h .mark) (h .word) (omega arith))) (λ c. refl)
+  settled-none high =
+      pick-cases (λ u. u ≡ s) _ _ s (λ c. rw (set-out (s .words) (h .mark) (h .word) (omega arith))) (λ c. refl)
 
   -- what a slot makes of the word of a location
   pub settled-word : (l : ℕ) → l < mostLocations → wordOf (settled s h) l ≡ wordOr l h (wordOf s l)

@@ -29,7 +29,7 @@ use Rattle.machine.specs.Work.{waitingWeight, work, cost}
 use Rattle.machine.proofs.view.LineOfLaws.{few-lines, line-there}
 use Rattle.machine.proofs.fit.FitLaws.{fits-queue-within, fits-queue-long, fits-buffer-long, fits-queue}
 use Rattle.machine.proofs.fit.FitLaws.{fits-word}
-use Rattle.machine.proofs.fit.SpareLaws.{Spare, marks-fit, taken-spare, enqueue-fits}
+use Rattle.machine.proofs.fit.SpareLaws.{Spare, marks-borne, taken-spare, enqueue-fits}
 use Rattle.machine.proofs.work.WorkLaws.{work-queue, work-enqueue, work-without, work-word}
 use Rattle.machine.proofs.steps.StepFaultLaws.{InRange}
 use Rattle.machine.proofs.steps.IssueLaws.{issue-fits, issue-work}
@@ -90,25 +90,10 @@ module _ (p : Program) (s : State) (f : Fits p s) (t i : ℕ) (low : t < p .thre
       ∙ work-without p s f t i blankWaiting (omega arith) move-there
 
 -- Persist
-borne-apart : (p : Program) (q : ℕ) (h : Slot) (r : List Slot) → AllOf (Borne p q) (marksOf (h ∷ r))
-    → Borne p q (h .mark) × AllOf (Borne p q) (marksOf r)
-unfolding marksOf AllOf
-borne-apart p q h r b = b
-
-module _ (p : Program) (s : State) (f : Fits p s) (q : ℕ) (low : q < linesOf p) where
-  in-range : q < mostLocations
-  in-range = let w = few-lines p (f .program) in omega arith
-
-  -- the oldest entry and the rest belong there
-  pub queue-borne : (h : Slot) (r : List Slot) → queue s q ≡ h ∷ r
-      → Borne p q (h .mark) × AllOf (Borne p q) (marksOf r)
-  queue-borne h r e =
-      borne-apart p q h r (rw (sym (marks-fit p s f q in-range) ∙ ap marksOf e) at (f .borne q in-range))
-
 module _ (p : Program) (s : State) (f : Fits p s) (q : ℕ) (low : q < linesOf p)
     (legal : persistRule (partsOf s) q ≡ 0) where
   range : q < mostLocations
-  range = in-range p s f q low
+  range = let w = few-lines p (f .program) in omega arith
 
   pub persist-there : 0 < queueLen s q
   unfolding persistRule
@@ -122,7 +107,7 @@ module _ (p : Program) (s : State) (f : Fits p s) (q : ℕ) (low : q < linesOf p
       let k : length (queue s q) ≡ suc (length r) = ap length e in
       let n = fits-queue-long p s f q range in
       let w = f .few-queued q range in
-      let b = queue-borne p s f q low h r e in
+      let b = marks-borne p s f q range h r e in
       pick-cases (λ u. Fits p (withQueue u q r)) _ _ s
       (λ c.
       let d : due p (withWord s (h .mark) (h .word)) ≡ due p s = unfold withWord due unissued in refl in

@@ -27,9 +27,9 @@ use Rattle.machine.specs.Rules.{instructionAt, entryAt, ruleOf, nextOf, 
 use Rattle.machine.specs.Joins.{exchanges, enters, onlyIf, writesOf, storeOf, swapOf, onWay, lastOr}
 use Rattle.machine.specs.Next.{issueStep, moveStep, persistStep}
 use Rattle.machine.specs.Fit.{Fits, Borne}
-use Rattle.machine.proofs.view.LineOfLaws.{line-low}
+use Rattle.machine.proofs.view.LineOfLaws.{few-lines, line-low}
 use Rattle.machine.proofs.fit.StartLaws.{start-queue}
-use Rattle.machine.proofs.steps.StepLaws.{queue-borne}
+use Rattle.machine.proofs.fit.SpareLaws.{marks-borne}
 use Rattle.machine.proofs.steps.IssueEffectLaws.{issue-queue}
 use Rattle.machine.proofs.steps.MoveEffectLaws.{move-queue}
 use Rattle.machine.proofs.steps.PersistEffectLaws.{persist-taken, persist-queue-other}
@@ -157,7 +157,8 @@ module _ (p : Program) (s : State) (f : Fits p s) (q : ℕ) (there : q < linesOf
           )
       go (no e) =
           let x = persist-taken p s f q there legal in
-          let b = queue-borne p s f q there (x .0) _ (x .1) .0 in
+          let z = few-lines p (f .program) in
+          let b = marks-borne p s f q (omega arith) (x .0) _ (x .1) .0 in
           let n = other-line p q (x .0 .mark) l (under p s f l h) b e in (
             [],
             sym (ap (writesOf l) (persist-queue-other p s f q there legal (lineOf p l) (low p s f l h) e)),
