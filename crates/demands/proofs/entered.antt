@@ -1,5 +1,5 @@
 -- What enters a line's queue, and what of it persists (specs/Entered).
--- entries, writes: of arrivals, one behind another; joined, drop-front: of any lists
+-- entries, writes: of arrivals, one behind another; joined: of any lists
 pub mod ArrivalLaws
 -- Queues, run-queued, count: a line's queue is what entered it without its first ones
 pub mod QueuedLaws

@@ -20,12 +20,6 @@ joined a new b taken c rest d e g =
     sym (append-assoc a new b) ∙ ap (λ x. x ++ b) e ∙ append-assoc taken c b ∙ ap (λ x. taken ++ x) g
     ∙ sym (append-assoc taken rest d)
 
--- what stands in front, dropped
-pub drop-front : {A : Type 0} (xs ys : List A) (n : ℕ) → length xs ≡ n → drop n (xs ++ ys) ≡ ys
-drop-front [] ys n e = rw (← e) refl
-drop-front (x ∷ xs) ys zero e = absurd (omega arith)
-drop-front (x ∷ xs) ys (suc n) e = drop-front xs ys n (omega arith)
-
 -- the entries that a thread brings are those entries, and one behind another
 pub entries-brought : (t : ℕ) (hs : List Slot) → entriesOf (broughtBy t hs) ≡ hs
 unfolding entriesOf broughtBy

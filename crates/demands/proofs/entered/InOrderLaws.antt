@@ -5,6 +5,7 @@ use mathlib.Core.Path.{_≡_, refl, sym, ap, _∙_}
 use mathlib.Core.List.{List, [], _∷_, _++_, append-assoc}
 use native.Mathlib.Omega.{arith}
 use lib.ListN.{length, take, drop, length-append, take-append-drop}
+use lib.Seq.{drop-at}
 use Rattle.cases.specs.declared.case.Step.{Step}
 use Rattle.cases.specs.declared.case.Program.{Program}
 use Rattle.cases.specs.Ranges.{ProgramFits}
@@ -18,7 +19,7 @@ use Rattle.machine.proofs.Promises.{start-fits, few-lines}
 use Rattle.machine.proofs.Effects.{start-queue, start-buffer}
 use Rattle.demands.specs.Entered.{entriesOf, enteredFrom, enteredOf, persists, writesBy, issuedFrom, issuedBy}
 use Rattle.demands.proofs.writes.StoresLaws.{gathered}
-use Rattle.demands.proofs.entered.ArrivalLaws.{entries-drop, entries-length, writes-append, drop-front}
+use Rattle.demands.proofs.entered.ArrivalLaws.{entries-drop, entries-length, writes-append}
 use Rattle.demands.proofs.entered.QueuedLaws.{run-queued}
 use Rattle.demands.proofs.entered.OrderedLaws.{waits, run-ordered}
 
@@ -35,7 +36,7 @@ module _ (p : Program) (g : ProgramFits p) (ks : List Step) (u : State) (run : L
       = ap length e ∙ length-append (r .0) (queue u q) in
       let m = entries-length (enteredFrom p (startOf p) ks q) in
       let k = r .1 in
-      (omega arith, sym (entries-drop (persists ks q) _ ∙ ap (drop (persists ks q)) e ∙ drop-front (r .0) _ _ (r .1)))
+      (omega arith, sym (entries-drop (persists ks q) _ ∙ ap (drop (persists ks q)) e ∙ drop-at (r .0) _ _ (r .1)))
 
   module _ (t : ℕ) (low : t < p .threads) where
     pub in-order-entered : (rest : List Slot) × (writesBy t (enteredOf p ks q) ++ rest ≡ issuedBy p ks t q)

@@ -41,7 +41,7 @@ use Rattle.machine.proofs.Effects.{step-kinds, issue-left, issue-buffer, issue-
 use Rattle.machine.proofs.Effects.{move-within, move-first-or, move-buffer, move-buffer-other, persist-buffer}
 use Rattle.demands.specs.Writes.{isWrite, fixedBy}
 use Rattle.demands.specs.Entered.{broughtBy, arrives, enteredFrom, writesBy, writeTo, issues, issuedFrom}
-use Rattle.demands.proofs.writes.StoresLaws.{gathered, gathered-append, gathered-without}
+use Rattle.demands.proofs.writes.StoresLaws.{gathered, gathered-append, gathered-without, stores-apart}
 use Rattle.demands.proofs.entered.ArrivalLaws.{joined, writes-append, writes-other}
 
 -- the writes to line q that wait in a buffer
@@ -70,13 +70,13 @@ module _ (t : ℕ) where
   brought-marker false = refl
 
   -- an entry that moves brings the write that waited in it
-  brought-entry : (p : Program) (q : ℕ) (e : Entry) → Named firstMarker e
+  brought-entry : (p : Program) (q : ℕ) → p .locations ≤ firstMarker → (e : Entry) → Named (p .locations) e
       → writesBy t (broughtBy t (enters p t q e)) ≡ storeTo p q e
   unfolding enters storeTo Named
-  brought-entry p q (Store w) h = brought-write (w .location .0) (w .word) h _
-  brought-entry p q (Flush l) h = unfold broughtBy writesBy in refl
-  brought-entry p q (FlushOpt l) h = brought-marker _
-  brought-entry p q Sfence h = unfold broughtBy writesBy in refl
+  brought-entry p q few (Store w) h = brought-write (w .location .0) (w .word) (omega arith) _
+  brought-entry p q few (Flush l) h = unfold broughtBy writesBy in refl
+  brought-entry p q few (FlushOpt l) h = brought-marker _
+  brought-entry p q few Sfence h = unfold broughtBy writesBy in refl
 
 -- What an instruction fixes goes into its thread's buffer or straight into the queue
 module _ (p : Program) (s : State) (t q : ℕ) (m : Location) (r : Register) (w : ℕ) (there : m .0 < firstMarker) where
@@ -102,28 +102,10 @@ module _ (p : Program) (s : State) (t q : ℕ) (m : Location) (r : Register) (w 
       refl
       refl
 
-  abbrev Apart : ℕ → Type 0
-  Apart op =
-      ((op ≡ exchange) × (joins (s .registers) t (of op m r w) ≡ []))
-      ⊎ (exchanges p q (of op m r w) ≡ [])
-
-  ordered-apart : (op : ℕ) → firstOperation ≤ op → op ≤ lastOperation → Apart op
-  unfolding joins isBarrier exchanges both either pick
-  ordered-apart =
-      each-operation Apart (inr refl) (inr refl) (inr refl) (inl (refl, refl)) (inr refl) (inr refl) (inr refl)
-      (inr refl)
-
 -- an exchange goes by an empty buffer, and every other instruction into it
 swap : {A : Type 0} (a j n : List A) → ((a ≡ []) × (j ≡ [])) ⊎ (n ≡ []) → a ++ (j ++ n) ≡ n ++ (a ++ j)
 swap a j n (inl e) = rw (e .0, e .1) (sym (append-nil n))
 swap a j n (inr e) = rw (e, append-nil j) refl
-
-named-less : (n : ℕ) (e : Entry) → n ≤ firstMarker → Named n e → Named firstMarker e
-unfolding Named
-named-less n (Store w) h k = omega arith
-named-less n (Flush l) h k = omega arith
-named-less n (FlushOpt l) h k = omega arith
-named-less n Sfence h k = tt
 
 -- a step of thread t, or of another: what waits and what it issues is what it brings and what waits then
 abbrev Keeps : Program → State → Step → ℕ → ℕ → Type 0
@@ -160,20 +142,21 @@ module _ (p : Program) (s : State) (f : Fits p s) (t q : ℕ) (low : t < p .thre
         go (inl e) = inl e
         go (inr e) = inr (rw (e .1))
 
-    -- it names a location that the program has, and so one below every marker
-    named : Named firstMarker moved
+    -- it names a location that the program has
+    named : Named (p .locations) moved
     named =
-        let few = f .program .sized .few-locations in
-        named-less (p .locations) moved (omega arith)
-        (all-get (NamedBy (p .locations)) (buffer s m) i blankWaiting (f .named m (thread-low (f .program) there))
-        (move-within p s f m i there legal))
+        all-get (NamedBy (p .locations)) (buffer s m) i blankWaiting (f .named m (thread-low (f .program) there))
+        (move-within p s f m i there legal)
+
+    few : p .locations ≤ firstMarker
+    few = let most = f .program .sized .few-locations in omega arith
 
     move-own : Keeps p s (moveStep m i) m q
     move-own =
         rw (issues-none (moveStep m i) m (unfold both in refl), append-nil (waits p q (buffer s m)))
         (gathered-without (storeTo p q) (buffer s m) i (move-within p s f m i there legal) first-or
         ∙ rw (move-buffer p s f m i there legal)
-        (unfold arrives pick in rw (brought-entry m p q moved named) refl))
+        (unfold arrives pick in rw (brought-entry m p q few moved named) refl))
 
     move-keeps : Keeps p s (moveStep m i) t q
     move-keeps = go (ℕ-discrete m t)
@@ -202,13 +185,14 @@ module _ (p : Program) (s : State) (f : Fits p s) (t q : ℕ) (low : t < p .thre
     alone : ((waits p q (buffer s m) ≡ []) × (waits p q (joins (s .registers) m next) ≡ [])) ⊎ (swapped ≡ [])
     unfolding gathered
     alone =
-        go (ordered-apart p s m q (next .location) (next .register) (next .word) under (next .operation)
+        go (stores-apart s m q (next .location) (next .register) (next .word) (next .operation)
         (fits .some-operation) (fits .low-operation))
       where
-        go : ((next .operation ≡ exchange) × (joins (s .registers) m next ≡ [])) ⊎ (exchanges p q next ≡ [])
+        go : ((next .operation ≡ exchange) × (joins (s .registers) m next ≡ []))
+            ⊎ (eqb (next .operation) exchange ≡ false)
             → ((waits p q (buffer s m) ≡ []) × (waits p q (joins (s .registers) m next) ≡ [])) ⊎ (swapped ≡ [])
         go (inl e) = inl (rw (exchange-alone p s f m there legal (e .0)) refl, rw (e .1) refl)
-        go (inr e) = inr (rw e (unfold broughtBy writesBy in refl))
+        go (inr e) = inr (unfold exchanges both pick broughtBy writesBy in rw e refl)
 
     issue-own : Keeps p s (issueStep m) m q
     unfolding issues both pick arrives

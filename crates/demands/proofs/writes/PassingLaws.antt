@@ -3,18 +3,21 @@
 use Prim.Native.Nat.{ℕ, suc, _-_, _<_}
 use mathlib.Core.Path.{_≡_, refl, sym, ap}
 use mathlib.Core.Logic.{_⊎_, inl, inr}
+use mathlib.Core.Bool.{false}
 use mathlib.Core.List.{List, [], _∷_, _++_, append-nil, append-assoc}
 use native.Mathlib.Omega.{arith}
+use lib.Dec.{eqb}
 use Rattle.cases.specs.declared.case.Instruction.{Instruction}
 use Rattle.cases.specs.declared.case.Step.{Step}
 use Rattle.cases.specs.declared.case.Program.{Program}
 use Rattle.cases.specs.Checks.{limitsOf, linesOf, stepFault, countAt}
 use Rattle.cases.specs.Ranges.{InstructionFits}
 use Rattle.cases.specs.Operations.{exchange}
+use Rattle.cases.specs.Choice.{pick, both}
 use Rattle.machine.specs.declared.cells.State.{State}
 use Rattle.machine.specs.View.{buffer, issuedOf}
 use Rattle.machine.specs.Rules.{instructionAt, ruleOf, nextOf}
-use Rattle.machine.specs.Joins.{joins, storeOf, swapOf, lastOr}
+use Rattle.machine.specs.Joins.{joins, onlyIf, storeOf, swapOf, lastOr}
 use Rattle.machine.specs.Fit.{Fits}
 use Rattle.machine.specs.Next.{issueStep, moveStep, persistStep}
 use Rattle.machine.proofs.Effects.{step-kinds, issue-left, issue-issued, issue-issued-other, issue-buffer}
@@ -74,11 +77,12 @@ module _ (p : Program) (s : State) (f : Fits p s) (ks : List Step) (l : ℕ) (th
         go (stores-apart s t l (next .location) (next .register) (next .word) (next .operation)
         (fits .some-operation) (fits .low-operation))
       where
-        go : ((next .operation ≡ exchange) × (joins (s .registers) t next ≡ [])) ⊎ (swapOf l next ≡ [])
+        go : ((next .operation ≡ exchange) × (joins (s .registers) t next ≡ []))
+            ⊎ (eqb (next .operation) exchange ≡ false)
             → ((storesOf l (buffer s t) ≡ []) × (storesOf l (joins (s .registers) t next) ≡ []))
             ⊎ (swapOf l next ≡ [])
         go (inl e) = inl (rw (exchange-alone p s f t low legal (e .0)) refl, rw (e .1) refl)
-        go (inr e) = inr e
+        go (inr e) = inr (unfold swapOf onlyIf both pick in rw e refl)
 
     pub issue-passing : Passing p s (issueStep t) ks l
     unfolding lastOr coming

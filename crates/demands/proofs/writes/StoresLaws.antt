@@ -3,6 +3,7 @@
 use Prim.Native.Nat.{ℕ, zero, suc, _≤_, _<_}
 use mathlib.Core.Path.{_≡_, refl, sym, ap, _∙_}
 use mathlib.Core.Logic.{_⊎_, inl, inr}
+use mathlib.Core.Bool.{false}
 use mathlib.Core.List.{List, [], _∷_, _++_, append-nil, append-assoc}
 use native.Mathlib.Omega.{arith}
 use native.Mathlib.Numerals.{add-one}
@@ -85,14 +86,12 @@ module _ (s : State) (t l : ℕ) (m : Location) (r : Register) (w : ℕ) where
       refl
       refl
 
-  -- an exchange puts nothing into the buffer, every other instruction nothing straight on its way
+  -- an exchange puts nothing into the buffer; another instruction is none
   abbrev Apart : ℕ → Type 0
-  Apart op =
-      ((op ≡ exchange) × (joins (s .registers) t (of op m r w) ≡ []))
-      ⊎ (swapOf l (of op m r w) ≡ [])
+  Apart op = ((op ≡ exchange) × (joins (s .registers) t (of op m r w) ≡ [])) ⊎ (eqb op exchange ≡ false)
 
   pub stores-apart : (op : ℕ) → firstOperation ≤ op → op ≤ lastOperation → Apart op
-  unfolding joins isBarrier swapOf onlyIf both either pick
+  unfolding joins isBarrier either pick
   stores-apart =
       each-operation Apart (inr refl) (inr refl) (inr refl) (inl (refl, refl)) (inr refl) (inr refl) (inr refl)
       (inr refl)
