@@ -23,7 +23,7 @@ fn say(word: &[u8], n: u64) {
 }
 
 // A step by the payload of its record: I0 issues in thread 0, M0.0 moves the entry at position 0 of thread 0's
-// buffer, P1 persists location 1.
+// buffer, P1 persists the oldest entry of line 1.
 fn say_step(thread: u8, code: u8, position: u8, location: u8) {
     if code == ISSUE {
         say(b"I", thread as u64);
