@@ -8,6 +8,7 @@
 use Prim.Native.Nat.{ℕ}
 use mathlib.Core.List.{List, [], _∷_, _++_}
 use lib.ListN.{replicate}
+use Rattle.cases.specs.declared.case.Step.{Step}
 use Rattle.cases.specs.declared.record.Record.{Record}
 use Rattle.machine.specs.declared.runs.Verdict.the-variants.{Legal, Illegal}
 use Rattle.search.specs.Question.{reached, unreachable, undecided}
@@ -158,13 +159,16 @@ neighbourFlushed =
     (reached (issue 0 ∷ issue 0 ∷ issue 0 ∷ move 0 0 ∷ move 0 0 ∷ move 0 0 ∷ persist 1 ∷ []))
     ∷ []
 
+-- both issued, then both moved
+abbrev inTurn : List Step
+inTurn = issue 0 ∷ issue 0 ∷ move 0 0 ∷ move 0 0 ∷ []
+
 -- "Store x, flush-opt y, both issued: move at position 1 is 26. Store x; flush y, both issued, the store moved: the
 -- flush's move is 27."
 abbrev neighboursWait : List Row
 neighboursWait =
     ruled (row ∷ store 0 x 500 ∷ flushOpt 0 y ∷ taking (issue 0 ∷ issue 0 ∷ move 0 1 ∷ [])) (Illegal 26 2)
-    ∷ ruled (row ∷ store 0 x 500 ∷ flush 0 y ∷ taking (issue 0 ∷ issue 0 ∷ move 0 0 ∷ move 0 0 ∷ []))
-    (Illegal 27 3)
+    ∷ ruled (row ∷ store 0 x 500 ∷ flush 0 y ∷ taking inTurn) (Illegal 27 3)
     ∷ []
 
 -- "A header of version 2 with lines 0, 2: 8. With lines 1, 0: 8. Two locations and three line bytes: 3."
