@@ -1,5 +1,5 @@
 -- Document 01, "Work left and the walk": "next steps in the order issue by thread, move by thread then
--- position, persist by location".
+-- position, persist by location", with document 02's "line" for "location".
 --   issueStep t, moveStep t i, persistStep q   a step of each code
 --   stepsFrom step i n   the steps that `step` says of the n numbers from i on
 --   movesOf t        the moves of thread t, at every position
