@@ -2,7 +2,7 @@
 -- come next. Assumes nothing.
 use Prim.Native.Nat.{ℕ, zero, suc, _+_, _≤_, _<_}
 use mathlib.Core.Path.{_≡_, refl, sym, ap, _∙_}
-use mathlib.Core.Logic.{_⊎_, inl, inr, _≢_}
+use mathlib.Core.Logic.{_⊎_, inl, inr, _≢_, ⊎-elim}
 use mathlib.Core.Bool.{Bool, true, false}
 use mathlib.Core.List.{List, [], _∷_, _++_, append-nil, append-assoc}
 use native.Mathlib.Omega.{arith}
@@ -37,11 +37,12 @@ use Rattle.machine.specs.Next.{issueStep, moveStep, persistStep}
 use Rattle.machine.specs.Ptso.{ptso}
 use Rattle.machine.proofs.Promises.{step-fits}
 use Rattle.machine.proofs.OperationLaws.{each-operation, of}
-use Rattle.machine.proofs.Effects.{step-kinds, issue-left, issue-buffer, issue-buffer-other, exchange-alone}
+use Rattle.machine.proofs.Effects.{step-kinds, issue-left, issue-buffer, issue-buffer-other}
 use Rattle.machine.proofs.Effects.{move-within, move-first-or, move-buffer, move-buffer-other, persist-buffer}
 use Rattle.demands.specs.Writes.{isWrite, fixedBy}
 use Rattle.demands.specs.Entered.{broughtBy, arrives, enteredFrom, writesBy, writeTo, issues, issuedFrom}
-use Rattle.demands.proofs.writes.StoresLaws.{gathered, gathered-append, gathered-without, stores-apart}
+use Rattle.demands.proofs.writes.StoresLaws.{gathered, gathered-append, gathered-without}
+use Rattle.demands.proofs.writes.StoresLaws.{gathered-alone, gathered-swap}
 use Rattle.demands.proofs.entered.ArrivalLaws.{joined, writes-append, writes-other}
 
 -- the writes to line q that wait in a buffer
@@ -101,11 +102,6 @@ module _ (p : Program) (s : State) (t q : ℕ) (m : Location) (r : Register) (w 
       refl
       refl
       refl
-
--- an exchange goes by an empty buffer, and every other instruction into it
-swap : {A : Type 0} (a j n : List A) → ((a ≡ []) × (j ≡ [])) ⊎ (n ≡ []) → a ++ (j ++ n) ≡ n ++ (a ++ j)
-swap a j n (inl e) = rw (e .0, e .1) (sym (append-nil n))
-swap a j n (inr e) = rw (e, append-nil j) refl
 
 -- a step of thread t, or of another: what waits and what it issues is what it brings and what waits then
 abbrev Keeps : Program → State → Step → ℕ → ℕ → Type 0
@@ -183,16 +179,10 @@ module _ (p : Program) (s : State) (f : Fits p s) (t q : ℕ) (low : t < p .thre
     swapped = writesBy m (broughtBy m (exchanges p q next))
 
     alone : ((waits p q (buffer s m) ≡ []) × (waits p q (joins (s .registers) m next) ≡ [])) ⊎ (swapped ≡ [])
-    unfolding gathered
-    alone =
-        go (stores-apart s m q (next .location) (next .register) (next .word) (next .operation)
-        (fits .some-operation) (fits .low-operation))
+    alone = ⊎-elim inl (λ e. inr (none e)) (gathered-alone (storeTo p q) p s f m there legal)
       where
-        go : ((next .operation ≡ exchange) × (joins (s .registers) m next ≡ []))
-            ⊎ (eqb (next .operation) exchange ≡ false)
-            → ((waits p q (buffer s m) ≡ []) × (waits p q (joins (s .registers) m next) ≡ [])) ⊎ (swapped ≡ [])
-        go (inl e) = inl (rw (exchange-alone p s f m there legal (e .0)) refl, rw (e .1) refl)
-        go (inr e) = inr (unfold exchanges both pick broughtBy writesBy in rw e refl)
+        none : eqb (next .operation) exchange ≡ false → swapped ≡ []
+        none e = unfold exchanges both pick broughtBy writesBy in rw e refl
 
     issue-own : Keeps p s (issueStep m) m q
     unfolding issues both pick arrives
@@ -205,7 +195,7 @@ module _ (p : Program) (s : State) (f : Fits p s) (t q : ℕ) (low : t < p .thre
           issue-buffer p s f m there legal,
           gathered-append (storeTo p q) (buffer s m) (joins (s .registers) m next),
         )
-        (swap (waits p q (buffer s m)) _ swapped alone)
+        (gathered-swap (waits p q (buffer s m)) _ swapped alone)
 
     issue-keeps : Keeps p s (issueStep m) t q
     issue-keeps = go (ℕ-discrete m t)

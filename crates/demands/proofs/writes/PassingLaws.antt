@@ -1,8 +1,8 @@
 -- A legal step passes a location's writes on, from thread to queue to memory, and loses none: an issue does,
 -- and so, with persist and move (ComingLaws), does every step. Assumes nothing.
 use Prim.Native.Nat.{ℕ, suc, _-_, _<_}
-use mathlib.Core.Path.{_≡_, refl, sym, ap}
-use mathlib.Core.Logic.{_⊎_, inl, inr}
+use mathlib.Core.Path.{_≡_, refl, sym, ap, _∙_}
+use mathlib.Core.Logic.{_⊎_, inl, inr, ⊎-elim}
 use mathlib.Core.Bool.{false}
 use mathlib.Core.List.{List, [], _∷_, _++_, append-nil, append-assoc}
 use native.Mathlib.Omega.{arith}
@@ -21,10 +21,10 @@ use Rattle.machine.specs.Joins.{joins, onlyIf, storeOf, swapOf, lastOr}
 use Rattle.machine.specs.Fit.{Fits}
 use Rattle.machine.specs.Next.{issueStep, moveStep, persistStep}
 use Rattle.machine.proofs.Effects.{step-kinds, issue-left, issue-issued, issue-issued-other, issue-buffer}
-use Rattle.machine.proofs.Effects.{issue-buffer-other, issue-words, issue-word, exchange-alone}
+use Rattle.machine.proofs.Effects.{issue-buffer-other, issue-words, issue-word}
 use Rattle.demands.specs.Writes.{fixedFrom}
-use Rattle.demands.proofs.writes.StoresLaws.{storesOf, fixesFrom, gathered, gathered-append, fixes-same}
-use Rattle.demands.proofs.writes.StoresLaws.{stores-split, stores-apart}
+use Rattle.demands.proofs.writes.StoresLaws.{storesOf, fixesFrom, gathered-append, gathered-alone}
+use Rattle.demands.proofs.writes.StoresLaws.{gathered-swap, stores-split, fixes-same}
 use Rattle.demands.proofs.fixed.IssuesLaws.{fixed-here, fixed-next, issues-here, issues-later}
 use Rattle.demands.proofs.fixed.IssuesLaws.{issues-other}
 use Rattle.demands.proofs.writes.ComingLaws.{coming, Passing, coming-taken, persist-passing}
@@ -67,22 +67,15 @@ module _ (p : Program) (s : State) (f : Fits p s) (ks : List Step) (l : ℕ) (th
 
     swap : (a j n r : List ℕ) → ((a ≡ []) × (j ≡ [])) ⊎ (n ≡ [])
         → a ++ ((j ++ n) ++ r) ≡ n ++ ((a ++ j) ++ r)
-    swap a j n r (inl e) = rw (e .0, e .1) refl
-    swap a j n r (inr e) = rw (e, append-nil j) (sym (append-assoc a j r))
+    swap a j n r e =
+        sym (append-assoc a (j ++ n) r) ∙ ap (λ x. x ++ r) (gathered-swap a j n e) ∙ append-assoc n (a ++ j) r
 
     alone : ((storesOf l (buffer s t) ≡ []) × (storesOf l (joins (s .registers) t next) ≡ []))
         ⊎ (swapOf l next ≡ [])
-    unfolding gathered
-    alone =
-        go (stores-apart s t l (next .location) (next .register) (next .word) (next .operation)
-        (fits .some-operation) (fits .low-operation))
+    alone = ⊎-elim inl (λ e. inr (none e)) (gathered-alone (storeOf l) p s f t low legal)
       where
-        go : ((next .operation ≡ exchange) × (joins (s .registers) t next ≡ []))
-            ⊎ (eqb (next .operation) exchange ≡ false)
-            → ((storesOf l (buffer s t) ≡ []) × (storesOf l (joins (s .registers) t next) ≡ []))
-            ⊎ (swapOf l next ≡ [])
-        go (inl e) = inl (rw (exchange-alone p s f t low legal (e .0)) refl, rw (e .1) refl)
-        go (inr e) = inr (unfold swapOf onlyIf both pick in rw e refl)
+        none : eqb (next .operation) exchange ≡ false → swapOf l next ≡ []
+        none e = unfold swapOf onlyIf both pick in rw e refl
 
     pub issue-passing : Passing p s (issueStep t) ks l
     unfolding lastOr coming

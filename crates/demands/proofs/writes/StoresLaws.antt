@@ -11,16 +11,21 @@ use lib.Dec.{eqb}
 use lib.ListN.{length}
 use Rattle.cases.specs.declared.case.Location.{Location}
 use Rattle.cases.specs.declared.case.Register.{Register}
+use Rattle.cases.specs.declared.case.Instruction.{Instruction}
 use Rattle.cases.specs.declared.case.Program.{Program}
 use Rattle.cases.specs.Choice.{pick, both, either}
 use Rattle.cases.specs.Operations.{lastOperation, firstOperation, exchange}
 use Rattle.machine.specs.declared.cells.State.{State}
 use Rattle.machine.specs.declared.cells.Waiting.{Waiting}
 use Rattle.machine.specs.declared.cells.Entry.{Entry}
-use Rattle.machine.specs.View.{without, registerIn}
-use Rattle.machine.specs.Rules.{instructionAt, entryAt, entryOf, isBarrier}
+use Rattle.machine.specs.View.{without, registerIn, buffer, issuedOf}
+use Rattle.machine.specs.Rules.{instructionAt, entryAt, entryOf, isBarrier, ruleOf}
+use Rattle.machine.specs.Fit.{Fits}
+use Rattle.machine.specs.Next.{issueStep}
 use Rattle.machine.specs.Joins.{joins, onlyIf, storeOf, swapOf}
 use Rattle.machine.proofs.OperationLaws.{each-operation, of}
+use Rattle.machine.proofs.Effects.{issue-left, exchange-alone}
+use Rattle.cases.specs.Ranges.{InstructionFits}
 use Rattle.demands.specs.Writes.{isWrite, writes, fixedBy}
 
 -- what f says of each entry that waits, joined
@@ -90,8 +95,35 @@ module _ (s : State) (t l : ℕ) (m : Location) (r : Register) (w : ℕ) where
   abbrev Apart : ℕ → Type 0
   Apart op = ((op ≡ exchange) × (joins (s .registers) t (of op m r w) ≡ [])) ⊎ (eqb op exchange ≡ false)
 
-  pub stores-apart : (op : ℕ) → firstOperation ≤ op → op ≤ lastOperation → Apart op
+  stores-apart : (op : ℕ) → firstOperation ≤ op → op ≤ lastOperation → Apart op
   unfolding joins isBarrier either pick
   stores-apart =
       each-operation Apart (inr refl) (inr refl) (inr refl) (inl (refl, refl)) (inr refl) (inr refl) (inr refl)
       (inr refl)
+
+-- what is issued legally: an exchange, with nothing in the buffer before and behind it, or another instruction
+module _ {A : Type 0} (g : Entry → List A) (p : Program) (s : State) (f : Fits p s) (t : ℕ) (low : t < p .threads)
+    (legal : ruleOf p s (issueStep t) ≡ 0) where
+  abbrev x : Instruction
+  x = instructionAt p t (issuedOf s t)
+
+  fits : InstructionFits p x
+  fits = f .program .instructions t (issuedOf s t) (issue-left p s f t low legal) .1
+
+  pub gathered-alone : ((gathered g (buffer s t) ≡ []) × (gathered g (joins (s .registers) t x) ≡ []))
+      ⊎ (eqb (x .operation) exchange ≡ false)
+  unfolding gathered
+  gathered-alone =
+      go (stores-apart s t 0 (x .location) (x .register) (x .word) (x .operation) (fits .some-operation)
+      (fits .low-operation))
+    where
+      go : ((x .operation ≡ exchange) × (joins (s .registers) t x ≡ [])) ⊎ (eqb (x .operation) exchange ≡ false)
+          → ((gathered g (buffer s t) ≡ []) × (gathered g (joins (s .registers) t x) ≡ []))
+          ⊎ (eqb (x .operation) exchange ≡ false)
+      go (inl e) = inl (rw (exchange-alone p s f t low legal (e .0)) refl, rw (e .1) refl)
+      go (inr e) = inr e
+
+-- so what goes straight on its way comes before or alone
+pub gathered-swap : {A : Type 0} (a j n : List A) → ((a ≡ []) × (j ≡ [])) ⊎ (n ≡ []) → a ++ (j ++ n) ≡ n ++ (a ++ j)
+gathered-swap a j n (inl e) = rw (e .0, e .1) (sym (append-nil n))
+gathered-swap a j n (inr e) = rw (e, append-nil j) refl
