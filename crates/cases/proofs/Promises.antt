@@ -12,20 +12,19 @@ use Rattle.cases.specs.declared.case.Step.{Step}
 use Rattle.cases.specs.declared.case.Program.{Program}
 use Rattle.cases.specs.declared.case.Case.{Case}
 use Rattle.cases.specs.declared.draft.Draft.{Draft}
-use Rattle.cases.specs.declared.record.Header.{Header}
 use Rattle.cases.specs.declared.record.Record.{Record}
 use Rattle.cases.specs.declared.reader.Answer.the-variants.{Whole}
 use Rattle.cases.specs.declared.writer.Wrote.the-variants.{Stored, Untouched}
-use Rattle.cases.specs.Sizes.{mostThreads, mostLocations, mostSteps, longest, longestRecord, stepSize}
+use Rattle.cases.specs.Sizes.{mostThreads, mostSteps, longest, longestRecord, stepSize}
 use Rattle.cases.specs.Choice.{both}
 use Rattle.cases.specs.Bytes.{IsBytes, half}
 use Rattle.cases.specs.Lines.{ownVersion, lineVersion}
 use Rattle.cases.specs.Record.{recordOf, openNo, sizeOf}
-use Rattle.cases.specs.Checks.{linesOf, limitsOf, stepFault, faultOf}
+use Rattle.cases.specs.Checks.{limitsOf, stepFault, faultOf}
 use Rattle.cases.specs.Draft.{noStep, emptyCase, runWith, withRun, withVersion, blankDraft, addOf}
 use Rattle.cases.specs.Reading.{numberOf, offsetOf, refusedOf, readFrom, readOf, unreadOf}
 use Rattle.cases.specs.Seats.{encodeOf, stepsBytes}
-use Rattle.cases.specs.Ranges.{ProgramSized, ProgramFits, Ranged}
+use Rattle.cases.specs.Ranges.{ProgramFits, Ranged}
 use Rattle.cases.specs.Writing.{readsAs, readsBack, wroteOf, writtenOf}
 use Rattle.cases.proofs.ChoiceLaws.{both-true}
 use Rattle.cases.proofs.reader.ReadLaws as ReadLaws

@@ -9,7 +9,7 @@
 --   bars p q e               the entry e keeps a flush-opt of line q behind it
 --   firstBar p q b           the position of the first entry of b that does; how many there are where none does
 -- Assumes nothing.
-use Prim.Native.Nat.{ℕ, zero, suc, _+_}
+use Prim.Native.Nat.{ℕ, zero, suc}
 use mathlib.Core.Bool.{Bool, true, false}
 use mathlib.Core.List.{List, [], _∷_}
 use lib.Dec.{eqb}

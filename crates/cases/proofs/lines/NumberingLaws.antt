@@ -1,6 +1,6 @@
 -- Laws of `unordered` and `linesIn`: line numbers in order of first appearance. Assumes nothing.
 use Prim.Native.Nat.{ℕ, zero, suc, _+_, _<_, _≤_}
-use mathlib.Core.Path.{_≡_, refl, sym, ap, _∙_}
+use mathlib.Core.Path.{_≡_, refl, _∙_}
 use mathlib.Core.List.{List, [], _∷_}
 use mathlib.Core.Bool.{true, false}
 use lib.ListN.{length, getD, take, drop, drop-of-length-le}
@@ -10,8 +10,8 @@ use borrow.Author.Tests.{lt-ltb, le-ltb, ltb-false, eq-eqb, eqb-true, eqb-false}
 use native.Mathlib.Numerals.{add-one}
 use native.Mathlib.Omega.{arith}
 use Rattle.cases.specs.Sizes.{mostLocations}
-use Rattle.cases.specs.Choice.{pick, either}
-use Rattle.cases.specs.Lines.{table, ownLines, newAfter, unordered, linesIn}
+use Rattle.cases.specs.Choice.{either}
+use Rattle.cases.specs.Lines.{ownLines, newAfter, unordered, linesIn}
 use Rattle.cases.proofs.ChoiceLaws.{either-false, pick-true, pick-cases}
 use Rattle.cases.proofs.lines.LineTableLaws.{table-long, table-below}
 

@@ -10,7 +10,7 @@ use mathlib.Core.List.{List, [], _++_, append-assoc, append-nil}
 use lib.ListN.{length, getD, take, length-append, List·getD-append}
 use lib.Seq.{length-take-le, getD-take, drop-at}
 use lib.Dec.{eqb}
-use borrow.Author.Tests.{le-ltb, ne-eqb, eq-eqb}
+use borrow.Author.Tests.{le-ltb, ne-eqb}
 use native.Mathlib.Nat.{zero-add, add-zero}
 use native.Mathlib.Numerals.{one-add}
 use native.Mathlib.Omega.{arith}

@@ -4,8 +4,8 @@ use Prim.Native.Nat.{ℕ, zero, suc, _+_, _-_, _<_, _≤_}
 use mathlib.Core.Path.{_≡_, refl, sym, ap, _∙_}
 use mathlib.Core.Logic.{_≢_}
 use mathlib.Core.List.{List, [], _∷_, _++_}
-use mathlib.Core.Bool.{Bool, true, false}
-use lib.ListN.{length, getD, take, drop, length-append, length-drop, List·getD-append}
+use mathlib.Core.Bool.{Bool, false}
+use lib.ListN.{length, take, length-append, length-drop, List·getD-append}
 use lib.Seq.{length-take-le, getD-take, getD-drop}
 use lib.Dec.{eqb}
 use borrow.Author.Tests.{le-ltb, ne-eqb, eq-eqb}
@@ -17,22 +17,21 @@ use Rattle.cases.specs.declared.record.Record.{Record}
 use Rattle.cases.specs.declared.record.Record.the-variants.{Declare, First, Instruct, Want, Passed, Take}
 use Rattle.cases.specs.declared.reader.Answer.the-variants.{Whole}
 use Rattle.cases.specs.declared.reader.Reading.{Reading}
-use Rattle.cases.specs.Sizes.{mostThreads, mostLocations}
+use Rattle.cases.specs.Sizes.{mostLocations}
 use Rattle.cases.specs.Choice.{pick, either, refuse}
 use Rattle.cases.specs.Bytes.{IsBytes, half}
-use Rattle.cases.specs.Lines.{ownVersion, lineVersion, lastVersion, listedOf, ownLines, unordered, linesIn}
+use Rattle.cases.specs.Lines.{ownVersion, lineVersion, lastVersion, listedOf, ownLines, unordered}
 use Rattle.cases.specs.Record.{payloadOf, spareOf, mislong, rowList, asRow, lineBytes, lineByte, asHeader}
 use Rattle.cases.specs.Record.{recordOf, openNo, sizeOf}
-use Rattle.cases.specs.Checks.{kindRank, misplaced, disordered, outside, headerOut, mislisted, faultOf}
-use Rattle.cases.specs.Draft.{emptyCase, lineTable, lineCount, withSizes, withHeader, withFirst}
-use Rattle.cases.specs.Draft.{withInstruction, withProgram, withAsk, withRun, withVersion, blankDraft, addOf}
+use Rattle.cases.specs.Checks.{misplaced, disordered, outside, headerOut, mislisted, faultOf}
+use Rattle.cases.specs.Draft.{emptyCase, withHeader}
+use Rattle.cases.specs.Draft.{withProgram, withAsk, withRun, withVersion, blankDraft, addOf}
 use Rattle.cases.specs.Reading.{numberOf, refusedOf, endedOf, readFrom, readOf}
-use Rattle.cases.specs.Writing.{readsBack}
 use Rattle.cases.proofs.ArrayLaws.{length-none}
-use Rattle.cases.proofs.ChoiceLaws.{refuse-none, pick-true, pick-false, either-false, either-none}
+use Rattle.cases.proofs.ChoiceLaws.{refuse-none, pick-false, either-false, either-none}
 use Rattle.cases.proofs.bytes.BytesLaws.{bytes-drop, bytes-take, bytes-join}
 use Rattle.cases.proofs.lines.LineTableLaws.{table-long, table-below, table-same, own-low}
-use Rattle.cases.proofs.lines.NumberingLaws.{own-lines-counted, own-lines-ordered}
+use Rattle.cases.proofs.lines.NumberingLaws.{own-lines-ordered}
 use Rattle.cases.proofs.record.OpenLaws.{row-back}
 use Rattle.cases.proofs.draft.HeaderLaws.{header-low, header-same}
 use Rattle.cases.proofs.reader.ReadLaws.{asRecord, behind, read-cases, sound-goes-on, record-is-behind}

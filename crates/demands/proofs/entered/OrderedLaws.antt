@@ -1,16 +1,14 @@
 -- A thread's writes enter a line's queue in the order in which the thread issued them: those that wait in its buffer
 -- come next. Assumes nothing.
-use Prim.Native.Nat.{ℕ, zero, suc, _+_, _≤_, _<_}
+use Prim.Native.Nat.{ℕ, _+_, _≤_, _<_}
 use mathlib.Core.Path.{_≡_, refl, sym, ap, _∙_}
-use mathlib.Core.Logic.{_⊎_, inl, inr, _≢_, ⊎-elim}
+use mathlib.Core.Logic.{_⊎_, inl, inr, ⊎-elim}
 use mathlib.Core.Bool.{Bool, true, false}
-use mathlib.Core.List.{List, [], _∷_, _++_, append-nil, append-assoc}
+use mathlib.Core.List.{List, [], _∷_, _++_, append-nil}
 use native.Mathlib.Omega.{arith}
-use native.Mathlib.Numerals.{add-one}
 use native.Mathlib.Decide.{ℕ-discrete}
 use borrow.Author.Tests.{eq-eqb, ne-eqb, lt-ltb, le-ltb}
-use lib.Dec.{eqb, ltb}
-use lib.ListN.{length}
+use lib.Dec.{eqb}
 use Rattle.cases.specs.declared.case.Location.{Location}
 use Rattle.cases.specs.declared.case.Register.{Register}
 use Rattle.cases.specs.declared.case.Instruction.{Instruction}
@@ -18,7 +16,7 @@ use Rattle.cases.specs.declared.case.Step.{Step}
 use Rattle.cases.specs.declared.case.Program.{Program}
 use Rattle.cases.specs.Choice.{pick, both, either}
 use Rattle.cases.specs.Operations.{lastOperation, firstOperation, exchange, issue}
-use Rattle.cases.proofs.ChoiceLaws.{pick-true, pick-false}
+use Rattle.cases.proofs.ChoiceLaws.{pick-false}
 use Rattle.cases.specs.Checks.{limitsOf, linesOf, stepFault}
 use Rattle.cases.specs.Ranges.{InstructionFits}
 use Rattle.cases.proofs.Promises.{thread-low}

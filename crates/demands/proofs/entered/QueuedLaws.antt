@@ -1,13 +1,13 @@
 -- A line's queue is what entered it without its first ones: as many as have persisted. Assumes nothing.
-use Prim.Native.Nat.{ℕ, zero, suc, _+_, _≤_, _<_}
+use Prim.Native.Nat.{ℕ, suc, _+_, _<_}
 use mathlib.Core.Path.{_≡_, refl, sym, ap, _∙_}
 use mathlib.Core.Logic.{_⊎_, inl, inr, _≢_}
-use mathlib.Core.List.{List, [], _∷_, _++_, append-nil, append-assoc}
+use mathlib.Core.List.{List, [], _∷_, _++_, append-nil}
 use native.Mathlib.Omega.{arith}
 use native.Mathlib.Nat.{zero-add}
 use native.Mathlib.Decide.{ℕ-discrete}
 use borrow.Author.Tests.{eq-eqb, ne-eqb}
-use lib.ListN.{length, drop, length-append}
+use lib.ListN.{length, length-append}
 use Rattle.cases.specs.declared.case.Step.{Step}
 use Rattle.cases.specs.declared.case.Program.{Program}
 use Rattle.cases.specs.Choice.{pick, both}
@@ -23,7 +23,7 @@ use Rattle.machine.specs.Next.{issueStep, moveStep, persistStep}
 use Rattle.machine.specs.Ptso.{ptso}
 use Rattle.machine.proofs.Promises.{step-fits}
 use Rattle.machine.proofs.Effects.{step-kinds, issue-queue, move-queue, persist-queue, persist-queue-other}
-use Rattle.demands.specs.Entered.{Arrival, broughtBy, entriesOf, arrives, enteredFrom, persists}
+use Rattle.demands.specs.Entered.{entriesOf, arrives, enteredFrom, persists}
 use Rattle.demands.proofs.entered.ArrivalLaws.{joined, entries-brought, entries-append}
 
 -- persists: a step that persists of this queue; one of another

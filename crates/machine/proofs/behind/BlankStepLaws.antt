@@ -22,7 +22,7 @@ use Rattle.machine.specs.declared.cells.Entry.{Entry}
 use Rattle.machine.specs.declared.cells.Entry.the-variants.{Store, Flush, FlushOpt, Sfence}
 use Rattle.machine.specs.Sizes.{room, allSlots}
 use Rattle.machine.specs.View.{Slot, lineOf, writeSlot, markerSlot, without, queue, queueLen, withQueue}
-use Rattle.machine.specs.View.{withWord, blankWaiting, buffer, wordOf, issuedOf}
+use Rattle.machine.specs.View.{withWord, blankWaiting, buffer, issuedOf}
 use Rattle.machine.specs.Parts.{partsOf}
 use Rattle.machine.specs.Behind.{BlankBehind}
 use Rattle.machine.specs.Rules.{enqueue, await, instructionAt, issueRule, entryOf, loaded, exchanged}

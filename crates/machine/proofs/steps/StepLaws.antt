@@ -1,6 +1,6 @@
 -- A legal step keeps the fit and lowers the work left by its cost. Assumes nothing.
 use Prim.Native.Nat.{ℕ, suc, _+_, _<_}
-use mathlib.Core.Path.{_≡_, refl, sym, ap, _∙_}
+use mathlib.Core.Path.{_≡_, refl, ap, _∙_}
 use mathlib.Core.Logic.{_≢_, inl, inr}
 use mathlib.Core.Bool.{Bool, true, false}
 use mathlib.Core.List.{List, [], _∷_}
@@ -19,12 +19,12 @@ use Rattle.cases.proofs.Promises.{thread-low}
 use Rattle.machine.specs.declared.cells.State.{State}
 use Rattle.machine.specs.declared.cells.Entry.{Entry}
 use Rattle.machine.specs.declared.cells.Entry.the-variants.{Store, Flush, FlushOpt, Sfence}
-use Rattle.machine.specs.View.{Slot, lineOf, writeSlot, markerSlot, marksOf, queue, queueLen, withQueue}
-use Rattle.machine.specs.View.{buffer, bufferLen, blankWaiting, wordOf, withWord}
+use Rattle.machine.specs.View.{Slot, lineOf, writeSlot, markerSlot, queue, queueLen, withQueue}
+use Rattle.machine.specs.View.{buffer, bufferLen, blankWaiting, withWord}
 use Rattle.machine.specs.Parts.{partsOf}
 use Rattle.machine.specs.Rules.{enqueue, issueRule, issueOf, effectOf, entryAt, moveRule, moveOf}
 use Rattle.machine.specs.Rules.{persistRule, settled, persistFirst, persistOf, ruleIn, ruleOf, nextOf}
-use Rattle.machine.specs.Fit.{Fits, Named, due, unissued, AllOf, Borne, NamedBy}
+use Rattle.machine.specs.Fit.{Fits, Named, due, unissued, NamedBy}
 use Rattle.machine.specs.Work.{waitingWeight, work, cost}
 use Rattle.machine.proofs.view.LineOfLaws.{few-lines, line-there}
 use Rattle.machine.proofs.fit.FitLaws.{fits-queue-within, fits-queue-long, fits-buffer-long, fits-queue}

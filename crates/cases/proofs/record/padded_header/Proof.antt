@@ -1,7 +1,7 @@
 -- `padded_header` meets its contract. The loop's invariant: the first `i` line bytes are put behind the other bytes,
 -- and zeros stand behind them. The measure is how many are left to put. Assumes nothing.
 use Prim.Native.Nat.{_≤_, _-_}
-use mathlib.Core.Path.{_≡_, _∙_}
+use mathlib.Core.Path.{_≡_}
 use lib.ListN.{length}
 use lib.Seq.{paste, paste-zero}
 use Rattle.cases.specs.Sizes.{mostLocations}
