@@ -1,7 +1,7 @@
 /*
- * Garluveni's C face: judges a run of a small program on persistent memory, and asks whether a power cut can
- * leave a memory. Both functions are proved to return exactly what docs/SIGNATURES.md says of them, for every
- * input. They are for x86-64 Linux and stand in target/staticlib/libhost.a, which 'rt staticlib host' makes:
+ * Garluveni's C face: judges a run of a small program on persistent memory, names the entry that stands in the way
+ * of an illegal step, and asks whether a power cut can leave a memory. The functions are proved to return exactly
+ * what docs/SIGNATURES.md says of them, for every input. They are for x86-64 Linux and stand in target/staticlib/libhost.a, which 'rt staticlib host' makes:
  *
  *     cc -Iinclude host.c target/staticlib/libhost.a
  *
@@ -72,10 +72,25 @@ enum garluveni_answers {
     GARLUVENI_LEGAL = 103
 };
 
+/* Where a blocker stands. */
+enum garluveni_blockers {
+    GARLUVENI_NO_BLOCKER = 0, /* no entry is named */
+    GARLUVENI_IN_BUFFER = 1,  /* in a thread's store buffer */
+    GARLUVENI_IN_QUEUE = 2    /* in a line's queue */
+};
+
 /*
  * Judges the run of the case in 'bytes'. The answer is 1 to 9, 21 to 29, or GARLUVENI_LEGAL.
  */
 uint32_t garluveni_judge(const uint8_t *bytes, size_t bytes_len);
+
+/*
+ * Judges the run of the case in 'bytes' again, and names the blocker: the first entry that stands in the way of the
+ * first illegal step. 0 where the judge names none, that is where the answer is not GARLUVENI_BUFFER_NOT_EMPTY,
+ * GARLUVENI_MARKER_QUEUED, GARLUVENI_BARRED, GARLUVENI_QUEUE_NOT_EMPTY or GARLUVENI_MARKER_LEFT; else
+ * GARLUVENI_IN_BUFFER or GARLUVENI_IN_QUEUE, plus 256 times which one, plus 65,536 times the position in it.
+ */
+uint32_t garluveni_blocker(const uint8_t *bytes, size_t bytes_len);
 
 /*
  * Asks the question of the case in 'bytes'; the budget, any number, is how many runs of the walk are looked at.
@@ -87,9 +102,14 @@ uint32_t garluveni_judge(const uint8_t *bytes, size_t bytes_len);
 uint32_t garluveni_question(const uint8_t *bytes, size_t bytes_len,
                             uint8_t *steps, size_t steps_len, uint32_t budget);
 
-/* The number that a function returns is the answer plus 256 times its place. */
+/* The number that the judge or the question returns is the answer plus 256 times its place. */
 static inline uint32_t garluveni_answer(uint32_t number) { return number % 256u; }
 static inline uint32_t garluveni_place(uint32_t number) { return number / 256u; }
+
+/* A blocker: where it stands, of which thread's buffer or which line's queue, and how many are older there. */
+static inline uint32_t garluveni_blocker_in(uint32_t blocker) { return blocker % 256u; }
+static inline uint32_t garluveni_blocker_which(uint32_t blocker) { return blocker / 256u % 256u; }
+static inline uint32_t garluveni_blocker_position(uint32_t blocker) { return blocker / 65536u; }
 
 #ifdef __cplusplus
 }

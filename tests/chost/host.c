@@ -1,4 +1,4 @@
-/* A C host of the proved library: every answer of both functions, what is stored and what is left alone. */
+/* A C host of the proved library: every answer of its functions, what is stored and what is left alone. */
 #include <stdio.h>
 #include <stdlib.h>
 #include <string.h>
@@ -123,13 +123,21 @@ static int holds(const uint8_t *room, size_t length, const struct file *content)
     return memcmp(room, expected, length + 2 * GUARD) == 0;
 }
 
-static void judges(int line, const struct file *file, uint32_t answer, uint32_t place)
+/* The blocker as one number: a buffer or a queue, which one, and the position in it. */
+static uint32_t blocker(uint32_t in, uint32_t which, uint32_t position)
+{
+    return in + 256 * which + 65536 * position;
+}
+
+static void judges(int line, const struct file *file, uint32_t answer, uint32_t place, uint32_t in_the_way)
 {
     shift = (shift + 1) % 16;
     lay_out(input, file->length, file);
     uint32_t number = garluveni_judge(start(input), file->length);
     CHECK_AT(line, garluveni_answer(number) == answer);
     CHECK_AT(line, garluveni_place(number) == place);
+    CHECK_AT(line, holds(input, file->length, file));
+    CHECK_AT(line, garluveni_blocker(start(input), file->length) == in_the_way);
     CHECK_AT(line, holds(input, file->length, file));
 }
 
@@ -147,10 +155,10 @@ static void asks(int line, const struct file *file, size_t length, uint32_t budg
     CHECK_AT(line, holds(input, file->length, file));
 }
 
-/* Both functions refuse to read the file, whatever is lent. */
+/* No function reads the file, whatever is lent, and no blocker is named. */
 static void refused(int line, const struct file *file, uint32_t answer, uint32_t offset)
 {
-    judges(line, file, answer, offset);
+    judges(line, file, answer, offset, GARLUVENI_NO_BLOCKER);
     for (size_t length = 0; length <= GARLUVENI_STEPS_BYTES; length += GARLUVENI_STEPS_BYTES) {
         lay_out(lent, length, &none);
         uint32_t number = garluveni_question(start(input), file->length, start(lent), length, BUDGET);
@@ -160,7 +168,9 @@ static void refused(int line, const struct file *file, uint32_t answer, uint32_t
     }
 }
 
-#define JUDGES(...) judges(__LINE__, __VA_ARGS__)
+#define JUDGES(file, answer, place) judges(__LINE__, file, answer, place, GARLUVENI_NO_BLOCKER)
+#define BLOCKED(file, answer, place, in, which, position) \
+    judges(__LINE__, file, answer, place, blocker(in, which, position))
 #define ASKS(...) asks(__LINE__, __VA_ARGS__)
 #define REFUSED(...) refused(__LINE__, __VA_ARGS__)
 
@@ -244,12 +254,12 @@ static void issue_rules(void)
     instruction(&f, 0, STORE, X, 5);
     instruction(&f, 0, EXCHANGE, Y, 5);
     run(&f, "I0 I0");
-    JUDGES(&f, GARLUVENI_BUFFER_NOT_EMPTY, 1);
+    BLOCKED(&f, GARLUVENI_BUFFER_NOT_EMPTY, 1, GARLUVENI_IN_BUFFER, 0, 0);
     program(&f, 1, 1);
     instruction(&f, 0, FLUSH_OPT, X, 0);
     instruction(&f, 0, MFENCE, 0, 0);
     run(&f, "I0 M0.0 I0");
-    JUDGES(&f, GARLUVENI_MARKER_QUEUED, 2);
+    BLOCKED(&f, GARLUVENI_MARKER_QUEUED, 2, GARLUVENI_IN_QUEUE, X, 0);
 }
 
 static void move_rules(void)
@@ -266,17 +276,46 @@ static void move_rules(void)
     instruction(&f, 0, STORE, X, 5);
     instruction(&f, 0, FLUSH_OPT, X, 0);
     run(&f, "I0 I0 M0.1");
-    JUDGES(&f, GARLUVENI_BARRED, 2);
+    BLOCKED(&f, GARLUVENI_BARRED, 2, GARLUVENI_IN_BUFFER, 0, 0);
     program(&f, 2, 1);
     instruction(&f, 0, FLUSH, X, 0);
     instruction(&f, 1, FLUSH_OPT, X, 0);
     run(&f, "I1 M1.0 I0 M0.0");
-    JUDGES(&f, GARLUVENI_QUEUE_NOT_EMPTY, 3);
+    BLOCKED(&f, GARLUVENI_QUEUE_NOT_EMPTY, 3, GARLUVENI_IN_QUEUE, X, 0);
     program(&f, 1, 1);
     instruction(&f, 0, FLUSH_OPT, X, 0);
     instruction(&f, 0, SFENCE, 0, 0);
     run(&f, "I0 I0 M0.0 M0.0");
-    JUDGES(&f, GARLUVENI_MARKER_LEFT, 3);
+    BLOCKED(&f, GARLUVENI_MARKER_LEFT, 3, GARLUVENI_IN_QUEUE, X, 0);
+}
+
+/* The first of several: not the first entry of a buffer, not the oldest marker, not another thread's; the last thread
+ * and the last line; and that it can be told. */
+static void blockers(void)
+{
+    program(&f, 4, 3);
+    instruction(&f, 3, STORE, Y, 5);
+    instruction(&f, 3, STORE, X, 5);
+    instruction(&f, 3, SFENCE, 0, 0);
+    instruction(&f, 3, FLUSH_OPT, X, 0);
+    run(&f, "I3 I3 I3 I3 M3.3");
+    BLOCKED(&f, GARLUVENI_BARRED, 4, GARLUVENI_IN_BUFFER, 3, 1);
+    program(&f, 2, 2);
+    instruction(&f, 0, FLUSH_OPT, Y, 0);
+    instruction(&f, 0, FLUSH_OPT, X, 0);
+    instruction(&f, 0, SFENCE, 0, 0);
+    instruction(&f, 1, FLUSH_OPT, X, 0);
+    run(&f, "I1 M1.0 I0 I0 I0 M0.0 M0.0 M0.0");
+    BLOCKED(&f, GARLUVENI_MARKER_LEFT, 7, GARLUVENI_IN_QUEUE, X, 1);
+    LINED(&f, 1, 0, 1, 2, 3, 4, 5, 6, 7);
+    instruction(&f, 0, FLUSH_OPT, 7, 0);
+    instruction(&f, 0, EXCHANGE, X, 5);
+    run(&f, "I0 M0.0 I0");
+    BLOCKED(&f, GARLUVENI_MARKER_QUEUED, 2, GARLUVENI_IN_QUEUE, 7, 0);
+    uint32_t third = blocker(GARLUVENI_IN_QUEUE, 7, 2);
+    CHECK(garluveni_blocker_in(third) == GARLUVENI_IN_QUEUE);
+    CHECK(garluveni_blocker_which(third) == 7);
+    CHECK(garluveni_blocker_position(third) == 2);
 }
 
 static void persist_rule(void)
@@ -327,12 +366,12 @@ static void lines(void)
     instruction(&f, 0, FLUSH_OPT, Y, 0);
     instruction(&f, 0, STORE, Z, 1);
     run(&f, "I0 I0 M0.1");
-    JUDGES(&f, GARLUVENI_BARRED, 2);
+    BLOCKED(&f, GARLUVENI_BARRED, 2, GARLUVENI_IN_BUFFER, 0, 0);
     LINED(&f, 1, 0, 0, 1);
     instruction(&f, 0, STORE, X, 5);
     instruction(&f, 0, FLUSH, Y, 0);
     run(&f, "I0 I0 M0.0 M0.0");
-    JUDGES(&f, GARLUVENI_QUEUE_NOT_EMPTY, 3);
+    BLOCKED(&f, GARLUVENI_QUEUE_NOT_EMPTY, 3, GARLUVENI_IN_QUEUE, 0, 0);
 }
 
 /* A program record: outside 4 to 12, cut, out of place, out of range, another length than its own, out of order. */
@@ -427,6 +466,7 @@ static void depth(void)
 static void empty_buffers(void)
 {
     CHECK(garluveni_judge(NULL, 0) == GARLUVENI_CUT);
+    CHECK(garluveni_blocker(NULL, 0) == GARLUVENI_NO_BLOCKER);
     CHECK(garluveni_question(NULL, 0, NULL, 0, BUDGET) == GARLUVENI_CUT);
     program(&f, 1, 1);
     want(&f, X, 0);
@@ -464,6 +504,7 @@ int main(void)
     reading_refusals();
     issue_rules();
     move_rules();
+    blockers();
     persist_rule();
     legal_runs();
     longest_file();

@@ -18,5 +18,6 @@ pub(crate) fn answer(input: [u8; INPUT], n: usize, room: usize, budget: u32) -> 
     print::number(ask::outcome_number(o) as usize);
     print::number(ask::outcome_place(o));
     print::buffer(lent, room);
+    print::end();
     true
 }

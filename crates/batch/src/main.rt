@@ -52,6 +52,7 @@ fn answer(bytes: &[u8], field: usize, value: u32, room: usize)
     print::number(writer::wrote_number(w) as usize);
     print::number(writer::wrote_length(w));
     print::buffer(lent, room);
+    print::end();
 }
 
 // Answers for the first n bytes of a buffer. By value: what filled it is forgotten here, and that it is as long

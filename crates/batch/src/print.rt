@@ -58,7 +58,7 @@ pub(crate) fn part(rest: &[u8]) {
     io::write_all(STDOUT_FILENO, b" ");
 }
 
-// Ends a line with the first `count` bytes, or with `-` where there are none.
+// The first `count` bytes, or `-` where there are none.
 pub(crate) fn buffer(lent: [u8; ROOM], count: usize)
     requires { ⌜ count ≤ mostRoom ⌝ }
 {
@@ -66,7 +66,18 @@ pub(crate) fn buffer(lent: [u8; ROOM], count: usize)
         io::write_all(STDOUT_FILENO, b"-");
     }
     bytes(&lent[..count]);
+}
+
+pub(crate) fn end() {
     io::write_all(STDOUT_FILENO, b"\n");
+}
+
+// Which buffer or queue, and the position in it.
+pub(crate) fn place(word: &[u8], number: u8, position: u8) {
+    io::write_all(STDOUT_FILENO, word);
+    io::print_decimal(STDOUT_FILENO, number as u64);
+    io::write_all(STDOUT_FILENO, b".");
+    io::print_decimal(STDOUT_FILENO, position as u64);
 }
 
 pub(crate) fn number(n: usize) {

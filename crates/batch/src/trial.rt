@@ -11,6 +11,7 @@ use cases::case::Location;
 use cases::case::Step;
 use cases::case::Thread;
 use libc::STDOUT_FILENO;
+use machine::blocker::Blocker;
 use machine::cells::State;
 use machine::runs;
 use machine::steps;
@@ -32,8 +33,18 @@ fn print_weight(w: Weighed) {
     print::number(work::weighed_work(w));
 }
 
-// The number, its place, the work left in one state, the full length, and the other state's bytes.
-fn print_line(number: u8, place: usize, c: Case, weighed: State, out: State) {
+// `B0.2` or `Q1.0`, and nothing where no entry is named.
+fn print_place(b: Blocker) {
+    match b {
+        Blocker::InBuffer(t, i) => print::place(b" B", t.0, i),
+        Blocker::InQueue(q, i) => print::place(b" Q", q.0, i),
+        Blocker::NoEntry => {}
+    }
+}
+
+// The number, its place, the work left in one state, the full length, the other state's bytes, and the place of
+// the first entry in the way where one is named.
+fn print_line(number: u8, place: usize, b: Blocker, c: Case, weighed: State, out: State) {
     print::number(number as usize);
     print::number(place);
     print_weight(machine::work_left(c, weighed));
@@ -41,6 +52,8 @@ fn print_line(number: u8, place: usize, c: Case, weighed: State, out: State) {
     let mut raw = [0u8; ROOM];
     state::to_bytes(&mut raw, out);
     print::buffer(raw, STATE_BYTES);
+    print_place(b);
+    print::end();
 }
 
 // Judges bytes.
@@ -51,6 +64,7 @@ fn judge_bytes(bytes: &[u8]) {
     print_line(
         runs::verdict_number(v),
         runs::verdict_place(v),
+        runs::verdict_blocker(v),
         r.case,
         j.state,
         j.state,
@@ -64,6 +78,7 @@ fn judge_case(c: Case) {
     print_line(
         runs::verdict_number(v),
         runs::verdict_place(v),
+        runs::verdict_blocker(v),
         c,
         j.state,
         j.state,
@@ -74,7 +89,14 @@ fn judge_case(c: Case) {
 fn start_case(c: Case) {
     let r = machine::start(c);
     let ruling = r.ruling;
-    print_line(steps::ruling_number(ruling), 0, c, r.state, r.state);
+    print_line(
+        steps::ruling_number(ruling),
+        0,
+        steps::ruling_blocker(ruling),
+        c,
+        r.state,
+        r.state,
+    );
 }
 
 // Takes a single step in a state in memory; false where the stream ends before it.
@@ -96,7 +118,14 @@ fn take_step(c: Case) -> bool {
     let s = state::from_bytes(&raw);
     let r = machine::step(c, s, k);
     let ruling = r.ruling;
-    print_line(steps::ruling_number(ruling), 0, c, s, r.state);
+    print_line(
+        steps::ruling_number(ruling),
+        0,
+        steps::ruling_blocker(ruling),
+        c,
+        s,
+        r.state,
+    );
     true
 }
 

@@ -4,6 +4,7 @@
 -- Assumes nothing.
 use Prim.Native.Nat.{ℕ, suc, _≤_}
 use mathlib.Core.Path.{_≡_, refl, sym, _∙_}
+use mathlib.Core.Logic.{_⊎_, inl, inr, _≢_}
 use mathlib.Core.Bool.{Bool, true, false, not}
 use borrow.Author.Tests.{lt-ltb, le-ltb, le-leb, lt-leb, eq-eqb, ne-eqb, not-true, not-false}
 use native.Mathlib.Omega.{arith}
@@ -135,3 +136,31 @@ pub pick-pair {ℓ κ ι} : {A : Type ℓ} {B : Type κ} (R : A → B → Type �
 unfolding pick
 pick-pair R true x y z w f g = f
 pick-pair R false x y z w f g = g
+
+-- of two the first is not so: the second is
+pub otherwise : {A B : Type 0} → A ⊎ B → (A → ⊥) → B
+otherwise (inl a) n = absurd (n a)
+otherwise (inr b) n = b
+
+-- a chain of checks that ends in a number: not this check's, so that this fault is not there; not a later one's, so
+-- that it is
+pub refuse-past : (t : Bool) (n rest r : ℕ) → refuse t n rest ≡ r → n ≢ r → (t ≡ false) × (rest ≡ r)
+unfolding refuse
+refuse-past true n rest r h z = absurd (z h)
+refuse-past false n rest r h z = (refl, h)
+
+pub refuse-was : (t : Bool) (n rest r : ℕ) → refuse t n rest ≡ r → rest ≢ r → t ≡ true
+unfolding refuse
+refuse-was true n rest r h z = refl
+refuse-was false n rest r h z = absurd (z h)
+
+pub refuse-neither : (t : Bool) (n rest r : ℕ) → n ≢ r → rest ≢ r → refuse t n rest ≢ r
+unfolding refuse
+refuse-neither true n rest r a b = a
+refuse-neither false n rest r a b = b
+
+-- what was picked is not the second: it is the first
+pub pick-was : (t : Bool) (x y r : ℕ) → pick t x y ≡ r → y ≢ r → (t ≡ true) × (x ≡ r)
+unfolding pick
+pick-was true x y r h z = (refl, h)
+pick-was false x y r h z = absurd (z h)

@@ -29,6 +29,7 @@ use Rattle.machine.specs.declared.cells.State.{State}
 use Rattle.machine.specs.declared.steps.Ruling.the-variants.{Allowed, Broken, Declined}
 use Rattle.machine.specs.declared.work.Weighed.the-variants.{Unweighed}
 use Rattle.machine.specs.Rules.{ruleOf, nextOf, startOf}
+use Rattle.machine.specs.Blocker.{blockerOf}
 use Rattle.machine.specs.Fit.{misfits}
 use Rattle.machine.specs.Model.{fullLength}
 use Rattle.machine.specs.Judge.{workOf, fullOf, verdictNo, rulingNo, told, startedOf, steppedOf, stepOf}
@@ -146,7 +147,8 @@ pub order-of-stepping : (c : Case) (s : State) (k : Step)
     (pick (misfits (c .program) s) (told (Declined 33) s)
     (pick (not (eqb (stepFault (limitsOf (c .program)) k) 0))
     (told (Declined (stepFault (limitsOf (c .program)) k)) s)
-    (pick (not (eqb (ruleOf (c .program) s k) 0)) (told (Broken (ruleOf (c .program) s k)) s)
+    (pick (not (eqb (ruleOf (c .program) s k) 0))
+    (told (Broken (ruleOf (c .program) s k) (blockerOf (c .program) s k)) s)
     (told Allowed (nextOf (c .program) s k)))))
 unfolding stepOf steppedOf
 order-of-stepping c s k = refl

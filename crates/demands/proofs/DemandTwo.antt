@@ -20,9 +20,11 @@ use Rattle.cases.specs.Seats.{encodeOf, stepsBytes}
 use Rattle.cases.specs.Writing.{readsBack, wroteOf, writtenOf}
 use Rattle.cases.proofs.Promises as Cases
 use Rattle.machine.specs.declared.cells.State.{State}
+use Rattle.machine.specs.declared.blocker.Blocker.{Blocker}
 use Rattle.machine.specs.declared.runs.Verdict.the-variants.{Legal, Illegal}
 use Rattle.machine.specs.View.{wordOf, issuedOf}
 use Rattle.machine.specs.Rules.{ruleOf, startOf}
+use Rattle.machine.specs.Blocker.{blockerOf}
 use Rattle.machine.specs.Model.{fullLength, Leads, Faultless, StopsAt, Listed}
 use Rattle.machine.specs.Judge.{runOf, judgeOf, judgeBytes}
 use Rattle.machine.specs.Next.{rankOf}
@@ -46,11 +48,13 @@ module _ (c : Case) (readable : readsBack c ≡ true) where
       → judgeOf c .state ≡ u
   passes-with-its-end = Machine.judge-legal-state c readable
 
-  -- "else it names the first illegal step and its rule.": and gives the state before it
-  pub names-the-first-illegal-step : (r i : ℕ)
-      → (judgeOf c .verdict ≡ Illegal r i)
+  -- "else it names the first illegal step and its rule.": with P4 the first entry in its way too (page Blocker); and
+  -- gives the state before it
+  pub names-the-first-illegal-step : (r i : ℕ) (b : Blocker)
+      → (judgeOf c .verdict ≡ Illegal r i b)
       ↔ ((u : State) × StopsAt (ptso (c .program)) (startOf (c .program)) (runOf c) i u
-      × (ruleOf (c .program) u (getD (runOf c) i noStep) ≡ r))
+      × (ruleOf (c .program) u (getD (runOf c) i noStep) ≡ r)
+      × (blockerOf (c .program) u (getD (runOf c) i noStep) ≡ b))
   names-the-first-illegal-step = Machine.judge-illegal c readable
 
   pub stops-with-the-state-before : (i : ℕ) (u : State)

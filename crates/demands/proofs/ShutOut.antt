@@ -23,10 +23,12 @@ use Rattle.cases.specs.Seats.{encodeOf}
 use Rattle.cases.specs.Writing.{readsBack, wroteOf, writtenOf}
 use Rattle.cases.proofs.Promises.{read-after-write}
 use Rattle.machine.specs.declared.cells.State.{State}
+use Rattle.machine.specs.declared.blocker.Blocker.{Blocker}
 use Rattle.machine.specs.declared.runs.Verdict.the-variants.{Legal, Illegal}
 use Rattle.machine.specs.Rules.{ruleOf, startOf}
 use Rattle.machine.specs.Model.{fullLength, Leads, StopsAt}
-use Rattle.machine.specs.Judge.{verdictNo, verdictPlace, judged, runOf, judgeOf}
+use Rattle.machine.specs.Blocker.{blockerOf}
+use Rattle.machine.specs.Judge.{verdictNo, verdictPlace, verdictBlocker, judged, runOf, judgeOf}
 use Rattle.machine.specs.Next.{persistStep}
 use Rattle.machine.specs.Ptso.{ptso}
 use Rattle.search.specs.declared.ask.Outcome.the-variants.{Reached}
@@ -100,14 +102,14 @@ no-made-up-length s bytes read b out room before v first covered n says =
     ap outcomePlace (sym says
     ∙ DemandTwo.reached-exactly s bytes read b out room (length (v .run)) .1 (before, v, first, covered, refl))
 
-pub no-made-up-index : (c : Case) → readsBack c ≡ true → (r i q j : ℕ) (u : State)
+pub no-made-up-index : (c : Case) → readsBack c ≡ true → (r i q j : ℕ) (b : Blocker) (u : State)
     → StopsAt (ptso (c .program)) (startOf (c .program)) (runOf c) i u
     → ruleOf (c .program) u (getD (runOf c) i noStep) ≡ r
-    → judgeOf c .verdict ≡ Illegal q j
-    → (q ≡ r) × (j ≡ i)
-no-made-up-index c readable r i q j u stops rule says =
-    let e = sym says ∙ DemandTwo.names-the-first-illegal-step c readable r i .1 (u, stops, rule) in
-    (ap verdictNo e, ap verdictPlace e)
+    → judgeOf c .verdict ≡ Illegal q j b
+    → (q ≡ r) × (j ≡ i) × (b ≡ blockerOf (c .program) u (getD (runOf c) i noStep))
+no-made-up-index c readable r i q j b u stops rule says =
+    let e = sym says ∙ DemandTwo.names-the-first-illegal-step c readable r i _ .1 (u, stops, rule, refl) in
+    (ap verdictNo e, ap verdictPlace e, ap verdictBlocker e)
 
 -- "a writer that writes nothing (round trip)": lent zeros do not stay zeros
 pub not-nothing-written : writtenOf example (replicate 100 0) ≢ replicate 100 0

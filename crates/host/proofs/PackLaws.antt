@@ -4,14 +4,19 @@ use Prim.Native.Nat.{ℕ, _^_, _<_, _≤_}
 use mathlib.Core.Path.{_≡_, ap, _∙_}
 use mathlib.Core.List.{List}
 use native.Mathlib.Omega.{arith}
-use Rattle.cases.specs.Sizes.{longest}
+use Rattle.cases.specs.Sizes.{mostLocations, longest}
+use Rattle.machine.specs.declared.blocker.Blocker.{Blocker}
+use Rattle.machine.specs.declared.blocker.Blocker.the-variants.{InBuffer, InQueue, NoEntry}
 use Rattle.machine.specs.declared.runs.Judged.{Judged}
-use Rattle.machine.specs.Judge.{verdictNo, verdictPlace, judgeBytes}
+use Rattle.machine.specs.Sizes.{room}
+use Rattle.machine.specs.Blocker.{blockerWhich, blockerNumber, blockerPosition}
+use Rattle.machine.specs.Judge.{verdictNo, verdictPlace, verdictBlocker, judgeBytes}
 use Rattle.machine.proofs.Promises.{verdict-low}
 use Rattle.search.specs.declared.ask.Outcome.{Outcome}
 use Rattle.search.specs.Question.{outcomeNo, outcomePlace, questionOf}
 use Rattle.search.proofs.Promises.{question-low}
-use Rattle.host.specs.Host.{packedOf, unpackedNo, unpackedPlace, judgePacked, questionPacked}
+use Rattle.host.specs.Host.{packedOf, unpackedNo, unpackedPlace, judgePacked, placePacked, unpackedWhich}
+use Rattle.host.specs.Host.{unpackedOne, unpackedPosition, blockerPacked, questionPacked}
 
 module _ (number place : ℕ) (low : (number < 256) × (place ≤ longest)) where
   pub pack-fits : packedOf number place < 2 ^ 32
@@ -22,6 +27,26 @@ module _ (number place : ℕ) (low : (number < 256) × (place ≤ longest)) wher
       (unpackedNo (packedOf number place) ≡ number) × (unpackedPlace (packedOf number place) ≡ place)
   unfolding packedOf unpackedNo unpackedPlace
   pack-unpacks = (omega (arith, low .0), omega (arith, low .0))
+
+-- the same of the place of an entry
+module _ (b : Blocker) (low : (blockerNumber b < mostLocations) × (blockerPosition b < room)) where
+  which-low : (d : Blocker) → blockerWhich d ≤ 2
+  which-low (InBuffer t i) = omega arith
+  which-low (InQueue q i) = omega arith
+  which-low NoEntry = omega arith
+
+  pub place-fits : placePacked b < 2 ^ 32
+  unfolding placePacked
+  place-fits = omega (arith, which-low b, low .0, low .1)
+
+  pub place-unpacks :
+      (unpackedWhich (placePacked b) ≡ blockerWhich b)
+      × (unpackedOne (placePacked b) ≡ blockerNumber b)
+      × (unpackedPosition (placePacked b) ≡ blockerPosition b)
+  unfolding placePacked unpackedWhich unpackedOne unpackedPosition
+  place-unpacks =
+      let w = which-low b in
+      (omega (arith, low .0, low .1), omega (arith, low .0, low .1), omega (arith, low .0, low .1))
 
 -- the judge's: j is its answer, `at` its place
 module _ (s : List ℕ) (j : Judged) (j-is : j ≡ judgeBytes s) (at : ℕ)
@@ -34,6 +59,12 @@ module _ (s : List ℕ) (j : Judged) (j-is : j ≡ judgeBytes s) (at : ℕ)
   pub verdict-packs : (n : ℕ) → n ≡ verdictNo (j .verdict) → (r : ℕ) → r ≡ packedOf n at → r ≡ judgePacked s
   unfolding judgePacked
   verdict-packs n n-is r e = rw (e, n-is, at-is, j-is)
+
+-- the judge's blocker: j is its answer, b the entry that is named
+pub blocker-packs : (s : List ℕ) (j : Judged) → j ≡ judgeBytes s → (b : Blocker) → b ≡ verdictBlocker (j .verdict)
+    → (r : ℕ) → r ≡ placePacked b → r ≡ blockerPacked s
+unfolding blockerPacked
+blocker-packs s j j-is b b-is r e = rw (e, b-is, j-is)
 
 -- the question's: o is its answer, `at` its place
 module _ (s : List ℕ) (room b : ℕ) (o : Outcome) (o-is : o ≡ questionOf s room b) (at : ℕ)

@@ -1,14 +1,17 @@
--- What the C face promises: the two packed numbers fit 32 bits, and the answer and its place come out of them.
+-- What the C face promises: the packed numbers fit 32 bits, and the answer and its place, or the blocker's, come out of
+-- them.
 -- Each law is stated in full. Assumes nothing.
 use Prim.Native.Nat.{ℕ, _^_, _<_}
 use mathlib.Core.Path.{_≡_}
 use mathlib.Core.List.{List}
-use Rattle.machine.specs.Judge.{verdictNo, verdictPlace, judgeBytes}
-use Rattle.machine.proofs.Promises.{verdict-low}
+use Rattle.machine.specs.Blocker.{blockerWhich, blockerNumber, blockerPosition}
+use Rattle.machine.specs.Judge.{verdictNo, verdictPlace, verdictBlocker, judgeBytes}
+use Rattle.machine.proofs.Promises.{verdict-low, verdict-blocker-low}
 use Rattle.search.specs.Question.{outcomeNo, outcomePlace, questionOf}
 use Rattle.search.proofs.Promises.{question-low}
-use Rattle.host.specs.Host.{unpackedNo, unpackedPlace, judgePacked, questionPacked}
-use Rattle.host.proofs.PackLaws.{pack-fits, pack-unpacks}
+use Rattle.host.specs.Host.{unpackedNo, unpackedPlace, unpackedWhich, unpackedOne, unpackedPosition}
+use Rattle.host.specs.Host.{judgePacked, blockerPacked, questionPacked}
+use Rattle.host.proofs.PackLaws.{pack-fits, pack-unpacks, place-fits, place-unpacks}
 
 -- "It gets one 32-bit number": the judge's, for any bytes
 module _ (s : List ℕ) where
@@ -22,6 +25,20 @@ module _ (s : List ℕ) where
       × (unpackedPlace (judgePacked s) ≡ verdictPlace (judgeBytes s .verdict))
   unfolding judgePacked
   judge-unpacks = pack-unpacks _ _ (verdict-low s)
+
+-- the judge's blocker, for any bytes
+module _ (s : List ℕ) where
+  pub blocker-packed-fits : blockerPacked s < 2 ^ 32
+  unfolding blockerPacked
+  blocker-packed-fits = place-fits _ (verdict-blocker-low s)
+
+  -- a buffer, a queue or none; which one; and the position: each can be told from it
+  pub blocker-unpacks :
+      (unpackedWhich (blockerPacked s) ≡ blockerWhich (verdictBlocker (judgeBytes s .verdict)))
+      × (unpackedOne (blockerPacked s) ≡ blockerNumber (verdictBlocker (judgeBytes s .verdict)))
+      × (unpackedPosition (blockerPacked s) ≡ blockerPosition (verdictBlocker (judgeBytes s .verdict)))
+  unfolding blockerPacked
+  blocker-unpacks = place-unpacks _ (verdict-blocker-low s)
 
 -- and the question's, for any bytes, any number of lent bytes and any budget
 module _ (s : List ℕ) (room b : ℕ) where

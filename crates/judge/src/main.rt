@@ -1,18 +1,38 @@
 // Judges the run of a case from standard input, of any length: LEGAL and the number of steps, then a line
-// `location word` for each location of the program; ILLEGAL, the index and the rule; or REFUSED, the number and
-// the offset. Where standard input cannot be read it says so on standard error, and nothing else.
+// `location word` for each location of the program; ILLEGAL, the index, the rule and, where one is named, the
+// place of the first entry in the way; or REFUSED, the number and the offset. Where standard input cannot be read it says so on standard error, and nothing else.
 use cases::sizes::LOCATIONS;
 use input::Filled;
 use libc::STDIN_FILENO;
 use libc::STDOUT_FILENO;
+use machine::blocker::Blocker;
 use machine::cells::State;
 use machine::runs::Verdict;
 
-fn say(word: &[u8], first: usize, second: usize) {
+fn say_numbers(word: &[u8], first: usize, between: &[u8], second: usize) {
     io::write_all(STDOUT_FILENO, word);
     io::print_decimal(STDOUT_FILENO, first as u64);
-    io::write_all(STDOUT_FILENO, b" ");
+    io::write_all(STDOUT_FILENO, between);
     io::print_decimal(STDOUT_FILENO, second as u64);
+}
+
+fn say(word: &[u8], first: usize, second: usize) {
+    say_numbers(word, first, b" ", second);
+    io::write_all(STDOUT_FILENO, b"\n");
+}
+
+// `B0.2` or `Q1.0`, and nothing where no entry is named.
+fn say_place(b: Blocker) {
+    match b {
+        Blocker::InBuffer(t, i) => say_numbers(b" B", t.0 as usize, b".", i as usize),
+        Blocker::InQueue(q, i) => say_numbers(b" Q", q.0 as usize, b".", i as usize),
+        Blocker::NoEntry => {}
+    }
+}
+
+fn say_illegal(index: usize, rule: u8, b: Blocker) {
+    say_numbers(b"ILLEGAL ", index, b" ", rule as usize);
+    say_place(b);
     io::write_all(STDOUT_FILENO, b"\n");
 }
 
@@ -42,7 +62,7 @@ fn answer(bytes: &[u8]) {
             let program = case.program;
             say_words(judged.state, program.locations);
         }
-        Verdict::Illegal(rule, index) => say(b"ILLEGAL ", index, rule as usize),
+        Verdict::Illegal(rule, index, b) => say_illegal(index, rule, b),
         Verdict::Refused(number, offset) => say(b"REFUSED ", number as usize, offset),
     }
 }

@@ -11,6 +11,7 @@ use Rattle.machine.specs.Rules.{enqueue, await, barrierRule, isBarrier, 
 use Rattle.machine.specs.Rules.{loaded, exchanged, performed, issueOf, effectRule, effectOf, passRule}
 use Rattle.machine.specs.Rules.{moveRule, moveOf, persistRule, settled, persistFirst, persistOf, ruleIn, ruleOf}
 use Rattle.machine.specs.Rules.{nextOf, startOf}
+use Rattle.machine.specs.Blocker.{entryLine, blockerBy, blockerIn, blockerOf}
 use Rattle.machine.specs.Fit.{sumTo, unissued}
 use Rattle.machine.specs.Work.{unissuedWeight, waitingWeight, unissuedCode, threadWork, work, weigh}
 use Rattle.machine.specs.Model.{fullLength, allowed, legalSteps}
@@ -39,5 +40,5 @@ next-computes = 0
 
 -- judgeBytes
 unfoldable pub judging-computes : ℕ
-unfolding reading-computes steps-compute judged judgeFrom judgeRun judgeBytes
+unfolding reading-computes steps-compute entryLine blockerBy blockerIn blockerOf judged judgeFrom judgeRun judgeBytes
 judging-computes = 0

@@ -21,23 +21,25 @@ use Rattle.cases.specs.Writing.{readsBack}
 use Rattle.cases.proofs.Promises.{read-ranged, readable-ranged, read-reads-back}
 use Rattle.cases.proofs.ChoiceLaws.{pick-true, pick-false, pick-cases, true-not, false-not}
 use Rattle.machine.specs.declared.cells.State.{State}
+use Rattle.machine.specs.declared.blocker.Blocker.{Blocker}
 use Rattle.machine.specs.declared.steps.Stepped.{Stepped}
 use Rattle.machine.specs.declared.runs.Verdict.the-variants.{Legal, Illegal}
 use Rattle.machine.specs.View.{lineOf, marksIn, queue, buffer, issuedOf, markOf}
 use Rattle.machine.specs.Behind.{BlankBehind, SameEntries}
 use Rattle.machine.specs.Look.{markerOf, isAt, foundQueue, foundPosition}
 use Rattle.machine.specs.Rules.{ruleOf, nextOf, startOf}
+use Rattle.machine.specs.Blocker.{blockerNumber, blockerPosition, blockerOf}
 use Rattle.machine.specs.Fit.{sumTo, misfits, Sized, Fits, Shallow}
 use Rattle.cases.specs.Ranges.{ProgramFits}
 use Rattle.machine.specs.Work.{work, Unfinished, programWeight, cost}
 use Rattle.machine.specs.Model.{Model, Lawful, EachCostsOne, spent, fullLength, Leads, Faultless, StopsAt}
 use Rattle.machine.specs.Model.{legalSteps, Listed, Ascending}
-use Rattle.machine.specs.Judge.{rulingNo, told, steppedOf, stepOf, verdictNo, verdictPlace, judged}
-use Rattle.machine.specs.Judge.{judgeFrom, runOf, judgeRun, stopped, judgeOf, judgeBytes}
+use Rattle.machine.specs.Judge.{rulingNo, told, steppedOf, stepOf, verdictNo, verdictPlace, verdictBlocker}
+use Rattle.machine.specs.Judge.{judged, judgeFrom, runOf, judgeRun, stopped, judgeOf, judgeBytes}
 use Rattle.machine.specs.Next.{issueStep, moveStep, persistStep, rankOf, stepAt, nextSteps}
 use Rattle.machine.specs.Ptso.{ptso}
 use Rattle.machine.specs.Offer.{Movable}
-use Rattle.machine.specs.Sizes.{allSlots, mostCandidates, mostWork}
+use Rattle.machine.specs.Sizes.{room, allSlots, mostCandidates, mostWork}
 use Rattle.machine.proofs.view.LineOfLaws as LineOfLaws
 use Rattle.machine.proofs.fit.StartLaws as StartLaws
 use Rattle.machine.proofs.steps.StepFaultLaws.{fault-none}
@@ -103,6 +105,12 @@ module _ {S K : Type 0} (m : Model S K) where
     pub spent-least : (s : S) (ks : List K) (u : S) → Fit s → Faultless m ks → Leads m s ks u
         → length ks ≤ spent m s ks
     spent-least = ModelLaws.spent-least m laws
+
+-- where a run stops: the state there fits, and the step there passes the checks 5 and 8
+pub stops-fits : {S : Type 0} (m : Model S Step) {Fit : S → Type 0} {rank : Step → ℕ} → Lawful m Fit rank
+    → (s : S) (ks : List Step) (n : ℕ) (u : S) → Fit s → Faultless m ks → StopsAt m s ks n u
+    → Fit u × (m .fault (getD ks n noStep) ≡ 0)
+stops-fits = ModelLaws.stops-fits
 
 -- each step of the machine of document 01 uses up one
 pub each-costs-one : (p : Program) → EachCostsOne (ptso p)
@@ -188,15 +196,17 @@ module _ (c : Case) (readable : readsBack c ≡ true) where
   judge-legal-state u h = rw judge-is (judge-state-is _ _ _ _ u (judge-says-legal _ _ _ u h))
 
   -- "else it names the first illegal step and its rule": the rule that this step breaks in the state that the
-  -- steps before it lead to, and that state
-  pub judge-illegal : (r i : ℕ) →
-      (judgeOf c .verdict ≡ Illegal r i)
+  -- steps before it lead to, the first entry that stands in its way there, and that state
+  pub judge-illegal : (r i : ℕ) (b : Blocker) →
+      (judgeOf c .verdict ≡ Illegal r i b)
       ↔ ((u : State) × StopsAt (ptso (c .program)) (startOf (c .program)) (runOf c) i u
-      × (ruleOf (c .program) u (getD (runOf c) i noStep) ≡ r))
-  judge-illegal r i =
+      × (ruleOf (c .program) u (getD (runOf c) i noStep) ≡ r)
+      × (blockerOf (c .program) u (getD (runOf c) i noStep) ≡ b))
+  judge-illegal r i b =
       rw judge-is (
-        judge-says-stops (ptso (c .program)) (startOf (c .program)) (runOf c) r i,
-        (λ e. judge-illegal-says (ptso (c .program)) (startOf (c .program)) (runOf c) i (e .0) r (e .1) (e .2)),
+        judge-says-stops (ptso (c .program)) (startOf (c .program)) (runOf c) r i b,
+        (λ e. judge-illegal-says (ptso (c .program)) (startOf (c .program)) (runOf c) i (e .0) r b (e .1)
+            (e .2) (e .3)),
       )
 
   pub judge-illegal-state : (i : ℕ) (u : State)
@@ -251,6 +261,12 @@ module _ (s : List ℕ) where
   -- the number and the place are low enough to be packed: a refusal's, a rule's, or those of a legal run
   pub verdict-low : (verdictNo (judgeBytes s .verdict) < 256) × (verdictPlace (judgeBytes s .verdict) ≤ longest)
   verdict-low = VerdictLaws.verdict-low s
+
+  -- so are those of the first entry in the way: which buffer or queue, and the position in it
+  pub verdict-blocker-low :
+      (blockerNumber (verdictBlocker (judgeBytes s .verdict)) < mostLocations)
+      × (blockerPosition (verdictBlocker (judgeBytes s .verdict)) < room)
+  verdict-blocker-low = VerdictLaws.verdict-blocker-low s
 
 -- "It doesn't look at kinds 4 and 5."
 pub ask-not-looked-at : (c : Case) (a : Ask) → judgeRun (withAsk c a) ≡ judgeRun c

@@ -9,5 +9,7 @@ pub mod AnyLaws
 pub mod AllLaws
 -- listed: being on a list
 pub mod ListedLaws
+-- stands, within-stands, some-stands: what stands at a position of a list
+pub mod StandsLaws
 -- sum, some-or-none: sums, and the loops that sum; SummedSoFar
 pub mod SumLaws

@@ -1,5 +1,6 @@
 -- Document 01, "The machine's steps": a single step given with a state, the work left there, and a run, judged.
 --   rulingNo, verdictNo, verdictPlace   01's number of an answer, and its place
+--   rulingBlocker, verdictBlocker   the first entry in the way that an answer names
 --   told r s, judged v s   an answer with its state
 --   steppedOf m s k, stepOf c s k   a single step, of a machine, of a case
 --   workOf, fullOf    the work left, and the full length, as they are told
@@ -18,6 +19,8 @@ use Rattle.cases.specs.Draft.{emptyCase}
 use Rattle.cases.specs.Reading.{numberOf, offsetOf, readOf}
 use Rattle.cases.specs.Writing.{readsBack}
 use Rattle.machine.specs.declared.cells.State.{State}
+use Rattle.machine.specs.declared.blocker.Blocker.{Blocker}
+use Rattle.machine.specs.declared.blocker.Blocker.the-variants.{NoEntry}
 use Rattle.machine.specs.declared.steps.Ruling.{Ruling}
 use Rattle.machine.specs.declared.steps.Ruling.the-variants.{Allowed, Broken, Declined}
 use Rattle.machine.specs.declared.steps.Stepped.{Stepped}
@@ -33,8 +36,14 @@ use Rattle.machine.specs.Ptso.{ptso}
 -- 01's number of a ruling: legal is 103
 abbrev pub rulingNo : Ruling → ℕ
 rulingNo Allowed = 103
-rulingNo (Broken n) = n
+rulingNo (Broken n b) = n
 rulingNo (Declined n) = n
+
+-- "Rules 22, 23, 26, 27 and 28 now also give the place of the first entry that stands in the way"
+abbrev pub rulingBlocker : Ruling → Blocker
+rulingBlocker Allowed = NoEntry
+rulingBlocker (Broken n b) = b
+rulingBlocker (Declined n) = NoEntry
 
 unfoldable pub told : Ruling → State → Stepped
 told r s = record { ruling = r; state = s }
@@ -43,7 +52,7 @@ told r s = record { ruling = r; state = s }
 unfoldable pub steppedOf : Model State Step → State → Step → Stepped
 steppedOf m s k =
     pick (not (eqb (m .fault k) 0)) (told (Declined (m .fault k)) s)
-    (pick (not (eqb (m .rule s k) 0)) (told (Broken (m .rule s k)) s)
+    (pick (not (eqb (m .rule s k) 0)) (told (Broken (m .rule s k) (m .blocker s k)) s)
     (told Allowed (m .after s k)))
 
 -- "a single step given with a state tests 32, 33," and then those. "It gives back the state unchanged when it
@@ -79,17 +88,22 @@ unfoldable pub fullOf : Case → Weighed
 fullOf c = pick (not (readsBack c)) (Unweighed 32) (Left (fullLength (ptso (c .program))))
 
 -- "The judge answers legal (103) with the end state, or the rule number, the index of the first illegal step
--- from 0, and the state before it."
+-- from 0, and the state before it." With P4 the first entry in the way goes along.
 abbrev pub verdictNo : Verdict → ℕ
 verdictNo (Legal n) = 103
-verdictNo (Illegal r i) = r
+verdictNo (Illegal r i b) = r
 verdictNo (Refused m at) = m
 
 -- "(offset for reading refusals, index for rules 21 to 29, number of steps for 100 and 103, else 0)"
 abbrev pub verdictPlace : Verdict → ℕ
 verdictPlace (Legal n) = n
-verdictPlace (Illegal r i) = i
+verdictPlace (Illegal r i b) = i
 verdictPlace (Refused m at) = at
+
+abbrev pub verdictBlocker : Verdict → Blocker
+verdictBlocker (Legal n) = NoEntry
+verdictBlocker (Illegal r i b) = b
+verdictBlocker (Refused m at) = NoEntry
 
 unfoldable pub judged : Verdict → State → Judged
 judged v s = record { verdict = v; state = s }
@@ -98,7 +112,7 @@ unfoldable pub judgeFrom : Model State Step → ℕ → State → List Step → 
 judgeFrom m i s [] = judged (Legal i) s
 judgeFrom m i s (k ∷ ks) =
     pick (eqb (m .rule s k) 0) (judgeFrom m (suc i) (m .after s k) ks)
-    (judged (Illegal (m .rule s k) i) s)
+    (judged (Illegal (m .rule s k) i (m .blocker s k)) s)
 
 -- the run of a case, from its start
 abbrev pub runOf : Case → List Step

@@ -6,10 +6,12 @@ pub mod Parts
 pub mod Behind
 pub mod Look
 pub mod Rules
+pub mod Blocker
 pub mod Joins
 pub mod Fit
 pub mod Work
 pub mod Next
 pub mod Ptso
 pub mod Judge
+pub mod Followed
 pub mod Offer

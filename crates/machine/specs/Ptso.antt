@@ -7,6 +7,7 @@ use Rattle.cases.specs.Checks.{limitsOf, stepFault}
 use Rattle.machine.specs.declared.cells.State.{State}
 use Rattle.machine.specs.Model.{Model}
 use Rattle.machine.specs.Rules.{ruleOf, nextOf, startOf}
+use Rattle.machine.specs.Blocker.{blockerOf}
 use Rattle.machine.specs.Fit.{misfits}
 use Rattle.machine.specs.Work.{work, cost}
 use Rattle.machine.specs.Next.{candidates}
@@ -16,6 +17,7 @@ ptso p =
     record {
       fault = stepFault (limitsOf p);
       rule = ruleOf p;
+      blocker = blockerOf p;
       after = nextOf p;
       start = startOf p;
       candidates = candidates p;

@@ -1,5 +1,6 @@
 // The machine: every step of PTSOsyn, a run judged, the work left.
 // Document 01, "The machine's steps"; specs/ has the definitions that the contracts cite.
+pub mod blocker;
 pub mod cells;
 mod change;
 mod fit;

@@ -1,16 +1,20 @@
 // A run, judged: step by step from the start, to the first that breaks a rule.
+use crate::blocker;
+use crate::blocker::Blocker;
 use crate::cells::State;
 use crate::steps;
 use cases::case::Case;
 use cases::reader;
 ghost use mathlib.Core.Path.{_≡_};
 ghost use Rattle.cases.specs.Ranges.{Ranged};
-ghost use Rattle.machine.specs.Judge.{verdictNo, verdictPlace, stopped, judgeRun, judgeOf, judgeBytes};
+ghost use Rattle.machine.specs.Judge.{verdictNo, verdictPlace, verdictBlocker, stopped, judgeRun};
+ghost use Rattle.machine.specs.Judge.{judgeOf, judgeBytes};
 
-// Legal with the number of steps; illegal with the rule and the index; refused with the number and the offset.
+// Legal with the number of steps; illegal with the rule, the index and the first entry in the way; refused with
+// the number and the offset.
 pub enum Verdict {
     Legal(usize),
-    Illegal(u8, usize),
+    Illegal(u8, usize, Blocker),
     Refused(u8, usize),
 }
 
@@ -25,7 +29,7 @@ pub fn verdict_number(v: Verdict) -> u8
 {
     match v {
         Verdict::Legal(_) => 103,
-        Verdict::Illegal(rule, _) => rule,
+        Verdict::Illegal(rule, _, _) => rule,
         Verdict::Refused(number, _) => number,
     }
 }
@@ -36,8 +40,19 @@ pub fn verdict_place(v: Verdict) -> usize
 {
     match v {
         Verdict::Legal(steps) => steps,
-        Verdict::Illegal(_, index) => index,
+        Verdict::Illegal(_, index, _) => index,
         Verdict::Refused(_, offset) => offset,
+    }
+}
+
+// The first entry in the way, where one is named.
+pub fn verdict_blocker(v: Verdict) -> Blocker
+    ensures { λ r. ⌜ r ≡ verdictBlocker v ⌝ }
+{
+    match v {
+        Verdict::Legal(_) => Blocker::NoEntry,
+        Verdict::Illegal(_, _, b) => b,
+        Verdict::Refused(_, _) => Blocker::NoEntry,
     }
 }
 
@@ -68,7 +83,11 @@ fn judge_run(c: Case) -> Judged
         let broken = steps::rule(p, b, &s.issued, &s.waiting, &s.marks, &s.lengths, k);
         if broken != 0 {
             return Judged {
-                verdict: Verdict::Illegal(broken, i),
+                verdict: Verdict::Illegal(
+                    broken,
+                    i,
+                    blocker::blocker_by(p, b, &s.waiting, &s.marks, &s.lengths, k, broken),
+                ),
                 state: s,
             };
         }

@@ -1,4 +1,6 @@
 // A step by its code, and a single step given with a case and a state in memory.
+use crate::blocker;
+use crate::blocker::Blocker;
 use crate::cells::Entry;
 use crate::cells::State;
 use crate::cells::Waiting;
@@ -28,13 +30,13 @@ ghost use Rattle.machine.specs.Rules.{ruleIn, ruleOf, nextOf, startOf};
 ghost use Rattle.machine.specs.Fit.{Fits, Shallow};
 ghost use Rattle.cases.specs.Ranges.{ProgramFits};
 ghost use Rattle.machine.specs.Offer.{Movable};
-ghost use Rattle.machine.specs.Judge.{rulingNo, steppedOf, stepOf, startedOf};
+ghost use Rattle.machine.specs.Judge.{rulingNo, rulingBlocker, steppedOf, stepOf, startedOf};
 ghost use Rattle.machine.specs.Ptso.{ptso};
 
-// What is said of a step: legal, a rule broken, or the input refused.
+// What is said of a step: legal, a rule broken and the first entry in the way, or the input refused.
 pub enum Ruling {
     Allowed,
-    Broken(u8),
+    Broken(u8, Blocker),
     Declined(u8),
 }
 
@@ -49,8 +51,19 @@ pub fn ruling_number(r: Ruling) -> u8
 {
     match r {
         Ruling::Allowed => 103,
-        Ruling::Broken(n) => n,
+        Ruling::Broken(n, _) => n,
         Ruling::Declined(n) => n,
+    }
+}
+
+// The first entry in the way, where one is named.
+pub fn ruling_blocker(r: Ruling) -> Blocker
+    ensures { λ b. ⌜ b ≡ rulingBlocker r ⌝ }
+{
+    match r {
+        Ruling::Allowed => Blocker::NoEntry,
+        Ruling::Broken(_, b) => b,
+        Ruling::Declined(_) => Blocker::NoEntry,
     }
 }
 
@@ -151,7 +164,10 @@ fn step_in(p: Program, s: State, k: Step) -> Stepped
     let broken = rule(p, b, &u.issued, &u.waiting, &u.marks, &u.lengths, k);
     if broken != 0 {
         return Stepped {
-            ruling: Ruling::Broken(broken),
+            ruling: Ruling::Broken(
+                broken,
+                blocker::blocker_by(p, b, &u.waiting, &u.marks, &u.lengths, k, broken),
+            ),
             state: s,
         };
     }

@@ -1,7 +1,7 @@
 -- Document 01, "Rows proved of the rules (marked *) and rows run": all of them, a list for each line of 01.
--- Above each stands 01's line, with a * where 01 has one. Behind them the rows of request P3 of document 02. A run, an index or a full length that 01 does not
--- name is as the second judge tells it.
---   table         the rows, in 01's order, then P3's
+-- Above each stands 01's line, with a * where 01 has one. Behind them the rows of the requests P3 and P4 of document 02.
+-- A run, an index, a full length or a place that they do not name is as the second judge tells it.
+--   table         the rows, in 01's order, then P3's and P4's
 --   outage        the records of its second row; outageBytes: the 50 bytes that 01 has for it
 -- "In the rows below "store x" means x=500, and a budget not named is 1,000,000."
 -- Assumes nothing.
@@ -13,7 +13,8 @@ use Rattle.cases.specs.declared.record.Record.{Record}
 use Rattle.machine.specs.declared.runs.Verdict.the-variants.{Legal, Illegal}
 use Rattle.search.specs.Question.{reached, unreachable, undecided}
 use Rattle.rows.specs.Words.{x, y, z, header, lined, program, threads, first, store, storeRegister, load, exchange, flush}
-use Rattle.rows.specs.Words.{flushOpt, sfence, mfence, want, passed, taking, issue, move, persist}
+use Rattle.rows.specs.Words.{flushOpt, sfence, mfence, want, passed, taking, issue, move, persist, inBuffer}
+use Rattle.rows.specs.Words.{inQueue}
 use Rattle.rows.specs.Row.{Row, asked, ruled, opened}
 
 -- "a budget not named is 1,000,000"
@@ -86,22 +87,22 @@ abbrev passing : List Row
 passing =
     ruled (threads 1 ∷ store 0 y 500 ∷ flushOpt 0 x ∷ taking (issue 0 ∷ issue 0 ∷ move 0 1 ∷ [])) (Legal 3)
     ∷ ruled (threads 1 ∷ store 0 x 500 ∷ flushOpt 0 x ∷ taking (issue 0 ∷ issue 0 ∷ move 0 1 ∷ []))
-    (Illegal 26 2)
+    (Illegal 26 2 (inBuffer 0 0))
     ∷ []
 
 -- * "Store x, exchange y, both issued at once: 22." "Flush-opt x moved, then mfence: 23; not moved: 22."
 abbrev barriers : List Row
 barriers =
-    ruled (threads 1 ∷ store 0 x 500 ∷ exchange 0 y 7 ∷ taking (issue 0 ∷ issue 0 ∷ [])) (Illegal 22 1)
-    ∷ ruled (threads 1 ∷ flushOpt 0 x ∷ mfence 0 ∷ taking (issue 0 ∷ move 0 0 ∷ issue 0 ∷ [])) (Illegal 23 2)
-    ∷ ruled (threads 1 ∷ flushOpt 0 x ∷ mfence 0 ∷ taking (issue 0 ∷ issue 0 ∷ [])) (Illegal 22 1)
+    ruled (threads 1 ∷ store 0 x 500 ∷ exchange 0 y 7 ∷ taking (issue 0 ∷ issue 0 ∷ [])) (Illegal 22 1 (inBuffer 0 0))
+    ∷ ruled (threads 1 ∷ flushOpt 0 x ∷ mfence 0 ∷ taking (issue 0 ∷ move 0 0 ∷ issue 0 ∷ [])) (Illegal 23 2 (inQueue 0 0))
+    ∷ ruled (threads 1 ∷ flushOpt 0 x ∷ mfence 0 ∷ taking (issue 0 ∷ issue 0 ∷ [])) (Illegal 22 1 (inBuffer 0 0))
     ∷ []
 
 -- * "Thread 1's marker in x's queue, thread 0 moves flush x: 27."
 abbrev othersMarker : List Row
 othersMarker =
     ruled (threads 2 ∷ flush 0 x ∷ flushOpt 1 x ∷ taking (issue 1 ∷ move 1 0 ∷ issue 0 ∷ move 0 0 ∷ []))
-    (Illegal 27 3)
+    (Illegal 27 3 (inQueue 0 0))
     ∷ []
 
 -- "Two threads, store x=1 load y and store y=1 load x: both may load 0." What they load is stored where 9
@@ -167,8 +168,8 @@ inTurn = issue 0 ∷ issue 0 ∷ move 0 0 ∷ move 0 0 ∷ []
 -- flush's move is 27."
 abbrev neighboursWait : List Row
 neighboursWait =
-    ruled (row ∷ store 0 x 500 ∷ flushOpt 0 y ∷ taking (issue 0 ∷ issue 0 ∷ move 0 1 ∷ [])) (Illegal 26 2)
-    ∷ ruled (row ∷ store 0 x 500 ∷ flush 0 y ∷ taking inTurn) (Illegal 27 3)
+    ruled (row ∷ store 0 x 500 ∷ flushOpt 0 y ∷ taking (issue 0 ∷ issue 0 ∷ move 0 1 ∷ [])) (Illegal 26 2 (inBuffer 0 0))
+    ∷ ruled (row ∷ store 0 x 500 ∷ flush 0 y ∷ taking inTurn) (Illegal 27 3 (inQueue 0 0))
     ∷ []
 
 -- "A header of version 2 with lines 0, 2: 8. With lines 1, 0: 8. Two locations and three line bytes: 3."
@@ -180,8 +181,37 @@ headers =
     ∷ opened (lined (0 ∷ 1 ∷ 0 ∷ []) ∷ []) 0 11
     ∷ []
 
+-- P4: "Store y, store x, flush-opt x, all issued, move at 2: 26 B0.1."
+abbrev barBehind : List Row
+barBehind =
+    ruled
+    (threads 1 ∷ store 0 y 500 ∷ store 0 x 500 ∷ flushOpt 0 x
+    ∷ taking (issue 0 ∷ issue 0 ∷ issue 0 ∷ move 0 2 ∷ []))
+    (Illegal 26 3 (inBuffer 0 1))
+    ∷ []
+
+-- "Thread 1's marker in x's queue behind a write, thread 0 moves flush x: 27 Q0.0."
+abbrev markerBehind : List Row
+markerBehind =
+    ruled
+    (threads 2 ∷ flush 0 x ∷ store 1 x 500 ∷ flushOpt 1 x
+    ∷ taking (issue 1 ∷ issue 1 ∷ move 1 0 ∷ move 1 0 ∷ issue 0 ∷ move 0 0 ∷ []))
+    (Illegal 27 5 (inQueue 0 0))
+    ∷ []
+
+-- "Two flush-opts of thread 0, of y then x, both moved, sfence at the head: move is 28 Q0.0 (the lowest queue, not the
+-- oldest marker)."
+abbrev lowestQueue : List Row
+lowestQueue =
+    ruled
+    (threads 1 ∷ flushOpt 0 y ∷ flushOpt 0 x ∷ sfence 0
+    ∷ taking (issue 0 ∷ issue 0 ∷ move 0 0 ∷ move 0 0 ∷ issue 0 ∷ move 0 0 ∷ []))
+    (Illegal 28 5 (inQueue 0 0))
+    ∷ []
+
 unfoldable pub table : List Row
 table =
     noInstructions ++ tornRow ++ flushed ++ flushedOpt ++ fenceIssued
     ++ passing ++ barriers ++ othersMarker ++ bothLoadZero ++ mostOfEach
     ++ oneLine ++ twoLines ++ neighbourFlushed ++ neighboursWait ++ headers
+    ++ barBehind ++ markerBehind ++ lowestQueue

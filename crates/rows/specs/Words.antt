@@ -10,6 +10,7 @@
 --   passed t n        kind 5
 --   taking ks         kind 6, for each of the steps ks
 --   issue, move, persist   steps
+--   inBuffer t i, inQueue q i   the place of an entry: `B` and `Q` in print
 -- Assumes nothing.
 use Prim.Native.Nat.{ℕ}
 use mathlib.Core.List.{List, [], map}
@@ -20,6 +21,8 @@ use Rattle.cases.specs.declared.record.Record.the-variants.{Declare, First, Ins
 use Rattle.cases.specs.Lines.{ownVersion, lineVersion}
 use Rattle.cases.specs.Record.{asRow}
 use Rattle.cases.specs.Operations as operation
+use Rattle.machine.specs.declared.blocker.Blocker.{Blocker}
+use Rattle.machine.specs.declared.blocker.Blocker.the-variants.{InBuffer, InQueue}
 use Rattle.machine.specs.Next.{issueStep, moveStep, persistStep}
 
 abbrev pub x : ℕ
@@ -101,3 +104,9 @@ move t i = moveStep t i
 
 abbrev pub persist : ℕ → Step
 persist q = persistStep q
+
+abbrev pub inBuffer : ℕ → ℕ → Blocker
+inBuffer t i = InBuffer (record { 0 = t }) i
+
+abbrev pub inQueue : ℕ → ℕ → Blocker
+inQueue q i = InQueue (record { 0 = q }) i

@@ -62,6 +62,9 @@ number-requires-6 c κs = search needs
 buffer-requires : tie.Need-buffer-requires
 buffer-requires c κs = search needs
 
+end-requires : tie.Need-end-requires
+end-requires c κs = search needs
+
 returns : tie.Need-returns
 returns c = search needs
 
@@ -88,4 +91,5 @@ answer-spec =
     wrote-length-requires
     number-requires-6
     buffer-requires
+    end-requires
     returns)

@@ -54,7 +54,7 @@ case-table c readable = go (legal-or-not c readable)
     go (inr x) =
         let u = x .1 in
         let r = ruleOf (c .program) u (getD (runOf c) (x .0) noStep) in
-        let e = judge-illegal c readable r (x .0) .1 (u, x .2, refl) in
+        let e = judge-illegal c readable r (x .0) _ .1 (u, x .2, refl, refl) in
         subst Told (sym (ap verdictNo e))
         (ruled (x .0) u (x .2) r refl (rule-in-table (c .program) u (getD (runOf c) (x .0) noStep)))
 

@@ -1,6 +1,6 @@
 -- Laws of any machine (Model): which steps are next, runs behind runs, and, where it has its laws (Lawful),
 -- what a legal run keeps and uses up. Assumes nothing.
-use Prim.Native.Nat.{ℕ, _+_, _<_, _≤_}
+use Prim.Native.Nat.{ℕ, zero, suc, _+_, _<_, _≤_}
 use mathlib.Core.Path.{_≡_, refl, sym, ap, _∙_}
 use mathlib.Core.Logic.{_⊎_, inl, inr}
 use mathlib.Core.Bool.{Bool, true, false}
@@ -8,10 +8,12 @@ use mathlib.Core.List.{List, [], _∷_, _++_}
 use native.Mathlib.Omega.{arith}
 use borrow.Author.Tests.{eqb-true, eqb-false}
 use lib.Dec.{eqb}
-use lib.ListN.{length}
+use lib.ListN.{length, getD, take}
+use Rattle.cases.specs.declared.case.Step.{Step}
+use Rattle.cases.specs.Draft.{noStep}
 use Rattle.cases.specs.Choice.{pick}
 use Rattle.machine.specs.Model.{Model, Leads, Faultless, allowed, legalSteps, spent, Listed, Ascending}
-use Rattle.machine.specs.Model.{Lawful, EachCostsOne}
+use Rattle.machine.specs.Model.{Lawful, EachCostsOne, StopsAt}
 
 module _ {K : Type 0} (rule : K → ℕ) where
   -- among the allowed are exactly the listed ones that break no rule
@@ -65,6 +67,19 @@ module _ {S K : Type 0} (m : Model S K) where
   faultless-append (k ∷ ks) js a b = (a .0, faultless-append ks js (a .1) b)
 
   -- where every step uses up one, so many steps use up so much
+  -- the first n of some steps; the one at a position
+  faultless-take : (n : ℕ) (ks : List K) → Faultless m ks → Faultless m (take n ks)
+  unfolding Faultless
+  faultless-take zero ks h = tt
+  faultless-take (suc n) [] h = tt
+  faultless-take (suc n) (k ∷ ks) h = (h .0, faultless-take n ks (h .1))
+
+  faultless-at : (n : ℕ) (ks : List K) (d : K) → n < length ks → Faultless m ks → m .fault (getD ks n d) ≡ 0
+  unfolding Faultless
+  faultless-at n [] d low h = absurd (omega arith)
+  faultless-at zero (k ∷ ks) d low h = h .0
+  faultless-at (suc n) (k ∷ ks) d low h = faultless-at n ks d (omega arith) (h .1)
+
   pub spent-length : EachCostsOne m → (s : S) (ks : List K) → spent m s ks ≡ length ks
   unfolding EachCostsOne spent
   spent-length one s [] = refl
@@ -123,3 +138,12 @@ module _ {S K : Type 0} (m : Model S K) where
         let rest = spent-least (m .after s k) ks u (laws .keeps s f k (r .0) (h .0)) (r .1) (h .1) in
         let one = laws .costs s f k (r .0) (h .0) in
         omega arith
+
+-- where a run stops: the state there fits, and the step there passes the checks 5 and 8
+pub stops-fits : {S : Type 0} (m : Model S Step) {Fit : S → Type 0} {rank : Step → ℕ} → Lawful m Fit rank
+    → (s : S) (ks : List Step) (n : ℕ) (u : S) → Fit s → Faultless m ks → StopsAt m s ks n u
+    → Fit u × (m .fault (getD ks n noStep) ≡ 0)
+stops-fits m laws s ks n u fit faultless stops = (
+  leads-fits m laws s (take n ks) u fit (faultless-take m n ks faultless) (stops .before),
+  faultless-at m n ks noStep (stops .within) faultless,
+)

@@ -81,7 +81,7 @@ module _ (p : Program) (s : State) (f : Fits p s) where
   unfolding Shallow
   shallow q h = fits-queue-within p s f q h
 
-  head-named : (t : ℕ) → t < mostThreads → Named mostLocations (entryAt (buffer s t) 0)
+  pub head-named : (t : ℕ) → t < mostThreads → Named mostLocations (entryAt (buffer s t) 0)
   head-named t h = first-entry (p .locations) (buffer s t) (f .program .sized .few-locations) (f .named t h)
 
   pub movable : Movable (s .buffers) (s .waiting)

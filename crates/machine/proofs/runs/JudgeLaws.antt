@@ -12,9 +12,10 @@ use lib.Dec.{eqb}
 use lib.ListN.{length, getD, take}
 use Rattle.cases.specs.declared.case.Step.{Step}
 use Rattle.cases.specs.Draft.{noStep}
-use Rattle.cases.proofs.ChoiceLaws.{pick-true, pick-false, true-not}
+use Rattle.cases.proofs.ChoiceLaws.{pick-true, pick-false, true-not, false-not}
 use Rattle.machine.specs.declared.cells.State.{State}
-use Rattle.machine.specs.declared.steps.Ruling.the-variants.{Allowed}
+use Rattle.machine.specs.declared.blocker.Blocker.{Blocker}
+use Rattle.machine.specs.declared.steps.Ruling.the-variants.{Allowed, Broken}
 use Rattle.machine.specs.declared.runs.Verdict.{Verdict}
 use Rattle.machine.specs.declared.runs.Verdict.the-variants.{Legal, Illegal}
 use Rattle.machine.specs.declared.runs.Judged.{Judged}
@@ -28,7 +29,7 @@ module _ (m : Model State Step) where
     unfolding judgeFrom
     judge-next h = pick-true _ _ _ (eq-eqb _ _ h)
 
-    pub judge-here : m .rule s k ≢ 0 → judgeFrom m i s (k ∷ ks) ≡ judged (Illegal (m .rule s k) i) s
+    pub judge-here : m .rule s k ≢ 0 → judgeFrom m i s (k ∷ ks) ≡ judged (Illegal (m .rule s k) i (m .blocker s k)) s
     unfolding judgeFrom
     judge-here h = pick-false _ _ _ (ne-eqb _ _ h)
 
@@ -40,9 +41,10 @@ module _ (m : Model State Step) where
   leads-judged i s (k ∷ ks) u h =
       judge-next i s k ks (h .0) ∙ leads-judged (suc i) (m .after s k) ks u (h .1) ∙ rw (add-suc, suc-add)
 
-  -- one is not: the judge names the first, its rule there, and the state before it
+  -- one is not: the judge names the first, its rule there, the first entry in its way, and the state before it
   pub stops-judged : (i : ℕ) (s : State) (ks : List Step) (n : ℕ) (u : State) → StopsAt m s ks n u
-      → judgeFrom m i s ks ≡ judged (Illegal (m .rule u (getD ks n noStep)) (i + n)) u
+      → judgeFrom m i s ks
+      ≡ judged (Illegal (m .rule u (getD ks n noStep)) (i + n) (m .blocker u (getD ks n noStep))) u
   stops-judged i s [] n u h = absurd (let w = h .within in omega arith)
   stops-judged i s (k ∷ ks) zero u h =
       let e : s ≡ u = unfold Leads in h .before in
@@ -87,7 +89,8 @@ module _ (m : Model State Step) (s : State) (ks : List Step) where
   judge-says-legal u h = leads-judged m 0 s ks u h ∙ rw zero-add
 
   pub judge-says-illegal : (n : ℕ) (u : State) → StopsAt m s ks n u
-      → judgeFrom m 0 s ks ≡ judged (Illegal (m .rule u (getD ks n noStep)) n) u
+      → judgeFrom m 0 s ks
+      ≡ judged (Illegal (m .rule u (getD ks n noStep)) n (m .blocker u (getD ks n noStep))) u
   judge-says-illegal n u h = stops-judged m 0 s ks n u h ∙ rw zero-add
 
   verdict-is : (v : Verdict) (u : State) → judgeFrom m 0 s ks ≡ judged v u → judgeFrom m 0 s ks .verdict ≡ v
@@ -102,16 +105,20 @@ module _ (m : Model State Step) (s : State) (ks : List Step) where
   pub judge-legal-says : (u : State) → Leads m s ks u → judgeFrom m 0 s ks .verdict ≡ Legal (length ks)
   judge-legal-says u h = verdict-is _ u (judge-says-legal u h)
 
-  pub judge-illegal-says : (n : ℕ) (u : State) (r : ℕ) → StopsAt m s ks n u → m .rule u (getD ks n noStep) ≡ r
-      → judgeFrom m 0 s ks .verdict ≡ Illegal r n
-  judge-illegal-says n u r h e = verdict-is _ u (judge-says-illegal n u h) ∙ ap (λ x. Illegal x n) e
+  pub judge-illegal-says : (n : ℕ) (u : State) (r : ℕ) (b : Blocker) → StopsAt m s ks n u
+      → m .rule u (getD ks n noStep) ≡ r
+      → m .blocker u (getD ks n noStep) ≡ b
+      → judgeFrom m 0 s ks .verdict ≡ Illegal r n b
+  judge-illegal-says n u r b h e d =
+      verdict-is _ u (judge-says-illegal n u h) ∙ ap (λ x. Illegal x n (m .blocker u (getD ks n noStep))) e ∙ ap (Illegal r n) d
 
   -- a verdict of one kind is none of the other
-  legal-illegal : (n r i : ℕ) → Legal n ≡ Illegal r i → ⊥
-  legal-illegal n r i e = let z : _≡_ {A = ℕ} 0 1 = cc in omega arith
+  legal-illegal : (n r i : ℕ) (b : Blocker) → Legal n ≡ Illegal r i b → ⊥
+  legal-illegal n r i b e = let z : _≡_ {A = ℕ} 0 1 = cc in omega arith
 
-  index-is : (r i q j : ℕ) → Illegal r i ≡ Illegal q j → (r ≡ q) × (i ≡ j)
-  index-is r i q j e = (cc, cc)
+  index-is : (r i : ℕ) (b : Blocker) (q j : ℕ) (d : Blocker) → Illegal r i b ≡ Illegal q j d
+      → (r ≡ q) × (i ≡ j) × (b ≡ d)
+  index-is r i b q j d e = (cc, cc, cc)
 
   pub judge-says-leads : (n : ℕ) → judgeFrom m 0 s ks .verdict ≡ Legal n → (u : State) × Leads m s ks u
   judge-says-leads n h = go (leads-or-stops m s ks)
@@ -119,27 +126,40 @@ module _ (m : Model State Step) (s : State) (ks : List Step) where
       go : ((u : State) × Leads m s ks u) ⊎ ((n : ℕ) × (u : State) × StopsAt m s ks n u)
           → (u : State) × Leads m s ks u
       go (inl e) = e
-      go (inr e) = absurd (legal-illegal n _ (e .0) (sym h ∙ judge-illegal-says (e .0) (e .1) _ (e .2) refl))
+      go (inr e) =
+          absurd (legal-illegal n _ (e .0) _ (sym h ∙ judge-illegal-says (e .0) (e .1) _ _ (e .2) refl refl))
 
-  pub judge-says-stops : (r i : ℕ) → judgeFrom m 0 s ks .verdict ≡ Illegal r i
+  pub judge-says-stops : (r i : ℕ) (b : Blocker) → judgeFrom m 0 s ks .verdict ≡ Illegal r i b
       → (u : State) × StopsAt m s ks i u × (m .rule u (getD ks i noStep) ≡ r)
-  judge-says-stops r i h = go (leads-or-stops m s ks)
+      × (m .blocker u (getD ks i noStep) ≡ b)
+  judge-says-stops r i b h = go (leads-or-stops m s ks)
     where
       go : ((u : State) × Leads m s ks u) ⊎ ((n : ℕ) × (u : State) × StopsAt m s ks n u)
           → (u : State) × StopsAt m s ks i u × (m .rule u (getD ks i noStep) ≡ r)
-      go (inl e) = absurd (legal-illegal (length ks) r i (sym (judge-legal-says (e .0) (e .1)) ∙ h))
+          × (m .blocker u (getD ks i noStep) ≡ b)
+      go (inl e) = absurd (legal-illegal (length ks) r i b (sym (judge-legal-says (e .0) (e .1)) ∙ h))
       go (inr e) =
-          let w = index-is _ (e .0) r i (sym (judge-illegal-says (e .0) (e .1) _ (e .2) refl) ∙ h) in (
+          let told = judge-illegal-says (e .0) (e .1) _ _ (e .2) refl refl in
+          let w = index-is _ (e .0) _ r i b (sym told ∙ h) in (
             e .1,
             subst (λ n. StopsAt m s ks n (e .1)) (w .1) (e .2),
             subst (λ n. m .rule (e .1) (getD ks n noStep) ≡ r) (w .1) (w .0),
+            subst (λ n. m .blocker (e .1) (getD ks n noStep) ≡ b) (w .1) (w .2),
           )
 
--- A single step that passes the checks 5 and 8 and breaks no rule
-pub stepped-legal : (m : Model State Step) (s : State) (k : Step) (u : State) → m .fault k ≡ 0 → m .rule s k ≡ 0
-    → u ≡ m .after s k
-    → told Allowed u ≡ steppedOf m s k
-unfolding steppedOf
-stepped-legal m s k u f r e =
-    ap (told Allowed) e
-    ∙ sym (pick-false _ _ _ (true-not _ (eq-eqb _ _ f)) ∙ pick-false _ _ _ (true-not _ (eq-eqb _ _ r)))
+-- A single step that passes the checks 5 and 8: it breaks a rule; it breaks none
+module _ (m : Model State Step) (s : State) (k : Step) (f : m .fault k ≡ 0) where
+  pub stepped-broken : (r : ℕ) → r ≡ m .rule s k → r ≢ 0 → (b : Blocker) → b ≡ m .blocker s k
+      → told (Broken r b) s ≡ steppedOf m s k
+  unfolding steppedOf
+  stepped-broken r e n b d =
+      let broken = false-not _ (ne-eqb _ 0 (λ z. n (e ∙ z))) in
+      ap (λ x. told (Broken x b) s) e
+      ∙ ap (λ x. told (Broken (m .rule s k) x) s) d
+      ∙ sym (pick-false _ _ _ (true-not _ (eq-eqb _ _ f)) ∙ pick-true _ _ _ broken)
+
+  pub stepped-legal : (u : State) → m .rule s k ≡ 0 → u ≡ m .after s k → told Allowed u ≡ steppedOf m s k
+  unfolding steppedOf
+  stepped-legal u r e =
+      ap (told Allowed) e
+      ∙ sym (pick-false _ _ _ (true-not _ (eq-eqb _ _ f)) ∙ pick-false _ _ _ (true-not _ (eq-eqb _ _ r)))

@@ -17,8 +17,10 @@ use Rattle.cases.specs.Ranges.{Ranged}
 use Rattle.cases.specs.Reading.{numberOf, readOf}
 use Rattle.cases.proofs.Promises.{read-ranged}
 use Rattle.machine.specs.declared.cells.State.{State}
+use Rattle.machine.specs.declared.blocker.Blocker.{Blocker}
 use Rattle.machine.specs.declared.runs.Verdict.the-variants.{Legal, Illegal}
 use Rattle.machine.specs.Rules.{ruleOf, nextOf, startOf}
+use Rattle.machine.specs.Blocker.{blockerOf}
 use Rattle.machine.specs.Fit.{Fits}
 use Rattle.machine.specs.Judge.{judged, judgeFrom}
 use Rattle.machine.specs.Ptso.{ptso}
@@ -76,10 +78,12 @@ module _ {p : Program} {steps : List Step} {n : ℕ} {s₀ s : State} {i : ℕ}
         }
 
     pub judging-here : (r : ℕ) → r ≡ ruleOf p s (getD steps i noStep) → r ≢ 0
-        → judged (Illegal r i) s ≡ judgeFrom (ptso p) 0 (startOf p) (take n steps)
-    judging-here r e b =
-        let k : ruleOf p s (getD steps i noStep) ≢ 0 = λ z. b (e ∙ z) in
-        ap (λ x. judged (Illegal x i) s) e
+        → (b : Blocker) → b ≡ blockerOf p s (getD steps i noStep)
+        → judged (Illegal r i b) s ≡ judgeFrom (ptso p) 0 (startOf p) (take n steps)
+    judging-here r e z b d =
+        let k : ruleOf p s (getD steps i noStep) ≢ 0 = λ h. z (e ∙ h) in
+        ap (λ x. judged (Illegal x i b) s) e
+        ∙ ap (λ x. judged (Illegal (ruleOf p s (getD steps i noStep)) i x) s) d
         ∙ sym (judge-here (ptso p) i s _ (drop (i + 1) (take n steps)) k)
         ∙ ap (judgeFrom (ptso p) i s) (sym front)
         ∙ o .rest

@@ -9,7 +9,7 @@ use lib.ListN.{length, length-take}
 use Rattle.cases.specs.declared.case.Step.{Step}
 use Rattle.cases.specs.declared.case.Program.{Program}
 use Rattle.cases.specs.declared.case.Case.{Case}
-use Rattle.cases.specs.Sizes.{mostSteps, longest}
+use Rattle.cases.specs.Sizes.{mostSteps, mostLocations, longest}
 use Rattle.cases.specs.Ranges.{Ranged}
 use Rattle.cases.proofs.Promises.{number-in-table, offset-low, read-ranged}
 use Rattle.cases.proofs.ChoiceLaws.{pick-cases}
@@ -17,11 +17,19 @@ use borrow.Author.Tests.{eqb-true}
 use Rattle.machine.specs.declared.cells.State.{State}
 use Rattle.machine.specs.declared.runs.Verdict.{Verdict}
 use Rattle.machine.specs.declared.runs.Judged.{Judged}
-use Rattle.machine.specs.Rules.{ruleOf}
+use Rattle.machine.specs.declared.blocker.Blocker.{Blocker}
+use Rattle.machine.specs.Sizes.{room}
+use Rattle.machine.specs.Rules.{ruleOf, startOf}
+use Rattle.machine.specs.Blocker.{blockerNumber, blockerPosition}
 use Rattle.machine.specs.Judge.{verdictNo, verdictPlace, judged, judgeFrom, runOf, judgeRun, stopped}
-use Rattle.machine.specs.Judge.{judgeBytes}
+use Rattle.machine.specs.Judge.{verdictBlocker, judgeBytes}
 use Rattle.machine.specs.Model.{Leads, StopsAt}
 use Rattle.machine.specs.Ptso.{ptso}
+use Rattle.machine.proofs.fit.StartLaws.{start-fits}
+use Rattle.machine.proofs.model.ModelLaws.{stops-fits}
+use Rattle.machine.proofs.model.PtsoLaws.{ptso-lawful}
+use Rattle.machine.proofs.blocker.FirstLaws.{blocker-low}
+use Rattle.machine.proofs.runs.RerunLaws.{run-faultless}
 use Rattle.machine.proofs.rules.RuleLaws.{rule-table}
 use Rattle.machine.proofs.runs.JudgeLaws.{leads-or-stops, judge-legal-says, judge-illegal-says}
 
@@ -45,7 +53,7 @@ run-low p s ks h = go (leads-or-stops (ptso p) s ks)
     go (inl e) = rw (judge-legal-says (ptso p) s ks (e .0) (e .1)) (omega arith, omega arith)
     go (inr e) =
         let w = e .2 .within in
-        rw (judge-illegal-says (ptso p) s ks (e .0) (e .1) _ (e .2) refl) (rule-low p (e .1) _, omega arith)
+        rw (judge-illegal-says (ptso p) s ks (e .0) (e .1) _ _ (e .2) refl refl) (rule-low p (e .1) _, omega arith)
 
 -- a run that was read has no more
 run-short : (c : Case) → Ranged c → length (runOf c) ≤ mostSteps
@@ -59,3 +67,30 @@ verdict-low s =
     pick-cases (λ (j : Judged). Low (j .verdict)) _ _ _
     (λ h. run-low _ _ _ (run-short _ (read-ranged s (eqb-true _ _ h))))
     (λ h. (omega (arith, number-in-table s), offset-low s))
+
+-- the place of the first entry in the way too: a thread or a line, and a position
+abbrev LowPlace : Blocker → Type 0
+LowPlace b = (blockerNumber b < mostLocations) × (blockerPosition b < room)
+
+run-place : (c : Case) → Ranged c → LowPlace (verdictBlocker (judgeRun c .verdict))
+unfolding judgeRun
+run-place c r = go (leads-or-stops (ptso (c .program)) (startOf (c .program)) (runOf c))
+  where
+    go : ((u : State) × Leads (ptso (c .program)) (startOf (c .program)) (runOf c) u)
+        ⊎ ((n : ℕ) × (u : State) × StopsAt (ptso (c .program)) (startOf (c .program)) (runOf c) n u)
+        → LowPlace (verdictBlocker (judgeFrom (ptso (c .program)) 0 (startOf (c .program)) (runOf c) .verdict))
+    go (inl e) =
+        rw (judge-legal-says (ptso (c .program)) (startOf (c .program)) (runOf c) (e .0) (e .1))
+        (omega arith, omega arith)
+    go (inr e) =
+        let f = stops-fits (ptso (c .program)) (ptso-lawful (c .program) (r .program)) _ (runOf c) (e .0) (e .1)
+        (start-fits (c .program) (r .program)) (run-faultless c r) (e .2) in
+        rw (judge-illegal-says (ptso (c .program)) (startOf (c .program)) (runOf c) (e .0) (e .1) _ _ (e .2) refl refl)
+        (blocker-low (c .program) (e .1) (f .0) _ (f .1))
+
+pub verdict-blocker-low : (s : List ℕ) → LowPlace (verdictBlocker (judgeBytes s .verdict))
+unfolding judgeBytes stopped judged
+verdict-blocker-low s =
+    pick-cases (λ (j : Judged). LowPlace (verdictBlocker (j .verdict))) _ _ _
+    (λ h. run-place _ (read-ranged s (eqb-true _ _ h)))
+    (λ h. (omega arith, omega arith))

@@ -41,6 +41,9 @@ number-requires-2 c κs = search needs
 buffer-requires : tie.Need-buffer-requires
 buffer-requires c κs = search needs
 
+end-requires : tie.Need-end-requires
+end-requires c κs = search needs
+
 returns-2 : tie.Need-returns-2
 returns-2 c = search needs
 
@@ -60,4 +63,5 @@ answer-spec =
     outcome-place-requires
     number-requires-2
     buffer-requires
+    end-requires
     returns-2)

@@ -24,12 +24,6 @@ bytes-requires c κs =
     let a = c .before .before .args in
     omega (arith, length-take (a .count) (a .t1))
 
-slice-aggregate-write-all-2 : tie.Need-slice-aggregate-write-all-2
-slice-aggregate-write-all-2 c = search needs
-
-write-all-requires-2 : tie.Need-write-all-requires-2
-write-all-requires-2 c κs = search needs
-
 returns : tie.Need-returns
 returns c = search needs
 
@@ -42,6 +36,4 @@ buffer-spec =
     array-share-prefix-lent
     slice-aggregate-bytes
     bytes-requires
-    slice-aggregate-write-all-2
-    write-all-requires-2
     returns)

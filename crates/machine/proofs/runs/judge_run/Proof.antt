@@ -6,6 +6,7 @@ use native.Mathlib.Omega.{arith}
 use Rattle.machine.specs.Rules.{ruleOf}
 use Rattle.machine.specs.Judge.{judgeRun, judged}
 use Rattle.machine.proofs.rules.ReadyLaws.{rule-ready}
+use Rattle.machine.proofs.blocker.BlockerLaws.{blocker-ready, blocker-is}
 use Rattle.machine.proofs.runs.JudgeLoopLaws.{JudgedSoFar, judging-start, judging-next, judging-here}
 use Rattle.machine.proofs.runs.JudgeLoopLaws.{judging-end}
 use Rattle.machine.proofs.runs.judge_run.Statement.{statement}
@@ -40,11 +41,21 @@ rule-requires c κs =
     let o = c .before .before .before .before .before .before .before .before .loop .inv in
     rule-ready _ _ (o .fit) _ (o .faultless _ (omega arith))
 
+blocker-by-requires : tie.Need-blocker-by-requires Inv-loop μ-loop
+unfolding ruleOf
+blocker-by-requires c κs =
+    let e = c .before .before .before .before .before in
+    let o = e .before .before .before .before .before .before .before .before .before .loop .inv in
+    blocker-ready _ _ (o .fit) _ (o .faultless _ (omega arith)) _ (e .rule .ensures)
+
 returns : tie.Need-returns Inv-loop μ-loop
 unfolding judgeRun judged ruleOf
 returns c =
-    let o = c .before .before .before .before .before .before .before .before .before .before .loop .inv in
-    judging-here o (omega arith) _ (c .before .rule .ensures) (c .if1 .taken)
+    let a = c .before .before .before .before .before in
+    let e = a .before in
+    let o = e .before .before .before .before .before .before .before .before .before .loop .inv in
+    let b = blocker-is _ _ _ _ (e .rule .ensures) _ (c .blocker-by .ensures) in
+    judging-here o (omega arith) _ (e .rule .ensures) (a .if1 .taken) _ b
 
 take-step-requires : tie.Need-take-step-requires Inv-loop μ-loop
 unfolding ruleOf
@@ -81,6 +92,7 @@ judge-run-spec =
     mul-k
     element-copy-out-k
     rule-requires
+    blocker-by-requires
     returns
     take-step-requires
     add-i

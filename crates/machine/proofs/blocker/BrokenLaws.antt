@@ -1,0 +1,338 @@
+-- What a broken rule tells of buffers and queues, and back: each of the five that name an entry, exactly. Assumes
+-- nothing.
+use Prim.Native.Nat.{ℕ, zero, suc, _*_, _≤_, _<_}
+use mathlib.Core.Path.{_≡_, refl, sym, ap, _∙_}
+use mathlib.Core.Logic.{_⊎_, inl, inr, _≢_, _↔_, ⊎-elim}
+use mathlib.Core.Bool.{Bool, true, false}
+use mathlib.Core.List.{List, [], _∷_}
+use native.Mathlib.Omega.{arith}
+use borrow.Author.Tests.{ltb-true, ltb-false, lt-ltb}
+use lib.ListN.{length, getD, take, List·getD-eq-default}
+use Rattle.cases.specs.declared.case.Location.{Location}
+use Rattle.cases.specs.declared.case.Step.{Step}
+use Rattle.cases.specs.declared.case.Program.{Program}
+use Rattle.cases.specs.Choice.{pick, refuse}
+use Rattle.cases.specs.Checks.{limitsOf, stepFault, countAt}
+use Rattle.cases.specs.Sizes.{mostLocations}
+use Rattle.cases.proofs.ArrayLaws.{length-none}
+use Rattle.cases.proofs.ChoiceLaws.{otherwise, refuse-past, refuse-was, refuse-neither}
+use Rattle.cases.proofs.Promises.{thread-low}
+use Rattle.machine.specs.declared.cells.State.{State}
+use Rattle.machine.specs.declared.cells.Waiting.{Waiting}
+use Rattle.machine.specs.declared.cells.Entry.{Entry}
+use Rattle.machine.specs.declared.cells.Entry.the-variants.{Flush, FlushOpt, Sfence}
+use Rattle.machine.specs.Sizes.{room}
+use Rattle.machine.specs.View.{Slot, markOf, lineOf, slots, marksOf, marksIn, queueIn, queue, queueLen}
+use Rattle.machine.specs.View.{blankWaiting, buffer, bufferLen, issuedOf}
+use Rattle.machine.specs.Parts.{partsOf}
+use Rattle.machine.specs.Look.{markerOf, isAt, foundQueue, foundPosition, marked, bars, firstBar}
+use Rattle.machine.specs.Rules.{instructionAt, isBarrier, barrierRule, issueRule, effectRule, passRule}
+use Rattle.machine.specs.Rules.{entryAt, moveRule, persistRule, ruleIn, ruleOf}
+use Rattle.machine.specs.Fit.{Fits}
+use Rattle.machine.specs.Next.{issueStep, moveStep, persistStep}
+use Rattle.machine.specs.Followed.{StandsAt}
+use Rattle.machine.proofs.lists.PartLaws.{lt-or-ge, part-none}
+use Rattle.machine.proofs.lists.StandsLaws.{stands-within, within-stands, stands-get, stands-some, some-stands}
+use Rattle.machine.proofs.view.SlotLaws.{length-marks}
+use Rattle.machine.proofs.look.MarkerLaws.{marker-stands, marker-none}
+use Rattle.machine.proofs.look.BarLaws.{bar-stands, bar-first}
+use Rattle.machine.proofs.fit.FitLaws.{fits-queue-long, fits-buffer-long}
+use Rattle.machine.proofs.fit.SpareLaws.{marks-fit}
+use Rattle.machine.proofs.moves.MoveLaws.{move-flush-low, move-flush-held}
+use Rattle.machine.proofs.steps.StepFaultLaws.{StepKinds, step-kinds}
+use Rattle.machine.proofs.rules.ReadyLaws.{head-named}
+use Rattle.machine.proofs.rules.RuleLaws.{Between, issue-between, move-between, persist-between}
+use Rattle.machine.proofs.rules.ToldLaws.{barrier-told, barrier-is, barrier-22, barrier-23, entry-told}
+use Rattle.machine.proofs.rules.ToldLaws.{first-is, behind-is, effect-27, effect-28, sfence-28}
+use Rattle.machine.proofs.rules.ToldLaws.{effect-not-26, pass-26, pass-most}
+
+-- A slot of a queue, and its mark
+mark-stands : (q : List Slot) (i m : ℕ) → i < length q → getD (marksOf q) i 0 ≡ m
+    → (h : Slot) × StandsAt q i h × (h .mark ≡ m)
+unfolding marksOf StandsAt
+mark-stands [] i m low e = absurd (omega arith)
+mark-stands (h ∷ q) zero m low e = (h, refl, e)
+mark-stands (h ∷ q) (suc i) m low e = mark-stands q i m (omega arith) e
+
+pub stands-mark : (q : List Slot) (i : ℕ) (h : Slot) → StandsAt q i h → getD (marksOf q) i 0 ≡ h .mark
+unfolding marksOf StandsAt
+stands-mark [] i h e = absurd e
+stands-mark (g ∷ q) zero h e = ap (λ (x : Slot). x .mark) e
+stands-mark (g ∷ q) (suc i) h e = stands-mark q i h e
+
+-- the thread's next instruction is an exchange or an mfence
+abbrev pub Barrier : Program → State → ℕ → Type 0
+Barrier p s t =
+    (issuedOf s t < countAt p t) × (isBarrier (instructionAt p t (issuedOf s t) .operation) ≡ true)
+
+-- a marker of the thread stands in some queue
+abbrev pub HasMarker : State → ℕ → Type 0
+HasMarker s t =
+    (q : ℕ) × (i : ℕ) × (h : Slot) × (q < mostLocations) × StandsAt (queue s q) i h × (h .mark ≡ markOf t)
+
+-- A state that fits its program
+module _ (p : Program) (s : State) (fit : Fits p s) where
+  -- an entry of a buffer by its position
+  pub entry-is : (t i : ℕ) (w : Waiting) → StandsAt (buffer s t) i w → entryAt (buffer s t) i ≡ w .entry
+  entry-is t i w stands = ap (λ (v : Waiting). v .entry) (stands-get (buffer s t) i blankWaiting w stands)
+
+  -- a queue that something stands in is one that there is
+  pub queue-low : (q i : ℕ) (h : Slot) → StandsAt (queue s q) i h → q < mostLocations
+  unfolding queueIn slots
+  queue-low q i h stands = ⊎-elim (λ l. l) (λ g. absurd (none g)) (lt-or-ge q mostLocations)
+    where
+      none : mostLocations ≤ q → ⊥
+      none g =
+          let long = fit .sized .lengths-long in
+          let len : queueLen s q ≡ 0 = List·getD-eq-default (s .lengths) 0 (omega arith) in
+          let empty : queue s q ≡ [] = rw (part-none (q * room) _ (s .held) len) in
+          stands-some (queue s q) i h stands empty
+
+  -- the look for a marker finds one exactly where there is one, and says where
+  module _ (t : ℕ) where
+    abbrev found-queue : ℕ
+    found-queue = foundQueue (markerOf (s .marks) (s .lengths) t)
+
+    abbrev found-position : ℕ
+    found-position = foundPosition (markerOf (s .marks) (s .lengths) t)
+
+    pub marked-stands : marked (s .marks) (s .lengths) t ≡ true
+        → (h : Slot) × (found-queue < mostLocations) × StandsAt (queue s found-queue) found-position h
+        × (h .mark ≡ markOf t)
+    unfolding marked
+    marked-stands h =
+        let found = marker-stands (s .marks) (s .lengths) t h in
+        let marks = marks-fit p s fit found-queue (found .0) in
+        let long : length (marksIn (s .marks) (s .lengths) found-queue) ≡ length (queue s found-queue)
+        = sym (ap length marks) ∙ length-marks _ in
+        let low = found .1 in
+        let at = mark-stands (queue s found-queue) found-position (markOf t) (omega arith)
+        (ap (λ ms. getD ms found-position 0) marks ∙ found .2) in
+        (at .0, found .0, at .1, at .2)
+
+  marked-has : (t : ℕ) → marked (s .marks) (s .lengths) t ≡ true → HasMarker s t
+  marked-has t h = let m = marked-stands t h in (_, _, m .0, m .1, m .2, m .3)
+
+  pub has-marked : (t : ℕ) → HasMarker s t → marked (s .marks) (s .lengths) t ≡ true
+  unfolding marked
+  has-marked t (q, i, h, low, stands, mark) = go (isAt (markerOf (s .marks) (s .lengths) t)) refl
+    where
+      go : (b : Bool) → isAt (markerOf (s .marks) (s .lengths) t) ≡ b → b ≡ true
+      go true e = refl
+      go false e =
+          absurd (marker-none (s .marks) (s .lengths) t e q i low
+          (ap (λ ms. getD ms i 0) (sym (marks-fit p s fit q low)) ∙ stands-mark (queue s q) i h stands ∙ mark))
+
+  module _ (t : ℕ) (low : t < p .threads) where
+    long : length (buffer s t) ≡ bufferLen s t
+    long = fits-buffer-long p s fit t (thread-low (fit .program) low)
+
+    -- the queue of a flush that waits is empty exactly where its length is 0
+    queued : (w : Waiting) → StandsAt (buffer s t) 0 w → (l : Location) → w .entry ≡ Flush l
+        → (queue s (lineOf p (l .0)) ≢ []) ↔ (0 < queueLen s (lineOf p (l .0)))
+    queued w stands l e =
+        let named = head-named p s fit t (thread-low (fit .program) low) in
+        let there = move-flush-low p (fit .program) named l (entry-is t 0 w stands ∙ e) _ refl in
+        let many = fits-queue-long p s fit (lineOf p (l .0)) there in (
+          (λ some.
+              let h = some-stands _ some in
+              let n = stands-within (queue s (lineOf p (l .0))) 0 (h .0) (h .1) in
+              omega arith),
+          (λ n z. let e = ap length z in omega arith),
+        )
+
+    -- "Exchange and mfence need the own buffer empty (else 22)"
+    pub broken-22 : (ruleOf p s (issueStep t) ≡ 22) ↔ (Barrier p s t × (buffer s t ≢ []))
+    unfolding ruleOf ruleIn pick barrierRule
+    broken-22 = (told, is)
+      where
+        told : issueRule p (partsOf s) t ≡ 22 → Barrier p s t × (buffer s t ≢ [])
+        told h =
+            let b = barrier-told p (partsOf s) t 22 h (λ z. omega arith) (λ z. omega arith) in
+            let some = refuse-was _ _ _ _ (b .1) (refuse-neither _ _ _ _ (λ z. omega arith) (λ z. omega arith)) in
+            let n : 0 < bufferLen s t = ltb-true _ _ some in
+            (b .0, stands-some _ 0 _ (within-stands (buffer s t) 0 blankWaiting (omega (arith, long))))
+
+        is : Barrier p s t × (buffer s t ≢ []) → issueRule p (partsOf s) t ≡ 22
+        is (b, some) =
+            let first = some-stands _ some in
+            let n = stands-within (buffer s t) 0 (first .0) (first .1) in
+            barrier-is p (partsOf s) t b ∙ barrier-22 p (partsOf s) t (omega (arith, long))
+
+    -- "then no marker of that thread in any queue (else 23)"
+    pub broken-23 : (ruleOf p s (issueStep t) ≡ 23) ↔ (Barrier p s t × (buffer s t ≡ []) × HasMarker s t)
+    unfolding ruleOf ruleIn pick barrierRule
+    broken-23 = (told, is)
+      where
+        told : issueRule p (partsOf s) t ≡ 23 → Barrier p s t × (buffer s t ≡ []) × HasMarker s t
+        told h =
+            let b = barrier-told p (partsOf s) t 23 h (λ z. omega arith) (λ z. omega arith) in
+            let c = refuse-past _ _ _ _ (b .1) (λ z. omega arith) in
+            let none : bufferLen s t ≤ 0 = ltb-false _ _ (c .0) in
+            (b .0, length-none _ (omega (arith, long)), marked-has t (refuse-was _ _ _ _ (c .1) (λ z. omega arith)))
+
+        is : Barrier p s t × (buffer s t ≡ []) × HasMarker s t → issueRule p (partsOf s) t ≡ 23
+        is (b, none, marker) =
+            let n = ap length none in
+            barrier-is p (partsOf s) t b
+            ∙ barrier-23 p (partsOf s) t (omega (arith, long)) (has-marked t marker)
+
+    pub issue-numbers : ruleOf p s (issueStep t) ≤ 23
+    unfolding ruleOf ruleIn pick
+    issue-numbers = go (issue-between p (partsOf s) t)
+      where
+        go : Between 21 23 (issueRule p (partsOf s) t) → issueRule p (partsOf s) t ≤ 23
+        go (inl e) = omega arith
+        go (inr h) = h .1
+
+    module _ (i : ℕ) where
+      -- "only if no entry before it is a store or flush of its location or an sfence (else 26)"
+      pub broken-26 : (ruleOf p s (moveStep t i) ≡ 26)
+          ↔ ((w : Waiting) × StandsAt (buffer s t) i w × (l : Location) × (w .entry ≡ FlushOpt l)
+          × (j : ℕ) × (v : Waiting) × (j < i) × StandsAt (buffer s t) j v
+          × (bars p (lineOf p (l .0)) (v .entry) ≡ true))
+      unfolding ruleOf ruleIn pick
+      broken-26 = (told, is)
+        where
+          Bars : Type 0
+          Bars =
+              (w : Waiting) × StandsAt (buffer s t) i w × (l : Location) × (w .entry ≡ FlushOpt l)
+              × (j : ℕ) × (v : Waiting) × (j < i) × StandsAt (buffer s t) j v
+              × (bars p (lineOf p (l .0)) (v .entry) ≡ true)
+
+          go : i < bufferLen s t
+              → ((i ≡ 0) × (effectRule p (partsOf s) t (entryAt (buffer s t) i) ≡ 26))
+              ⊎ ((i ≢ 0) × (passRule p (buffer s t) i (entryAt (buffer s t) i) ≡ 26))
+              → Bars
+          go h (inl (z, e)) = absurd (effect-not-26 p (partsOf s) t i _ e)
+          go h (inr (z, e)) =
+              let w = within-stands (buffer s t) i blankWaiting (omega (arith, long)) in
+              let l = pass-26 p (buffer s t) i _ e in
+              let v = bar-stands p (lineOf p (l .0 .0)) (buffer s t) i (omega (arith, long)) (l .2) in
+              (_, w, l .0, l .1, _, v .0, l .2, v .1, v .2)
+
+          told : moveRule p (partsOf s) t i ≡ 26 → Bars
+          told h = let e = entry-told p (partsOf s) t i 26 h (λ z. omega arith) in go (e .0) (e .1)
+
+          is : Bars → moveRule p (partsOf s) t i ≡ 26
+          is (w, stands, l, entry, j, v, before, bar, e) =
+              let at = entry-is t i w stands in
+              let there = stands-within (buffer s t) i w stands in
+              let first = bar-first p (lineOf p (l .0)) (buffer s t) i j v bar e before in
+              behind-is p (partsOf s) t i (omega (arith, long)) (λ z. omega arith)
+              ∙ (unfold passRule refuse in rw (at, entry, lt-ltb (firstBar p (lineOf p (l .0)) (take i (buffer s t))) i (omega arith)))
+
+      -- "A flush leaves only if its location's queue is empty, markers counted (else 27)"
+      pub broken-27 : (ruleOf p s (moveStep t i) ≡ 27)
+          ↔ ((i ≡ 0) × (w : Waiting) × StandsAt (buffer s t) 0 w × (l : Location) × (w .entry ≡ Flush l)
+          × (queue s (lineOf p (l .0)) ≢ []))
+      unfolding ruleOf ruleIn pick
+      broken-27 = (told, is)
+        where
+          Held : Type 0
+          Held =
+              (i ≡ 0) × (w : Waiting) × StandsAt (buffer s t) 0 w × (l : Location) × (w .entry ≡ Flush l)
+              × (queue s (lineOf p (l .0)) ≢ [])
+
+          go : i < bufferLen s t
+              → ((i ≡ 0) × (effectRule p (partsOf s) t (entryAt (buffer s t) i) ≡ 27))
+              ⊎ ((i ≢ 0) × (passRule p (buffer s t) i (entryAt (buffer s t) i) ≡ 27))
+              → Held
+          go h (inl (z, e)) =
+              let w = within-stands (buffer s t) 0 blankWaiting (omega (arith, long)) in
+              let l = effect-27 p (partsOf s) t 0 _ (rw z at e) in
+              (z, _, w, l .0, l .1, queued _ w (l .0) (l .1) .1 (l .2))
+          go h (inr (z, e)) = let m = pass-most p (buffer s t) i (entryAt (buffer s t) i) in absurd (omega arith)
+
+          told : moveRule p (partsOf s) t i ≡ 27 → Held
+          told h = let e = entry-told p (partsOf s) t i 27 h (λ z. omega arith) in go (e .0) (e .1)
+
+          is : Held → moveRule p (partsOf s) t i ≡ 27
+          is (z, w, stands, l, entry, some) =
+              let at = entry-is t 0 w stands in
+              let there = stands-within (buffer s t) 0 w stands in
+              let e : entryAt (buffer s t) i ≡ Flush l = rw z (at ∙ entry) in
+              first-is p (partsOf s) t i (omega (arith, long)) z
+              ∙ sym (move-flush-held p (partsOf s) t l _ e _ refl (queued w stands l entry .0 some))
+
+      -- "An sfence leaves only if no queue holds a marker of that thread (else 28)"
+      pub broken-28 : (ruleOf p s (moveStep t i) ≡ 28)
+          ↔ ((i ≡ 0) × (w : Waiting) × StandsAt (buffer s t) 0 w × (w .entry ≡ Sfence) × HasMarker s t)
+      unfolding ruleOf ruleIn pick
+      broken-28 = (told, is)
+        where
+          Held : Type 0
+          Held = (i ≡ 0) × (w : Waiting) × StandsAt (buffer s t) 0 w × (w .entry ≡ Sfence) × HasMarker s t
+
+          go : i < bufferLen s t
+              → ((i ≡ 0) × (effectRule p (partsOf s) t (entryAt (buffer s t) i) ≡ 28))
+              ⊎ ((i ≢ 0) × (passRule p (buffer s t) i (entryAt (buffer s t) i) ≡ 28))
+              → Held
+          go h (inl (z, e)) =
+              let w = within-stands (buffer s t) 0 blankWaiting (omega (arith, long)) in
+              let l = effect-28 p (partsOf s) t 0 _ (rw z at e) in
+              (z, _, w, l .0, marked-has t (l .1))
+          go h (inr (z, e)) = let m = pass-most p (buffer s t) i (entryAt (buffer s t) i) in absurd (omega arith)
+
+          told : moveRule p (partsOf s) t i ≡ 28 → Held
+          told h = let e = entry-told p (partsOf s) t i 28 h (λ z. omega arith) in go (e .0) (e .1)
+
+          is : Held → moveRule p (partsOf s) t i ≡ 28
+          is (z, w, stands, entry, marker) =
+              let at = entry-is t 0 w stands in
+              let there = stands-within (buffer s t) 0 w stands in
+              let e : entryAt (buffer s t) i ≡ Sfence = rw z (at ∙ entry) in
+              first-is p (partsOf s) t i (omega (arith, long)) z
+              ∙ sfence-28 p (partsOf s) t i _ e (has-marked t marker)
+
+      -- any rule of a move but 24 is of an entry that waits
+      pub move-waits : 25 ≤ ruleOf p s (moveStep t i) → i < bufferLen s t
+      unfolding ruleOf ruleIn pick
+      move-waits h = entry-told p (partsOf s) t i _ refl (λ z. omega arith) .0
+
+      pub move-numbers : (ruleOf p s (moveStep t i) ≡ 0)
+          ⊎ ((24 ≤ ruleOf p s (moveStep t i)) × (ruleOf p s (moveStep t i) ≤ 28))
+      unfolding ruleOf ruleIn pick
+      move-numbers = move-between p (partsOf s) t i
+
+-- a persist's
+pub persist-numbers : (p : Program) (s : State) (q : ℕ)
+    → (ruleOf p s (persistStep q) ≡ 0) ⊎ (ruleOf p s (persistStep q) ≡ 29)
+unfolding ruleOf ruleIn pick
+persist-numbers p s q = go (persist-between (partsOf s) q)
+  where
+    go : Between 29 29 (persistRule (partsOf s) q)
+        → (persistRule (partsOf s) q ≡ 0) ⊎ (persistRule (partsOf s) q ≡ 29)
+    go (inl e) = inl e
+    go (inr h) = inr (omega (arith, h .0, h .1))
+
+-- a step that breaks a rule up to 23 is an issue, one that breaks one of 24 to 28 a move
+module _ (p : Program) (s : State) (fit : Fits p s) (k : Step) (faultless : stepFault (limitsOf p) k ≡ 0) where
+  pub issue-told : ruleOf p s k ≢ 0 → ruleOf p s k ≤ 23 → (t : ℕ) × (t < p .threads) × (k ≡ issueStep t)
+  issue-told some low = go (step-kinds p k faultless)
+    where
+      go : StepKinds p k → (t : ℕ) × (t < p .threads) × (k ≡ issueStep t)
+      go (inl x) = x
+      go (inr (inl (t, i, there, e))) =
+          let same = ap (ruleOf p s) e in
+          let is = otherwise (move-numbers p s fit t there i) (λ z. some (same ∙ z)) in
+          absurd (omega arith)
+      go (inr (inr (q, there, e))) =
+          let same = ap (ruleOf p s) e in
+          let is = otherwise (persist-numbers p s q) (λ z. some (same ∙ z)) in
+          absurd (omega arith)
+
+  pub move-told : 24 ≤ ruleOf p s k → ruleOf p s k ≤ 28
+      → (t : ℕ) × (i : ℕ) × (t < p .threads) × (k ≡ moveStep t i)
+  move-told high low = go (step-kinds p k faultless)
+    where
+      go : StepKinds p k → (t : ℕ) × (i : ℕ) × (t < p .threads) × (k ≡ moveStep t i)
+      go (inl (t, there, e)) =
+          let same = ap (ruleOf p s) e in
+          let is = issue-numbers p s fit t there in
+          absurd (omega arith)
+      go (inr (inl x)) = x
+      go (inr (inr (q, there, e))) =
+          let same = ap (ruleOf p s) e in
+          let is = otherwise (persist-numbers p s q) (λ z. omega arith) in
+          absurd (omega arith)
