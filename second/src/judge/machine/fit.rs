@@ -1,6 +1,6 @@
 //! Number 33: a machine state in memory that does not fit its case. The case is readable.
 
-use super::state::{Entry, Held, State, QUEUE_ROOM};
+use super::state::{Held, State, QUEUE_ROOM};
 use crate::judge::case::{Case, MOST_INSTRUCTIONS};
 
 /// One way not to fit; each answers for any state, however large its counts are.
@@ -28,7 +28,7 @@ pub const CLAUSES: [Clause; 9] = [
         name: "entry names a lacking location",
         broken: |case, state| {
             let mut waiting = state.buffers.iter().flat_map(|buffer| buffer.used());
-            waiting.any(|&entry| named(entry).map_or(false, |at| at >= case.locations))
+            waiting.any(|entry| entry.location().map_or(false, |at| at >= case.locations))
         },
     },
     Clause {
@@ -101,13 +101,4 @@ pub fn to_come(case: &Case, state: &State) -> usize {
 
 fn waiting(state: &State, thread: usize) -> usize {
     state.buffers[thread].count.into()
-}
-
-fn named(entry: Entry) -> Option<u8> {
-    match entry {
-        Entry::Store { location, .. } | Entry::Flush(location) | Entry::FlushOpt(location) => {
-            Some(location)
-        }
-        Entry::Sfence => None,
-    }
 }

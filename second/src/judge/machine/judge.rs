@@ -1,5 +1,6 @@
 //! Judging a run, and a single step given with a state; the start.
 
+use super::blocker::{Blocker, Stop};
 use super::effects::advance;
 use super::fit;
 use super::rules::check;
@@ -18,6 +19,8 @@ pub struct Verdict {
     /// The number of steps, the index of the first illegal one, the offset of a reading
     /// refusal, else 0.
     pub place: usize,
+    /// Of an illegal step, where its rule names one.
+    pub blocker: Option<Blocker>,
     pub state: State,
 }
 
@@ -39,10 +42,11 @@ pub fn judge(case: &Case) -> Verdict {
     let mut state = begun.state;
     let steps = &case.steps[..usize::from(case.count)];
     for (place, step) in steps.iter().enumerate() {
-        if let Err(number) = check(case, &state, step) {
+        if let Err(Stop { number, blocker }) = check(case, &state, step) {
             return Verdict {
                 number,
                 place,
+                blocker,
                 state,
             };
         }
@@ -51,6 +55,7 @@ pub fn judge(case: &Case) -> Verdict {
     Verdict {
         number: LEGAL,
         place: steps.len(),
+        blocker: None,
         state,
     }
 }
@@ -63,6 +68,7 @@ pub fn start(case: &Case) -> Verdict {
     Verdict {
         number: LEGAL,
         place: 0,
+        blocker: None,
         state: State::start(case),
     }
 }
@@ -71,27 +77,29 @@ fn stopped(number: u8, place: usize) -> Verdict {
     Verdict {
         number,
         place,
+        blocker: None,
         state: State::start(&Case::empty()),
     }
 }
 
 /// 32, 33, then 5 and 8, then the rules. A refusal gives the state back as it was.
 pub fn single_step(case: &Case, mut state: State, step: &Step) -> Verdict {
-    let number = match may_step(case, &state, step) {
+    let (number, blocker) = match may_step(case, &state, step) {
         Ok(()) => {
             advance(case, &mut state, step);
-            LEGAL
+            (LEGAL, None)
         }
-        Err(number) => number,
+        Err(stop) => (stop.number, stop.blocker),
     };
     Verdict {
         number,
         place: 0,
+        blocker,
         state,
     }
 }
 
-pub fn may_step(case: &Case, state: &State, step: &Step) -> Result<(), u8> {
+fn may_step(case: &Case, state: &State, step: &Step) -> Result<(), Stop> {
     require(form::fits(case), READS_FROM_NO_BYTES)?;
     require(fit::fits(case, state), STATE_DOES_NOT_FIT)?;
     check_step(case.threads, case.lines, step)?;

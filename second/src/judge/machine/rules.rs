@@ -1,7 +1,8 @@
-//! Whether a step is legal, or the rule that it breaks. The case is readable, the state fits
-//! it, and the step is in range.
+//! Whether a step is legal, or the rule that it breaks and what is in its way. The case is readable,
+//! the state fits it, and the step is in range.
 
-use super::state::{Entry, Queue, State};
+use super::blocker::{Blocker, Stop};
+use super::state::{Entry, Held, State};
 use crate::judge::case::{Case, Step};
 use crate::judge::refusal::require;
 
@@ -22,50 +23,62 @@ pub const QUEUE_NOT_EMPTY: u8 = 27;
 pub const MARKER_BEFORE_SFENCE: u8 = 28;
 pub const QUEUE_EMPTY: u8 = 29;
 
-pub fn check(case: &Case, state: &State, step: &Step) -> Result<(), u8> {
+pub fn check(case: &Case, state: &State, step: &Step) -> Result<(), Stop> {
     match step.code {
         ISSUE => check_issue(case, state, step.thread.into()),
         MOVE => check_move(case, state, step.thread.into(), step.position.into()),
         _ => {
             let queue = &state.queues[usize::from(step.line)];
-            require(!queue.used().is_empty(), QUEUE_EMPTY)
+            Ok(require(!queue.used().is_empty(), QUEUE_EMPTY)?)
         }
     }
 }
 
-fn check_issue(case: &Case, state: &State, thread: usize) -> Result<(), u8> {
+fn check_issue(case: &Case, state: &State, thread: usize) -> Result<(), Stop> {
     let next = state.unissued(case, thread).first().ok_or(NONE_LEFT)?;
     if next.operation == EXCHANGE || next.operation == MFENCE {
         let waiting = state.buffers[thread].used();
-        require(waiting.is_empty(), BUFFER_NOT_EMPTY)?;
-        require(!has_marker(state, thread), MARKER_BEFORE_FENCE)?;
+        clear(first_waiting(thread, waiting, |_| true), BUFFER_NOT_EMPTY)?;
+        clear(first_marker(state, thread), MARKER_BEFORE_FENCE)?;
     }
     Ok(())
 }
 
-fn check_move(case: &Case, state: &State, thread: usize, position: usize) -> Result<(), u8> {
+fn check_move(case: &Case, state: &State, thread: usize, position: usize) -> Result<(), Stop> {
     let waiting = state.buffers[thread].used();
     let entry = *waiting.get(position).ok_or(NO_ENTRY)?;
     if position > 0 {
         let line = match entry {
             Entry::FlushOpt(location) => case.line_of(location),
-            _ => return Err(NOT_FIRST),
+            _ => return Err(NOT_FIRST.into()),
         };
-        let mut before = waiting[..position].iter();
-        require(!before.any(|&one| bars(case, one, line)), BARRED)?;
+        let before = &waiting[..position];
+        let bar = first_waiting(thread, before, |one| bars(case, one, line));
+        clear(bar, BARRED)?;
     }
     match entry {
         Entry::Flush(location) => {
-            let queue = &state.queues[case.line_of(location)];
-            require(queue.used().is_empty(), QUEUE_NOT_EMPTY)
+            let oldest = first_queued(state, case.line_of(location), |_| true);
+            clear(oldest, QUEUE_NOT_EMPTY)
         }
-        Entry::Sfence => require(!has_marker(state, thread), MARKER_BEFORE_SFENCE),
+        Entry::Sfence => clear(first_marker(state, thread), MARKER_BEFORE_SFENCE),
         Entry::Store { .. } | Entry::FlushOpt(_) => Ok(()),
     }
 }
 
+/// A check: the rule where something is in the way.
+fn clear(blocker: Option<Blocker>, rule: u8) -> Result<(), Stop> {
+    match blocker {
+        Some(_) => Err(Stop {
+            number: rule,
+            blocker,
+        }),
+        None => Ok(()),
+    }
+}
+
 /// Whether a flush-opt of a location on the line must stay behind the entry.
-fn bars(case: &Case, entry: Entry, line: usize) -> bool {
+pub fn bars(case: &Case, entry: Entry, line: usize) -> bool {
     match entry {
         Entry::Store { location, .. } | Entry::Flush(location) => case.line_of(location) == line,
         Entry::FlushOpt(_) => false,
@@ -73,7 +86,20 @@ fn bars(case: &Case, entry: Entry, line: usize) -> bool {
     }
 }
 
-fn has_marker(state: &State, thread: usize) -> bool {
-    let holds = |queue: &Queue| queue.used().iter().any(|held| held.is_marker_of(thread));
-    state.queues.iter().any(holds)
+/// Of the oldest entries of a thread's buffer.
+fn first_waiting(thread: usize, from: &[Entry], such: impl Fn(Entry) -> bool) -> Option<Blocker> {
+    let position = from.iter().position(|&entry| such(entry))?;
+    Some(Blocker::waiting(thread, position))
+}
+
+fn first_queued(state: &State, line: usize, such: impl Fn(Held) -> bool) -> Option<Blocker> {
+    let mut held = state.queues[line].used().iter();
+    let position = held.position(|&held| such(held))?;
+    Some(Blocker::queued(line, position))
+}
+
+/// A marker of the thread: by line, then by position; which one is older does not matter.
+fn first_marker(state: &State, thread: usize) -> Option<Blocker> {
+    let mut lines = 0..state.queues.len();
+    lines.find_map(|line| first_queued(state, line, |held| held.is_marker_of(thread)))
 }

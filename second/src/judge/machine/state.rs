@@ -56,6 +56,17 @@ pub enum Entry {
     Sfence,
 }
 
+impl Entry {
+    pub fn location(self) -> Option<u8> {
+        match self {
+            Entry::Store { location, .. } | Entry::Flush(location) | Entry::FlushOpt(location) => {
+                Some(location)
+            }
+            Entry::Sfence => None,
+        }
+    }
+}
+
 impl Default for Entry {
     /// The blank.
     fn default() -> Entry {

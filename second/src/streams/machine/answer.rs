@@ -3,6 +3,7 @@
 use super::frame::{Job, Trial};
 use super::raw;
 use crate::judge::case::Case;
+use crate::judge::machine::blocker::Blocker;
 use crate::judge::machine::judge::{judge, judge_bytes, single_step, start, Verdict};
 use crate::judge::machine::state::State;
 use crate::judge::machine::work::{full_length, work_left};
@@ -55,20 +56,26 @@ impl Answer {
         let Verdict {
             number,
             place,
+            blocker,
             state,
         } = &self.verdict;
         let mut line = format!("{number} {place} {} {} ", told(self.work), told(self.full));
         push_hex(&mut line, &raw::encode(state));
-        line.push('\n');
-        line
+        line + &ended(*blocker)
     }
 }
 
-/// Number and place of job 0; of another job nothing.
+/// The end of a line: the blocker, where there is one.
+fn ended(blocker: Option<Blocker>) -> String {
+    blocker.map_or("\n".to_string(), |blocker| format!(" {blocker}\n"))
+}
+
+/// Number and place of job 0, and the blocker; of another job nothing.
 pub fn judged_line(trial: &Trial) -> String {
     if trial.job != Job::Bytes {
         return String::new();
     }
-    let Verdict { number, place, .. } = judge_bytes(&trial.input);
-    format!("{number} {place}\n")
+    let verdict = judge_bytes(&trial.input);
+    let (number, place) = (verdict.number, verdict.place);
+    format!("{number} {place}{}", ended(verdict.blocker))
 }

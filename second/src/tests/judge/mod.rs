@@ -1,5 +1,6 @@
 //! Tests of the judge.
 
+mod blockers;
 mod lines;
 mod machine;
 mod question;

@@ -34,7 +34,7 @@ pub fn any_step(random: &mut Random, case: &Case) -> Step {
 /// Every step that is answered so.
 pub fn steps_with(case: &Case, state: &State, answer: Result<(), u8>) -> Vec<Step> {
     let mut steps = all_steps(case);
-    steps.retain(|step| check(case, state, step) == answer);
+    steps.retain(|step| check(case, state, step).map_err(|stop| stop.number) == answer);
     steps
 }
 

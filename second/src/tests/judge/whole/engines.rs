@@ -59,7 +59,7 @@ fn a_step_that_does_nothing() {
 fn an_sfence_that_never_leaves() {
     let engine = Engine {
         check: |case, state, step| match next_to_move(state, step) {
-            Some(Entry::Sfence) => Err(28),
+            Some(Entry::Sfence) => Err(28.into()),
             _ => check(case, state, step),
         },
         ..OURS
@@ -242,7 +242,7 @@ fn a_thread_that_is_always_the_last() {
         check: |case, state, step| {
             let others = !state.unissued(case, 1).is_empty() || state.buffers[1].count > 0;
             match (step.code, step.thread) {
-                (MOVE, 0) if others => Err(25),
+                (MOVE, 0) if others => Err(25.into()),
                 _ => check(case, state, step),
             }
         },
