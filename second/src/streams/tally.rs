@@ -58,7 +58,7 @@ pub trait Counts<F> {
 }
 
 /// What is said of each count that is too low.
-fn missing(rows: &[Row]) -> Vec<String> {
+pub fn missing(rows: &[Row]) -> Vec<String> {
     let few = rows.iter().filter(|row| row.count < row.least.into());
     few.map(|Row { name, count, least }| format!("{name}: {count}, at least {least} wanted"))
         .collect()

@@ -1,11 +1,13 @@
 //! What a stream of the machine's frames holds, and whether that is enough.
 
 use super::answer::{answer, Answer};
+use super::blocked::{Blocked, BLOCKED};
 use super::frame::{Job, Trial};
 use super::marks::{mark_of, FAMILIES};
 use super::raw;
 use super::sharing::SHARING;
 use super::sorts::SORTS;
+use super::spots::SpotCounts;
 use crate::judge::case::MOST_STEPS;
 use crate::judge::form;
 use crate::judge::machine::fit::CLAUSES;
@@ -48,6 +50,8 @@ pub struct TrialCounts {
     clauses: [u64; CLAUSES.len()],
     sorts: [u64; SORTS.len()],
     sharing: [u64; SHARING.len()],
+    blocked: [u64; BLOCKED.len()],
+    spots: SpotCounts,
     /// Of the cases whose run or step was judged.
     layouts: LayoutCounts,
     families: [u64; FAMILIES.len()],
@@ -65,6 +69,8 @@ impl TrialCounts {
             clauses: [0; CLAUSES.len()],
             sorts: [0; SORTS.len()],
             sharing: [0; SHARING.len()],
+            blocked: [0; BLOCKED.len()],
+            spots: SpotCounts::new(),
             layouts: LayoutCounts::default(),
             families: [0; FAMILIES.len()],
             lengths: [false; MOST_STEPS + 1],
@@ -110,10 +116,10 @@ impl TrialCounts {
         let legal = verdict.number == LEGAL;
         if let Some(mark) = mark_of(trial) {
             self.families[mark.family] += 1;
-            if !mark.is_met(verdict.number, verdict.place) {
+            if !mark.is_met(verdict) {
                 let name = FAMILIES[mark.family].name;
-                let got = (verdict.number, verdict.place);
-                let right = (mark.number, mark.place);
+                let got = (verdict.number, verdict.place, verdict.blocker);
+                let right = (mark.number, mark.place, mark.blocker);
                 let fault = format!("frame {frame}, {name}: {got:?} instead of {right:?}");
                 self.faults.push(fault);
             }
@@ -155,6 +161,15 @@ impl Counts<Trial> for TrialCounts {
         for (sort, count) in SHARING.iter().zip(&mut self.sharing) {
             *count += u64::from((sort.told)(trial, &answer));
         }
+        if let Some(blocked) = Blocked::of(trial, &answer) {
+            for (sort, count) in BLOCKED.iter().zip(&mut self.blocked) {
+                *count += u64::from((sort.told)(&blocked));
+            }
+        }
+        if !self.spots.take(trial, &answer) {
+            self.faults
+                .push(format!("frame {}: the blocker", self.frames));
+        }
         let number = answer.verdict.number;
         if trial.job != Job::Start && (number == LEGAL || RULES.contains(&number)) {
             self.layouts.take(&answer.case);
@@ -182,6 +197,10 @@ impl Counts<Trial> for TrialCounts {
         for (sort, &count) in SHARING.iter().zip(&self.sharing) {
             rows.push(row(sort.name, count, sort.least));
         }
+        for (sort, &count) in BLOCKED.iter().zip(&self.blocked) {
+            rows.push(row(sort.name, count, sort.least));
+        }
+        rows.extend(self.spots.rows());
         rows.extend(self.layouts.rows(150, 1..=8));
         for (family, &count) in FAMILIES.iter().zip(&self.families) {
             rows.push(row(family.name, count, family.least));

@@ -1,7 +1,9 @@
 //! Frames whose answer is known by construction bear a mark in their field number, as in the
-//! stream of cases; the value holds the expected number and place.
+//! stream of cases; the value holds the expected number, place and, where it is known, blocker.
 
 use super::frame::{Job, Trial};
+use crate::judge::machine::blocker::{Among, Blocker};
+use crate::judge::machine::judge::Verdict;
 use crate::streams::cases::marks::Family;
 
 const FIRST_MARK: u32 = 65536;
@@ -17,7 +19,7 @@ const fn family(name: &'static str, least: u64) -> Family {
 }
 
 /// Of two numbers the first is the expected one; `script`, `step` and `start` are by construction.
-pub const FAMILIES: [Family; 104] = [
+pub const FAMILIES: [Family; 115] = [
     family("legal run", 1500),
     family("run: rule 21", 150),
     family("run: rule 22", 150),
@@ -58,6 +60,12 @@ pub const FAMILIES: [Family; 104] = [
     family("legal: a neighbour's persist", 100),
     family("legal: load past a neighbour's", 100),
     family("legal: fence, neighbour's gone", 100),
+    family("script: 22, each place", 120),
+    family("script: 23, each place", 720),
+    family("script: 26, each place", 840),
+    family("script: 27, each place", 240),
+    family("script: 28, each place", 720),
+    family("row: a blocker by hand", 46),
     family("reading refused", 500),
     family("step: reading refused", 50),
     family("step: reachable state", 1000),
@@ -88,6 +96,11 @@ pub const FAMILIES: [Family; 104] = [
     family("step: 27, a neighbour's", 100),
     family("step: load past a neighbour's", 100),
     family("step: exchange past a neighbour's", 100),
+    family("step: 22, each place", 100),
+    family("step: 23, each place", 600),
+    family("step: 26, each place", 700),
+    family("step: 27, each place", 200),
+    family("step: 28, each place", 600),
     family("33 above: lacking thread", 100),
     family("33 above: lacking line", 100),
     family("33 above: location that is no line", 100),
@@ -129,6 +142,8 @@ pub struct Mark {
     pub family: usize,
     pub number: u8,
     pub place: usize,
+    /// None where nothing is said of it.
+    pub blocker: Option<Blocker>,
 }
 
 fn family_of(name: &str) -> usize {
@@ -145,12 +160,40 @@ pub fn marked(name: &str, number: u8, place: usize, input: Vec<u8>, job: Job) ->
     }
 }
 
+/// The value of a mark has the place below this, and the blocker's code above.
+const BLOCKER: u32 = 1 << 20;
+
+/// A marked frame whose blocker is known too.
+pub fn with_blocker(mut trial: Trial, blocker: Option<Blocker>) -> Trial {
+    trial.value += blocker.map_or(0, code) * BLOCKER;
+    trial
+}
+
+/// Buffers from 64 on, queues from 512 on, 64 positions each.
+fn code(blocker: Blocker) -> u32 {
+    let first = match blocker.among {
+        Among::Buffers => 1,
+        Among::Queues => 8,
+    };
+    64 * (first + u32::from(blocker.which)) + u32::from(blocker.position)
+}
+
+fn blocker_of(code: u32) -> Option<Blocker> {
+    let (group, position) = ((code / 64) as usize, (code % 64) as usize);
+    match group {
+        0 => None,
+        1..=7 => Some(Blocker::waiting(group - 1, position)),
+        _ => Some(Blocker::queued(group - 8, position)),
+    }
+}
+
 pub fn mark_of(trial: &Trial) -> Option<Mark> {
     if sets_bad_count(trial) {
         return Some(Mark {
             family: BAD_COUNT,
             number: 32,
             place: 0,
+            blocker: None,
         });
     }
     let family = trial.field.checked_sub(FIRST_MARK)? as usize;
@@ -158,7 +201,8 @@ pub fn mark_of(trial: &Trial) -> Option<Mark> {
     Some(Mark {
         family,
         number: (trial.value % 256) as u8,
-        place: (trial.value / 256) as usize,
+        place: (trial.value % BLOCKER / 256) as usize,
+        blocker: blocker_of(trial.value / BLOCKER),
     })
 }
 
@@ -178,11 +222,13 @@ fn sets_bad_count(trial: &Trial) -> bool {
 }
 
 impl Mark {
-    pub fn is_met(&self, number: u8, place: usize) -> bool {
+    pub fn is_met(&self, verdict: &Verdict) -> bool {
+        let number = verdict.number;
         let right = match self.number {
             FITS => number == 103 || (21..=29).contains(&number),
             _ => number == self.number,
         };
-        right && place == self.place
+        let named = self.blocker.is_none() || self.blocker == verdict.blocker;
+        right && verdict.place == self.place && named
     }
 }

@@ -1,6 +1,7 @@
 //! The stream of the machine: its frames, their answers and counts.
 
 pub mod answer;
+mod blocked;
 pub mod counts;
 pub mod frame;
 pub mod generate;
@@ -8,3 +9,4 @@ mod marks;
 pub mod raw;
 mod sharing;
 mod sorts;
+pub mod spots;

@@ -1,14 +1,21 @@
 //! Frames of the machine: the bytes of a state, their stream and their lines.
 
 use crate::judge::case::Case;
+use crate::judge::machine::blocker::Blocker;
 use crate::judge::machine::state::{Entry, Held, State};
-use crate::judge::machine::steps::issue;
+use crate::judge::machine::steps::{issue, shift};
 use crate::judge::reading::read;
+use crate::judge::writing;
 use crate::streams::cases::generate::valid::ROW;
-use crate::streams::machine::answer::answer;
+use crate::streams::machine::answer::{answer, judged_line};
+use crate::streams::machine::counts::TrialCounts;
 use crate::streams::machine::frame::{Job, Trial};
+use crate::streams::machine::generate::{blocked, rows};
 use crate::streams::machine::raw::{decode, encode, ENTRIES_AT, STATE_BYTES};
+use crate::streams::machine::spots::{spots, SpotCounts};
 use crate::streams::random::Random;
+use crate::streams::tally::{missing, Counts};
+use crate::tests::by_hand::{flush_opt, program, store, X, Y};
 
 #[test]
 fn states_come_back_from_their_bytes() {
@@ -165,4 +172,125 @@ fn lines_of_the_machine() {
     assert_eq!(judged(Job::Case, 1, 0), "32 0 r32 r32");
     let unfit = Job::Step(issue(0), vec![255; STATE_BYTES]);
     assert_eq!(judged(unfit, 0, 0), "33 0 r33 6");
+}
+
+/// A store of y, a store of x and a flush-opt of x, which is to move before them, with that many issues.
+fn barred(issues: usize) -> Trial {
+    let mut case = program(&[&[store(Y, 1), store(X, 500), flush_opt(X)]]);
+    case.set_run(&[&vec![issue(0); issues][..], &[shift(0, 2)]].concat());
+    Trial {
+        job: Job::Bytes,
+        input: writing::encode(&case),
+        field: 0,
+        value: 0,
+    }
+}
+
+#[test]
+fn lines_end_with_the_blocker() {
+    let trial = barred(3);
+    let told = answer(&trial);
+    let state = encode(&told.verdict.state);
+    let state: String = state.iter().map(|byte| format!("{byte:02x}")).collect();
+    assert_eq!(told.line(), format!("26 3 6 9 {state} B0.1\n"));
+    assert_eq!(judged_line(&trial), "26 3 B0.1\n");
+    let start = Trial {
+        job: Job::Start,
+        ..trial.clone()
+    };
+    assert!(answer(&start).line().ends_with("00\n"));
+    assert_eq!(judged_line(&start), "");
+    // In the same state, as a single step.
+    let stepped = Trial {
+        job: Job::Step(shift(0, 2), encode(&told.verdict.state)),
+        ..trial
+    };
+    assert_eq!(answer(&stepped).line(), format!("26 0 6 9 {state} B0.1\n"));
+    // Two entries: no third one to move.
+    assert_eq!(judged_line(&barred(2)), "24 2\n");
+    assert!(answer(&barred(2)).line().ends_with("00\n"));
+}
+
+/// What is wrong of the frames, least numbers aside.
+fn wrong(trials: &[Trial]) -> Vec<String> {
+    let mut counts = TrialCounts::new();
+    trials.iter().for_each(|trial| counts.take(trial));
+    counts.wrong()
+}
+
+#[test]
+fn rows_by_hand_are_met() {
+    let mut trials = rows::all(&mut Random::new(1));
+    assert_eq!((trials.len(), wrong(&trials)), (46, Vec::new()));
+    // With another blocker in its mark, or the index of another step, each is found.
+    for trial in &mut trials {
+        trial.value += 1 << 20;
+    }
+    assert_eq!(wrong(&trials).len(), 46);
+    for trial in &mut trials {
+        trial.value -= (1 << 20) - (1 << 8);
+    }
+    assert_eq!(wrong(&trials).len(), 46);
+}
+
+/// Frames are left out by how their `machine-judged` line begins and ends.
+#[test]
+fn a_place_that_is_left_out_is_missed() {
+    let trials = blocked::all(&mut Random::new(2));
+    let missed = |begins: &str, ends: &str| {
+        let mut counts = SpotCounts::new();
+        let is_kept = |trial: &&Trial| {
+            let told = judged_line(trial);
+            !told.starts_with(begins) || !told.trim_end().ends_with(ends)
+        };
+        for trial in trials.iter().filter(is_kept) {
+            assert!(counts.take(trial, &answer(trial)));
+        }
+        missing(&counts.rows())
+    };
+    let job = "blockers' places, 20 by job 0: 87, at least 88 wanted";
+    assert_eq!(missed("no such line", ""), [""; 0]);
+    // Those of the other jobs stay: 35 of 55.
+    let bar = "26 at B3.6: 35, at least 50 wanted";
+    assert_eq!(missed("26 ", " B3.6"), [bar, job]);
+    let marker = "28 at Q7.0: 35, at least 50 wanted";
+    assert_eq!(missed("28 ", " Q7.0"), [marker, job]);
+}
+
+/// A rule's blocker may not be missing, and no rule has one of another's.
+#[test]
+fn blockers_that_no_rule_names() {
+    let buffer = [1, 7].map(|position| Blocker::waiting(0, position));
+    let queue = [0, 1, 2].map(|position| Blocker::queued(0, position));
+    let trial = barred(3);
+    let is_good = |blocker: Option<Blocker>, number: u8| {
+        let mut told = answer(&trial);
+        told.verdict.number = number;
+        told.verdict.blocker = blocker;
+        told.verdict.state.queues[0].count = 2;
+        SpotCounts::new().take(&trial, &told)
+    };
+    let good = |number| {
+        let buffer = buffer.map(|place| is_good(Some(place), number));
+        (buffer, queue.map(|place| is_good(Some(place), number)))
+    };
+    assert_eq!(good(26), ([true, false], [false; 3]));
+    assert_eq!(good(27), ([false; 2], [true, false, false]));
+    for number in [23, 28] {
+        assert_eq!(good(number), ([false; 2], [true, true, false]));
+    }
+    for number in [21, 22, 24, 25, 29, 32, 103] {
+        assert_eq!(good(number), ([false; 2], [false; 3]));
+    }
+    for number in 21..=33 {
+        let names = [22, 23, 26, 27, 28].contains(&number);
+        assert_eq!(is_good(None, number), !names);
+    }
+}
+
+#[test]
+fn spots_are_all_that_the_sizes_allow() {
+    let count = |rule| spots().iter().filter(|spot| spot.rule == rule).count();
+    assert_eq!([22, 23, 26, 27, 28].map(count), [4, 24, 28, 8, 24]);
+    assert_eq!(spots().len(), 88);
 }

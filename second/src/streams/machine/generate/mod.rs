@@ -1,12 +1,14 @@
 //! The frames of the machine's comparison, from a seed.
 
 mod beside;
+pub mod blocked;
 mod cases;
 mod misfits;
 mod moves;
 mod near;
 mod orders;
 pub mod programs;
+pub mod rows;
 pub mod runs;
 mod scene;
 mod script;
@@ -21,7 +23,7 @@ use crate::streams::random::Random;
 use std::io;
 
 /// Made once, whatever the number of frames asked for.
-const ONCE: [Part<Trial>; 13] = [
+const ONCE: [Part<Trial>; 15] = [
     runs::every_length,
     runs::filled,
     runs::ended_by_each_rule,
@@ -35,10 +37,12 @@ const ONCE: [Part<Trial>; 13] = [
     misfits::all,
     orders::all,
     orders::beaten,
+    blocked::all,
+    rows::all,
 ];
 
 /// Made in turn until there are enough frames.
-const AGAIN: [Part<Trial>; 9] = [
+const AGAIN: [Part<Trial>; 10] = [
     runs::some,
     scripts::some,
     cases::some,
@@ -48,6 +52,7 @@ const AGAIN: [Part<Trial>; 9] = [
     misfits::some,
     orders::some,
     runs::ended,
+    blocked::some,
 ];
 
 /// Hands out at least `count` frames, part by part.

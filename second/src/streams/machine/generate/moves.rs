@@ -3,12 +3,13 @@
 use super::programs::word;
 use super::scene::*;
 use crate::judge::case::Step;
+use crate::judge::machine::blocker::Blocker;
 use crate::judge::machine::state::Entry;
 use crate::judge::machine::steps::shift;
 use crate::streams::layouts;
 use crate::streams::random::Random;
 
-fn move_by(scene: Scene, position: usize) -> (Scene, Step) {
+pub fn move_by(scene: Scene, position: usize) -> (Scene, Step) {
     let step = shift(scene.thread as u8, position as u8);
     (scene, step)
 }
@@ -62,17 +63,23 @@ pub fn barred(random: &mut Random) -> (Scene, Step) {
     };
     let mut scene = Scene::new(random, &need);
     let own = scene.at;
-    let location = layouts::neighbour(random, &scene.case, own);
-    let word = word(random);
+    let bar = bar(random, &scene);
     let entries = scene.entries();
     let position = 1 + random.below(entries.len() - 1);
     entries[position] = Entry::FlushOpt(own);
-    entries[random.below(position)] = random.pick(&[
+    entries[random.below(position)] = bar;
+    move_by(scene, position)
+}
+
+/// What bars a flush-opt of the scene's location.
+pub fn bar(random: &mut Random, scene: &Scene) -> Entry {
+    let location = layouts::neighbour(random, &scene.case, scene.at);
+    let word = word(random);
+    random.pick(&[
         Entry::Store { location, word },
         Entry::Flush(location),
         Entry::Sfence,
-    ]);
-    move_by(scene, position)
+    ])
 }
 
 /// Nothing before the flush-opt bars it: other lines, and flush-opts of its own.
@@ -84,22 +91,32 @@ pub fn passing(random: &mut Random) -> (Scene, Step) {
     };
     let mut scene = Scene::of_case(random, &need, |case| case.lines > 1);
     let own = scene.at;
-    let beside = layouts::neighbour(random, &scene.case, own);
-    let others = layouts::elsewhere(&scene.case, own);
+    let position = 1 + random.below(scene.entries().len() - 1);
+    let passed = passed(random, &scene, position);
     let entries = scene.entries();
-    let position = 1 + random.below(entries.len() - 1);
-    for entry in &mut entries[..position] {
-        let location = random.pick(&others);
+    entries[..position].copy_from_slice(&passed);
+    entries[position] = Entry::FlushOpt(own);
+    move_by(scene, position)
+}
+
+/// So many entries that a flush-opt of the scene's location passes.
+pub fn passed(random: &mut Random, scene: &Scene, count: usize) -> Vec<Entry> {
+    let others = layouts::elsewhere(&scene.case, scene.at);
+    let one = |_| {
+        let beside = layouts::neighbour(random, &scene.case, scene.at);
+        let location = match random.pick_some(&others) {
+            Some(location) => location,
+            None => return Entry::FlushOpt(beside),
+        };
         let word = word(random);
-        *entry = random.pick(&[
+        random.pick(&[
             Entry::Store { location, word },
             Entry::Flush(location),
             Entry::FlushOpt(location),
             Entry::FlushOpt(beside),
-        ]);
-    }
-    entries[position] = Entry::FlushOpt(own);
-    move_by(scene, position)
+        ])
+    };
+    (0..count).map(one).collect()
 }
 
 /// The first entry is of the scene's location, whose line's queue is empty (0), filled (1), or any (2).
@@ -109,10 +126,21 @@ pub fn first(random: &mut Random, entry: fn(u8) -> Entry, filled: u8) -> (Scene,
         length: [(0, 0), (1, 32), (0, 32)][usize::from(filled)],
         ..ANY
     };
-    let mut scene = Scene::new(random, &need);
+    let scene = Scene::new(random, &need);
+    first_in(scene, entry)
+}
+
+pub fn first_in(mut scene: Scene, entry: fn(u8) -> Entry) -> (Scene, Step) {
     let location = scene.at;
     scene.entries()[0] = entry(location);
     move_by(scene, 0)
+}
+
+/// Something is queued before the flush.
+pub fn flush_filled(random: &mut Random) -> (Scene, Step) {
+    let (mut scene, step) = first(random, Entry::Flush, 1);
+    scene.blocker = Some(Blocker::queued(scene.line(), 0));
+    (scene, step)
 }
 
 pub fn first_store(random: &mut Random) -> (Scene, Step) {
@@ -129,7 +157,7 @@ pub fn first_sfence(random: &mut Random, marker: bool) -> (Scene, Step) {
     scene.entries()[0] = Entry::Sfence;
     scene.strip();
     if marker {
-        scene.plant(random);
+        scene.blocker = Some(scene.plant(random));
     }
     move_by(scene, 0)
 }

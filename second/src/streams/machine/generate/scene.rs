@@ -3,11 +3,12 @@
 use super::programs::*;
 use super::runs::any_step;
 use crate::judge::case::{Case, Instruction, Step};
+use crate::judge::machine::blocker::Blocker;
 use crate::judge::machine::state::{Entry, Held, State, MARKER, QUEUE_ROOM};
 use crate::judge::writing::encode;
 use crate::streams::layouts;
 use crate::streams::machine::frame::{Job, Trial};
-use crate::streams::machine::marks::marked;
+use crate::streams::machine::marks::{marked, with_blocker};
 use crate::streams::machine::raw::{self, ENTRIES_AT, ENTRY_BYTES};
 use crate::streams::random::Random;
 
@@ -36,6 +37,8 @@ pub struct Scene {
     pub state: State,
     pub thread: usize,
     pub at: u8,
+    /// Of the step that is made for the scene, where its maker knows it.
+    pub blocker: Option<Blocker>,
 }
 
 impl Scene {
@@ -48,7 +51,7 @@ impl Scene {
     }
 
     /// Drawn until its case is such a one.
-    pub fn of_case(random: &mut Random, need: &Need, such: fn(&Case) -> bool) -> Scene {
+    pub fn of_case(random: &mut Random, need: &Need, such: impl Fn(&Case) -> bool) -> Scene {
         loop {
             let scene = Scene::new(random, need);
             if such(&scene.case) {
@@ -86,6 +89,7 @@ impl Scene {
             state,
             thread,
             at,
+            blocker: None,
         };
         scene.fill(random);
         Some(scene)
@@ -140,22 +144,43 @@ impl Scene {
         &mut queue.places[random.below(queue.count.into())]
     }
 
-    /// A marker of the scene's thread in the queue of the location's line.
-    pub fn plant(&mut self, random: &mut Random) {
-        let mark = MARKER + self.thread as u8;
-        self.any_held(random).mark = mark;
+    /// A marker of the scene's thread, anywhere in the queue of the location's line.
+    pub fn plant(&mut self, random: &mut Random) -> Blocker {
+        let queue = &self.state.queues[self.line()];
+        let position = random.below(queue.count.into());
+        self.plant_at(position)
     }
 
-    /// No queue holds a marker of the scene's thread: in its place stands a write of the line.
+    pub fn plant_at(&mut self, position: usize) -> Blocker {
+        let line = self.line();
+        self.state.queues[line].places[position].mark = MARKER + self.thread as u8;
+        Blocker::queued(line, position)
+    }
+
+    /// No queue holds a marker of the scene's thread.
     pub fn strip(&mut self) {
         for line in 0..usize::from(self.case.lines) {
-            let location = layouts::on_line(&self.case, line)[0];
-            for held in &mut self.state.queues[line].places {
-                if held.is_marker_of(self.thread) {
-                    held.mark = location;
-                }
+            self.strip_first(line, QUEUE_ROOM);
+        }
+    }
+
+    /// In the place of the thread's markers, among the first so many of a queue, stand writes of the line.
+    fn strip_first(&mut self, line: usize, count: usize) {
+        let location = layouts::on_line(&self.case, line)[0];
+        for held in &mut self.state.queues[line].places[..count] {
+            if held.is_marker_of(self.thread) {
+                held.mark = location;
             }
         }
+    }
+
+    /// No marker of the scene's thread comes before that position of the location's line; behind it stand
+    /// those that were drawn.
+    pub fn strip_before(&mut self, position: usize) {
+        for line in 0..self.line() {
+            self.strip_first(line, QUEUE_ROOM);
+        }
+        self.strip_first(self.line(), position);
     }
 
     /// The thread's next instruction.
@@ -183,7 +208,9 @@ impl Scene {
         if junk {
             add_ignored(random, &mut state);
         }
-        marked(name, number, 0, encode(&self.case), Job::Step(step, state))
+        let job = Job::Step(step, state);
+        let trial = marked(name, number, 0, encode(&self.case), job);
+        with_blocker(trial, self.blocker)
     }
 }
 

@@ -3,6 +3,7 @@
 
 use super::programs::*;
 use crate::judge::case::{Case, Instruction, Step, MOST_INSTRUCTIONS};
+use crate::judge::machine::blocker::Blocker;
 use crate::judge::machine::steps::{issue, persist, shift};
 use crate::streams::layouts::{self, Layout};
 use crate::streams::random::Random;
@@ -18,6 +19,8 @@ pub struct Script {
     pub elsewhere: u8,
     /// Another location on the first one's line, or that one itself.
     pub neighbour: u8,
+    /// Of the last step, where its maker knows it.
+    pub blocker: Option<Blocker>,
 }
 
 impl Script {
@@ -33,23 +36,49 @@ impl Script {
                 break (at, neighbour);
             }
         };
-        let mut script = Script {
-            thread: random.between(0, case.threads - 1),
-            other: random.between(0, case.threads - 2),
+        let thread = random.between(0, case.threads - 1);
+        let mut script = Script::begun(random, case, thread, at);
+        script.neighbour = random.pick(&[neighbour, if sharing { neighbour } else { at }]);
+        script.preface(random, 3, 3);
+        script
+    }
+
+    /// Of that thread, which has all its instructions left, and about a location on that line.
+    pub fn of(random: &mut Random, thread: u8, line: u8) -> Script {
+        let lines = line.max(1) + 1;
+        let locations = random.between(lines, 8);
+        let layout = Layout::with_lines(random, locations, lines, false);
+        let case = layouts::case(random.between(thread.max(1) + 1, 4), &layout);
+        let at = random.pick(&layouts::on_line(&case, line.into()));
+        let mut script = Script::begun(random, case, thread, at);
+        script.preface(random, 0, 2);
+        script
+    }
+
+    fn begun(random: &mut Random, mut case: Case, thread: u8, at: u8) -> Script {
+        dress(random, &mut case);
+        let other = random.between(0, case.threads - 2);
+        Script {
+            thread,
+            other: other + u8::from(other >= thread),
             at,
             elsewhere: random.pick(&layouts::elsewhere(&case, at)),
-            neighbour: random.pick(&[neighbour, if sharing { neighbour } else { at }]),
+            neighbour: layouts::neighbour(random, &case, at),
             case,
             steps: Vec::new(),
-        };
-        script.other += u8::from(script.other >= script.thread);
-        dress(random, &mut script.case);
-        for _ in 0..random.below(10) {
-            let thread = random.between(0, script.case.threads - 1);
-            script.at_once(random, thread, 3);
+            blocker: None,
         }
-        script.bystanders(random);
-        script
+    }
+
+    /// Instructions of which nothing is left, up to so many of the thread and of each other one; and what
+    /// bystanders leave.
+    fn preface(&mut self, random: &mut Random, own: usize, others: usize) {
+        for _ in 0..random.below(10) {
+            let thread = random.between(0, self.case.threads - 1);
+            let most = if thread == self.thread { own } else { others };
+            self.at_once(random, thread, most);
+        }
+        self.bystanders(random);
     }
 
     /// A next instruction of the thread, and all its steps: nothing of it is left anywhere.
@@ -94,6 +123,11 @@ impl Script {
 
     pub fn shift(&mut self, thread: u8, position: u8) {
         self.steps.push(shift(thread, position));
+    }
+
+    /// The line of the script's location.
+    pub fn line(&self) -> usize {
+        self.case.line_of(self.at)
     }
 
     /// The oldest entry of the location's line.

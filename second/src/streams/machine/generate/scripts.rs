@@ -8,8 +8,10 @@ use super::runs::{any_step, judged};
 use super::script::Script;
 use super::{by_chance, by_turns};
 use crate::judge::case::MOST_STEPS;
+use crate::judge::machine::blocker::Blocker;
 use crate::judge::machine::judge::LEGAL;
 use crate::streams::machine::frame::Trial;
+use crate::streams::machine::marks::with_blocker;
 use crate::streams::random::Random;
 
 type Maker = fn(&mut Random, &mut Script);
@@ -85,15 +87,20 @@ fn sharing(random: &mut Random, row: &(&str, Maker, u8)) -> Trial {
 fn written(random: &mut Random, mut script: Script, row: &(&str, Maker, u8)) -> Trial {
     let (name, maker, number) = row;
     maker(random, &mut script);
+    closed(random, script, name, *number)
+}
+
+/// The frame of a script whose last step breaks that rule, or of a legal one.
+pub fn closed(random: &mut Random, mut script: Script, name: &str, number: u8) -> Trial {
     let mut place = script.steps.len();
     // Rule 21 needs a thread without instructions left.
-    let spared = if *number == 21 {
+    let spared = if number == 21 {
         Some(script.thread)
     } else {
         None
     };
     script.add_unissued(random, spared);
-    if *number != LEGAL {
+    if number != LEGAL {
         place -= 1;
         let behind = random.below(MOST_STEPS - place);
         for _ in 0..random.pick(&[0, behind.min(3), behind]) {
@@ -102,7 +109,8 @@ fn written(random: &mut Random, mut script: Script, row: &(&str, Maker, u8)) -> 
         }
     }
     script.case.set_run(&script.steps);
-    judged(random, name, *number, place, &script.case)
+    let trial = judged(random, name, number, place, &script.case);
+    with_blocker(trial, script.blocker)
 }
 
 pub const FENCES: [u8; 2] = [4, 8];
@@ -116,11 +124,12 @@ fn none_left_waiting(random: &mut Random, s: &mut Script) {
     s.issue_again(s.thread);
 }
 
-fn fence_waiting(random: &mut Random, s: &mut Script) {
+pub fn fence_waiting(random: &mut Random, s: &mut Script) {
     for _ in 0..1 + random.below(3) {
         s.own_anywhere(random, &WAITING);
     }
     s.own_anywhere(random, &FENCES);
+    s.blocker = Some(Blocker::waiting(s.thread.into(), 0));
 }
 
 fn fence_waiting_marked(random: &mut Random, s: &mut Script) {
@@ -129,10 +138,24 @@ fn fence_waiting_marked(random: &mut Random, s: &mut Script) {
 }
 
 fn fence_marked(random: &mut Random, s: &mut Script) {
-    surround(random, s);
-    s.queue(random, s.thread, s.at, &[6]);
-    surround(random, s);
+    leave_marker(random, s, (0, 1), (0, 1));
     s.own_anywhere(random, &FENCES);
+}
+
+/// The thread's marker in the queue of the location's line, the first one there, with entries of the line
+/// before it and behind it: at least and at most so many.
+pub fn leave_marker(random: &mut Random, s: &mut Script, before: (u8, u8), behind: (u8, u8)) {
+    let before = random.between(before.0, before.1);
+    for _ in 0..before {
+        let (thread, operations) = random.pick(&[(s.other, &QUEUED[..]), (s.thread, &[1, 2])]);
+        s.queue(random, thread, s.neighbour, operations);
+    }
+    s.queue(random, s.thread, s.at, &[6]);
+    for _ in 0..random.between(behind.0, behind.1) {
+        let thread = random.pick(&[s.thread, s.other]);
+        s.queue(random, thread, s.neighbour, &QUEUED);
+    }
+    s.blocker = Some(Blocker::queued(s.line(), before.into()));
 }
 
 /// Perhaps something of the other thread in the queue of the location's line.
@@ -183,17 +206,17 @@ fn sfence_behind(random: &mut Random, s: &mut Script) {
     s.shift(s.thread, 1);
 }
 
-/// A store or flush of its line, or an sfence, before a flush-opt; others around it.
+/// What bars a flush-opt: a store or flush of its line, or an sfence.
+pub const BARS: [u8; 4] = [1, 2, 5, 7];
+
+/// One of them before a flush-opt; others around it.
 fn barred(random: &mut Random, s: &mut Script) {
-    barred_by(random, s, &[1, 2, 5, 7]);
+    barred_by(random, s, &BARS);
 }
 
 pub fn barred_by(random: &mut Random, s: &mut Script, operations: &[u8]) {
     let (before, between) = (random.between(0, 1), random.between(0, 2));
-    for _ in 0..before {
-        s.own_elsewhere(random, &[1, 2, 5, 6]);
-    }
-    s.own_beside(random, operations);
+    barred_after(random, s, before, operations);
     for _ in 0..between {
         s.own_elsewhere(random, &[1, 2, 5, 6]);
     }
@@ -201,17 +224,33 @@ pub fn barred_by(random: &mut Random, s: &mut Script, operations: &[u8]) {
     s.shift(s.thread, before + 1 + between);
 }
 
-fn flush_queue_filled(random: &mut Random, s: &mut Script) {
+/// The first entry of the thread that bars a flush-opt, behind so many that do not.
+pub fn barred_after(random: &mut Random, s: &mut Script, before: u8, operations: &[u8]) {
+    for _ in 0..before {
+        if random.one_in(4) {
+            s.own_beside(random, &[6]);
+        } else {
+            s.own_elsewhere(random, &[1, 2, 5, 6]);
+        }
+    }
+    s.own_beside(random, operations);
+    s.blocker = Some(Blocker::waiting(s.thread.into(), before.into()));
+}
+
+pub fn flush_queue_filled(random: &mut Random, s: &mut Script) {
     let filler = random.pick(&[s.thread, s.other]);
     s.queue(random, filler, s.neighbour, &[1, 2, 4, 6, 6]);
+    for _ in 0..random.below(3) {
+        let filler = random.pick(&[s.thread, s.other]);
+        s.queue(random, filler, s.neighbour, &QUEUED);
+    }
     s.own(random, &[5]);
     s.shift(s.thread, 0);
+    s.blocker = Some(Blocker::queued(s.line(), 0));
 }
 
 fn sfence_marked(random: &mut Random, s: &mut Script) {
-    surround(random, s);
-    s.queue(random, s.thread, s.at, &[6]);
-    surround(random, s);
+    leave_marker(random, s, (0, 1), (0, 1));
     s.own(random, &[7]);
     s.shift(s.thread, 0);
 }

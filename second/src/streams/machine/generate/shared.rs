@@ -1,8 +1,10 @@
 //! Single steps by construction on states in which another location of the line decides.
 
+use super::moves::first_in;
 use super::programs::instruction_at;
 use super::scene::*;
 use crate::judge::case::Step;
+use crate::judge::machine::blocker::Blocker;
 use crate::judge::machine::state::Entry;
 use crate::judge::machine::steps::{issue, shift};
 use crate::streams::layouts;
@@ -34,8 +36,10 @@ pub fn barred_beside(random: &mut Random) -> (Scene, Step) {
         *entry = Entry::FlushOpt(random.between(0, locations - 1));
     }
     let bar = random.pick(&[Entry::Store { location, word }, Entry::Flush(location)]);
-    entries[random.below(position)] = bar;
+    let first = random.below(position);
+    entries[first] = bar;
     entries[position] = Entry::FlushOpt(own);
+    scene.blocker = Some(Blocker::waiting(scene.thread, first));
     let step = shift(scene.thread as u8, position as u8);
     (scene, step)
 }
@@ -60,10 +64,8 @@ pub fn filled_beside(random: &mut Random) -> (Scene, Step) {
     let (mut scene, beside) = scene(random, &need);
     hand_over(&mut scene, beside);
     scene.any_held(random).mark = beside;
-    let own = scene.at;
-    scene.entries()[0] = Entry::Flush(own);
-    let step = shift(scene.thread as u8, 0);
-    (scene, step)
+    scene.blocker = Some(Blocker::queued(scene.line(), 0));
+    first_in(scene, Entry::Flush)
 }
 
 /// The newest write is the neighbour's; the location has one before it, or none.

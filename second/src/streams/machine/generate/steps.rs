@@ -7,6 +7,7 @@ use super::scene::*;
 use super::shared::*;
 use super::{by_chance, by_turns};
 use crate::judge::case::Step;
+use crate::judge::machine::blocker::Blocker;
 use crate::judge::machine::judge::LEGAL;
 use crate::judge::machine::state::Entry;
 use crate::judge::machine::steps::{issue, persist};
@@ -28,7 +29,7 @@ const MAKERS: [(&str, Maker, u8); 26] = [
     ("step: 25+27", |random| behind(random, &[5]), 25),
     ("step: 25+28", |random| behind(random, &[6]), 25),
     ("step: 26", barred, 26),
-    ("step: 27", |random| first(random, Entry::Flush, 1), 27),
+    ("step: 27", flush_filled, 27),
     ("step: 28", |random| first_sfence(random, true), 28),
     ("step: 29", |random| persist_of(random, (0, 0)), 29),
     ("step: legal issue", |r| issue_of(r, &WAITING), LEGAL),
@@ -102,6 +103,7 @@ fn on_reachable(random: &mut Random) -> Vec<Trial> {
                 state: state.clone(),
                 thread: 0,
                 at: 0,
+                blocker: None,
             };
             let step = some_step(random, &scene);
             scene.trial(random, "step: reachable state", FITS, step)
@@ -139,13 +141,20 @@ fn fence(random: &mut Random, waiting: (u8, u8), marker: bool) -> (Scene, Step) 
         ..ANY
     };
     let mut scene = Scene::new(random, &need);
+    scene.strip();
+    if marker {
+        scene.blocker = Some(scene.plant(random));
+    }
+    if waiting.0 > 0 {
+        scene.blocker = Some(Blocker::waiting(scene.thread, 0));
+    }
+    issue_of_fence(random, scene)
+}
+
+pub fn issue_of_fence(random: &mut Random, mut scene: Scene) -> (Scene, Step) {
     let operation = random.pick(&[4, 8]);
     let next = instruction(random, operation, scene.case.locations);
     scene.set_next(next);
-    scene.strip();
-    if marker {
-        scene.plant(random);
-    }
     issue_by(scene)
 }
 
