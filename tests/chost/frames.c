@@ -1,9 +1,9 @@
 /*
  * The C face on a stream of frames: standard input has frames of the machine or of the question as docs/FRAMES.md
- * lays them out, standard output gets a line for each that the C face can answer. Job 0 is judged: number and place.
- * A question is asked with the frame's room and budget: number, place and the lent buffer in hex. Other jobs are passed
- * over. What was lent stands between guard bytes, at another alignment each time; a byte that is not as it must be
- * afterwards ends the program, and so does a frame that is cut or out of bounds.
+ * lays them out, standard output gets a line for each that the C face can answer. Job 0 is judged: number and place,
+ * and the blocker where there is one. A question is asked with the frame's room and budget: number, place and the lent
+ * buffer in hex. Other jobs are passed over. What was lent stands between guard bytes, at another alignment each time;
+ * a byte that is not as it must be afterwards ends the program, and so does a frame that is cut or out of bounds.
  */
 #include <stdio.h>
 #include <stdlib.h>
@@ -97,11 +97,24 @@ static void print_answer(uint32_t number)
     printf("%lu %lu", (unsigned long)garluveni_answer(number), (unsigned long)garluveni_place(number));
 }
 
+static void print_blocker(uint32_t place)
+{
+    uint32_t among = place % 256u, which = place / 256u % 256u, position = place / 65536u;
+    if (place == 0)
+        return;
+    if (among != 1 && among != 2)
+        stop("neither a buffer nor a queue");
+    printf(" %c%lu.%lu", among == 1 ? 'B' : 'Q', (unsigned long)which, (unsigned long)position);
+}
+
 static void judge(void)
 {
     uint32_t number = garluveni_judge(start(&input), input.length);
     check_input();
+    uint32_t place = garluveni_blocker(start(&input), input.length);
+    check_input();
     print_answer(number);
+    print_blocker(place);
     printf("\n");
 }
 
