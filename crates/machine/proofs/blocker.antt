@@ -1,6 +1,5 @@
 -- The first entry in the way (specs/Blocker, Followed).
--- broken, entry, queue, marked, has, stands-mark: what a rule that is broken tells of buffers and queues, and back;
--- issue, move, persist: which step breaks it; Barrier, HasMarker
+-- broken, issue, move, persist: what a rule tells, and back; entry, queue, marked, has, stands-mark; Barrier, HasMarker
 pub mod BrokenLaws
 -- blocker, own-thread: what its function asks for and answers
 pub mod BlockerLaws

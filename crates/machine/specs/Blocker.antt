@@ -4,7 +4,7 @@
 --                           one; the position in it
 --   markerPlace f           the place of a marker that was looked for
 --   entryLine p e           the line of the location that the entry e names; 0 for an sfence
---   taken x k               the entry that the move k would take
+--   ownBuffer x k, taken x k   the buffer of the step's thread; the entry that the move k would take
 --   blockerBy r p x k       the first entry in the way of the step k, by the rule r that it breaks
 --   blockerIn, blockerOf p s k   the same with its rule, over the parts that rules look at, in a state
 -- Assumes nothing.
