@@ -96,8 +96,16 @@ fn more(given: &Given, answer: Answer, steps: usize) -> String {
             report::steps(steps),
             report::asked(&given.case(), " = ")
         ),
-        Answer::Illegal { index, rule } => {
-            format!(", step {} (index {index}) breaks rule {rule}", index + 1)
+        Answer::Illegal {
+            index,
+            rule,
+            blocker,
+        } => {
+            let blocker = blocker.map_or(String::new(), |place| format!(": {place} is in the way"));
+            format!(
+                ", step {} (index {index}) breaks rule {rule}{blocker}",
+                index + 1
+            )
         }
         Answer::Legal => format!(", {}", report::steps(steps)),
         Answer::Unreachable => format!(": {}", report::asked(&given.case(), " = ")),

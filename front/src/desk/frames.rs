@@ -4,7 +4,7 @@ use super::records;
 use crate::case::{Case, Step};
 use crate::messages::Trouble;
 use crate::sizes;
-use crate::story::state::State;
+use crate::story::{blocker::Place, state::State};
 
 /// Reading looks at no byte behind the longest file and one record more, so that a longer file is answered by so many.
 const MOST_INPUT: usize = 2048;
@@ -30,8 +30,15 @@ pub struct Judged {
 #[derive(Clone, Copy, Debug, PartialEq, Eq)]
 pub enum Verdict {
     Legal(usize),
-    Illegal { index: usize, rule: u32 },
-    Refused { number: u32, offset: usize },
+    Illegal {
+        index: usize,
+        rule: u32,
+        blocker: Option<Place>,
+    },
+    Refused {
+        number: u32,
+        offset: usize,
+    },
 }
 
 impl Judged {
@@ -82,11 +89,17 @@ pub fn asked(line: &str) -> Result<Asked, Trouble> {
 
 pub fn judged(line: &str) -> Result<Judged, Trouble> {
     let odd = || odd_line(line);
-    let [number, place, _, full_length, state] = fields(line).ok_or_else(odd)?;
+    let ([number, place, _, full_length, state], blocker) = machine(line).ok_or_else(odd)?;
     let place = place.parse().map_err(|_| odd())?;
     let verdict = match number.parse().map_err(|_| odd())? {
+        rule @ 21..=29 => Verdict::Illegal {
+            index: place,
+            rule,
+            blocker,
+        },
+        // nothing is in the way of what is legal or refused
+        _ if blocker.is_some() => return Err(odd()),
         103 => Verdict::Legal(place),
-        rule @ 21..=29 => Verdict::Illegal { index: place, rule },
         number => Verdict::Refused {
             number,
             offset: place,
@@ -101,6 +114,15 @@ pub fn judged(line: &str) -> Result<Judged, Trouble> {
         full_length,
         bytes,
     })
+}
+
+/// The parts of a line of the machine, and behind them the blocker's place, where there is one.
+fn machine(line: &str) -> Option<([&str; 5], Option<Place>)> {
+    if let Some(parts) = fields(line) {
+        return Some((parts, None));
+    }
+    let (parts, place) = line.rsplit_once(' ')?;
+    Some((fields(parts)?, Some(Place::read(place)?)))
 }
 
 fn fields<const COUNT: usize>(line: &str) -> Option<[&str; COUNT]> {
@@ -119,6 +141,48 @@ fn bytes_of(hex: &str) -> Option<Vec<u8>> {
         .collect()
 }
 
-fn odd_line(line: &str) -> Trouble {
-    Trouble::OddLine("batch".to_string(), line.chars().take(40).collect())
+/// A line that is not understood; of a long one both ends, since the blocker's place stands behind the state.
+pub fn odd_line(line: &str) -> Trouble {
+    const START: usize = 40;
+    const END: usize = 12;
+    let count = line.chars().count();
+    let start: String = line.chars().take(START).collect();
+    let end: String = line.chars().skip(count.saturating_sub(END)).collect();
+    let shown = match count > START + END {
+        true => format!("{start} .. {end}"),
+        false => line.to_string(),
+    };
+    Trouble::OddLine("batch".to_string(), shown)
+}
+
+#[cfg(test)]
+mod tests {
+    use super::*;
+
+    fn line(front: &str, behind: &str) -> String {
+        format!("{front} {}{behind}", "00".repeat(State::BYTES))
+    }
+
+    #[test]
+    fn the_sixth_part_is_the_blockers_place() {
+        let verdict = |line: &str| judged(line).ok().map(|one| one.verdict);
+        let illegal = |index, rule, blocker| {
+            Some(Verdict::Illegal {
+                index,
+                rule,
+                blocker,
+            })
+        };
+        let place = Place::read("Q1.0");
+        assert!(place.is_some());
+        assert_eq!(verdict(&line("28 6 3 9", " Q1.0")), illegal(6, 28, place));
+        assert_eq!(verdict(&line("25 6 3 9", "")), illegal(6, 25, None));
+        assert_eq!(verdict(&line("103 6 3 9", "")), Some(Verdict::Legal(6)));
+        for odd in [" Q1.0 ", " ", " Q1", " 28", " Q1.0 Q1.0"] {
+            assert_eq!(verdict(&line("28 6 3 9", odd)), None, "{odd}");
+        }
+        for front in ["103 6 3 9", "5 8 0 0"] {
+            assert_eq!(verdict(&line(front, " Q1.0")), None, "{front}");
+        }
+    }
 }

@@ -1,5 +1,6 @@
 //! From files to answers: reads texts and records, has the proved programs judge and answer them, and gathers what there is to tell.
 
+mod away;
 pub mod frames;
 pub mod programs;
 mod records;
@@ -8,7 +9,7 @@ use crate::case::{Case, Step};
 use crate::files::File;
 use crate::messages::{Mistake, Trouble};
 use crate::output;
-use crate::story::{lives, Answer, Refusal, Story};
+use crate::story::{blocker, lives, Answer, Refusal, Story};
 use crate::text::parse;
 use frames::{Asked, Judged, Verdict};
 use programs::Programs;
@@ -126,9 +127,18 @@ pub fn judge(programs: &Programs, given: &[&Given], each: &mut Each) -> Result<(
         let run = || given[i].case().run;
         let outcome = match frames::judged(line)?.verdict {
             Verdict::Legal(_) => Outcome::Answer(Answer::Legal, run()),
-            Verdict::Illegal { index, rule } => {
-                Outcome::Answer(Answer::Illegal { index, rule }, run())
-            }
+            Verdict::Illegal {
+                index,
+                rule,
+                blocker,
+            } => Outcome::Answer(
+                Answer::Illegal {
+                    index,
+                    rule,
+                    blocker,
+                },
+                run(),
+            ),
             Verdict::Refused { number, offset } => given[i].refused(number, offset),
         };
         each(i, outcome)
@@ -160,7 +170,7 @@ fn batch(
         answered += 1;
         match answered <= labels.len() {
             true => each(answered - 1, line),
-            false => Err(Trouble::OddLine("batch".to_string(), line.to_string())),
+            false => Err(frames::odd_line(line)),
         }
     })?;
     if answered < labels.len() {
@@ -196,10 +206,12 @@ pub fn stories(
         take_state(&mut stories[owners[at]], frames::judged(line)?, line)
     })?;
     // what is told of the entries must be what the judge's states say, or nothing is told
-    match stories.iter().find(|story| !lives::agree(story)) {
-        None => Ok(stories),
-        Some(story) => Err(Trouble::Astray(story.file.clone())),
+    let agrees = |story: &Story| lives::agree(story) && blocker::agrees(story);
+    if let Some(story) = stories.iter().find(|story| !agrees(story)) {
+        return Err(Trouble::Astray(story.file.clone()));
     }
+    away::find(programs, &mut stories)?;
+    Ok(stories)
 }
 
 fn blank(answered: (&Given, Answer, Vec<Step>), budget: Option<u32>) -> Story {
@@ -212,6 +224,7 @@ fn blank(answered: (&Given, Answer, Vec<Step>), budget: Option<u32>) -> Story {
         full_length: 0,
         run,
         states: Vec::new(),
+        away: Vec::new(),
     }
 }
 
@@ -225,8 +238,7 @@ fn legal(story: &Story) -> usize {
 
 fn take_state(story: &mut Story, judged: Judged, line: &str) -> Result<(), Trouble> {
     if judged.verdict != Verdict::Legal(story.states.len()) {
-        let start = line.chars().take(40).collect();
-        return Err(Trouble::OddLine("batch".to_string(), start));
+        return Err(frames::odd_line(line));
     }
     story.full_length = judged.full_length;
     story.states.push(judged.state(&story.case));

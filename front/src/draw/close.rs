@@ -1,15 +1,13 @@
 //! The end of the picture: the power cut with what it leaves and what is lost, or the step that is not possible.
 
-use super::ink::{wrap, Ink, CHIP_OVER};
+use super::ink::{Ink, CHIP_OVER};
 use super::lines::look;
 use super::plan::{Plan, MARGIN};
+use super::stop;
 use super::words;
-use crate::case::Step;
 use crate::story::{lives, Answer};
-use crate::tell::rules;
-use crate::text::layout;
 
-const STRIP: i32 = 34;
+pub const STRIP: i32 = 34;
 const LOST_ROW: i32 = 24;
 /// Lost entries of one column that are shown; the others are counted.
 const LOST_MOST: usize = 8;
@@ -19,7 +17,7 @@ pub fn draw(ink: &mut Ink, plan: &Plan) -> i32 {
     match plan.story.answer {
         Answer::Reached => cut(ink, plan, "POWER CUT", ["memory", "then holds"]),
         Answer::Legal => cut(ink, plan, "A POWER CUT HERE", ["leaves in", "memory"]),
-        Answer::Illegal { index, rule } => not_possible(ink, plan, index, rule),
+        Answer::Illegal { rule, .. } => stop::draw(ink, plan, rule),
         Answer::Unreachable | Answer::Undecided => plan.bottom(),
     }
 }
@@ -142,47 +140,5 @@ fn word(ink: &mut Ink, plan: &Plan, at: usize, top: i32) {
         let is_met = want == held;
         let class = if is_met { "met mid" } else { "soft mid" };
         ink.text(middle, top + 71, class, &words::wanted(want, is_met));
-    }
-}
-
-fn not_possible(ink: &mut Ink, plan: &Plan, index: usize, rule: u32) -> i32 {
-    let step = plan.story.run.get(index).copied();
-    let name = step.map_or(String::new(), |step| layout::short_step(&step));
-    let words = format!("{name} is not possible here: it breaks rule {rule}");
-    let lines = wrap(&words, 15, plan.width - 2 * MARGIN - 40);
-    let (top, height) = (plan.bottom(), STRIP - 16 + 18 * lines.len() as i32);
-    ink.rect("stop", MARGIN, top, plan.width - 2 * MARGIN, height, 4);
-    ink.cross("cross", MARGIN + 16, top + height / 2);
-    for (row, line) in lines.iter().enumerate() {
-        ink.text(MARGIN + 32, top + 22 + 18 * row as i32, "stopwords", line);
-    }
-    if let Some(step) = step {
-        stopped(ink, plan, step, top);
-    }
-    let why = rules::sentence(&plan.story.case, rule);
-    let why = wrap(&why, 12, plan.width - 2 * MARGIN);
-    for (row, line) in why.iter().enumerate() {
-        ink.text(MARGIN, top + height + 20 + 16 * row as i32, "soft", line);
-    }
-    top + height + 10 + 16 * why.len() as i32
-}
-
-/// A bar where the step would have led on.
-fn stopped(ink: &mut Ink, plan: &Plan, step: Step, y: i32) {
-    let lane = match step {
-        Step::Issue { thread } => {
-            let waits = lives::buffer(&plan.lives, thread as usize, plan.legal).len();
-            plan.buffers
-                .get(thread as usize)
-                .map(|column| column.lane_of(waits))
-        }
-        Step::Move { thread, position } => plan
-            .buffers
-            .get(thread as usize)
-            .map(|column| column.lane_of(position as usize)),
-        Step::Persist { line } => plan.queues.get(line as usize).map(|column| column.lane),
-    };
-    if let Some(lane) = lane {
-        ink.cross("cross", lane, y - 8);
     }
 }

@@ -93,7 +93,7 @@ pub fn chip_width(text: &str) -> i32 {
 
 /// How far a chip reaches to the right of its lane.
 pub const CHIP_OVER: i32 = 7;
-const CHIP_HEIGHT: i32 = 20;
+pub const CHIP_HEIGHT: i32 = 20;
 
 #[derive(Default)]
 pub struct Ink {

@@ -7,9 +7,11 @@ mod lines;
 mod look;
 mod plan;
 mod rows;
+mod stop;
 pub mod words;
 
 use crate::story::{lives::Life, Answer, Story};
+use crate::tell::blocker;
 use crate::text::layout;
 use ink::{escape, Ink};
 pub use lines::look;
@@ -107,7 +109,11 @@ fn ending(plan: &Plan) -> String {
                 lost(story, &plan.lives)
             )
         }
-        _ => words::verdict(story),
+        _ => {
+            let mut told = vec![words::verdict(story)];
+            told.extend(blocker::sentences(story));
+            told.join(" ")
+        }
     }
 }
 
@@ -136,6 +142,7 @@ pub fn lost(story: &Story, lives: &[Life]) -> String {
 #[cfg(test)]
 mod tests {
     use super::*;
+    use crate::story::blocker::tests::blocked_line;
     use crate::story::lives::tests::{one_line, outage};
 
     #[test]
@@ -178,10 +185,34 @@ mod tests {
     #[test]
     fn a_step_that_is_not_possible_ends_the_picture() {
         let mut story = outage();
-        story.answer = Answer::Illegal { index: 5, rule: 29 };
+        story.answer = Answer::Illegal {
+            index: 5,
+            rule: 29,
+            blocker: None,
+        };
         story.run.push(crate::case::Step::Persist { line: 1 });
         let drawn = svg(&story);
         assert!(drawn.contains("P1 is not possible here") && drawn.contains("breaks rule 29"));
         assert!(!drawn.contains("POWER CUT") && !drawn.contains("chip gone"));
+        assert!(!drawn.contains("in the way"));
+    }
+
+    #[test]
+    fn what_is_in_the_way_has_a_diamond_on_its_lane_and_a_frame_in_its_column() {
+        let story = blocked_line();
+        let (drawn, plan) = (svg(&story), Plan::new(&story));
+        let (queue, bottom) = (&plan.queues[0], plan.bottom());
+        let diamond = format!("M{} {}l5 5l-5 5l-5 -5z", queue.lane_of(1), bottom - 13);
+        assert!(drawn.contains(&diamond));
+        assert_eq!(drawn.matches("l5 5l-5 5l-5 -5z").count(), 1);
+        let (_, frame) = drawn.split_once(">in the way<").unwrap();
+        let (frame, _) = frame.split_once("</g>").unwrap();
+        assert!(frame.contains(r#"chip c1 w0"><title>thread 0's 'store valid 1'"#));
+        assert!(frame.contains(">Q0.1<") && frame.contains(">valid 1<"));
+        let right = queue.lane + ink::CHIP_OVER + 4;
+        let edges = frame.split_once(r#"<rect x=""#).unwrap().1;
+        let number = |text: &str| text.split('"').next().unwrap().parse::<i32>().unwrap();
+        let width = number(edges.split_once(r#"width=""#).unwrap().1);
+        assert_eq!(number(edges) + width, right);
     }
 }

@@ -93,7 +93,7 @@ pub fn verdict(story: &Story) -> String {
             "All steps are legal: {}.",
             story.states.len().saturating_sub(1)
         ),
-        Answer::Illegal { index, rule } => match story.run.get(index) {
+        Answer::Illegal { index, rule, .. } => match story.run.get(index) {
             Some(taken) => {
                 format!(
                     "Step {}, {}, breaks rule {rule}.",

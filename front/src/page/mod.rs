@@ -3,9 +3,9 @@
 use crate::case::Instruction;
 use crate::draw::{self, ink::escape, words};
 use crate::story::lives::{self, Life};
-use crate::story::{state::State, Answer, Story};
+use crate::story::{blocker::find, state::State, Answer, Story};
 use crate::tell::json::{list, map, text};
-use crate::tell::rules;
+use crate::tell::{blocker, rules};
 use crate::text::layout;
 
 /// `told` has a sentence for each legal step.
@@ -75,6 +75,7 @@ fn data(story: &Story, told: &[String]) -> String {
         ),
         ("steps", list(steps(story, told))),
         ("states", list(states)),
+        ("blocker", blocker_data(story, &lives)),
         ("end", end(story, &lives)),
     ])
 }
@@ -93,7 +94,7 @@ fn steps(story: &Story, told: &[String]) -> Vec<String> {
     };
     let legal = story.states.len().saturating_sub(1);
     let mut all: Vec<String> = story.run.iter().take(legal).zip(told).map(step).collect();
-    if let Answer::Illegal { index, rule } = story.answer {
+    if let Answer::Illegal { index, rule, .. } = story.answer {
         let name = story
             .run
             .get(index)
@@ -142,6 +143,16 @@ fn entries(lives: &[Life], waiting: &[usize], shown: impl Fn(usize) -> String) -
             ("text", text(&shown(one))),
         ])
     }))
+}
+
+/// The entry in the way of the step that is not possible, and what is said of it; null where nothing is.
+fn blocker_data(story: &Story, lives: &[Life]) -> String {
+    find(story, lives).map_or("null".to_string(), |found| {
+        map(&[
+            ("life", found.life.to_string()),
+            ("told", text(&blocker::sentences(story).join("\n"))),
+        ])
+    })
 }
 
 /// A persistent word, the look of the write that brought it, and the step that did: 0 for a first content.
@@ -197,6 +208,7 @@ fn end(story: &Story, lives: &[Life]) -> String {
 #[cfg(test)]
 mod tests {
     use super::*;
+    use crate::story::blocker::tests::blocked_line;
     use crate::story::lives::tests::{one_line, outage};
 
     fn page(story: &Story) -> String {
@@ -235,10 +247,22 @@ mod tests {
     #[test]
     fn a_step_that_is_not_possible_comes_last() {
         let mut story = outage();
-        story.answer = Answer::Illegal { index: 5, rule: 29 };
+        story.answer = Answer::Illegal {
+            index: 5,
+            rule: 29,
+            blocker: None,
+        };
         story.run.push(crate::case::Step::Persist { line: 1 });
         let page = page(&story);
         assert!(page.contains("P1 is not possible here. Rule 29: "));
         assert!(!page.contains("A power cut here"));
+        assert!(page.contains(r#""blocker":null"#));
+    }
+
+    #[test]
+    fn what_is_in_the_way_is_named_by_its_life() {
+        let page = page(&blocked_line());
+        let told = r#""blocker":{"life":1,"told":"In the way (Q0.1): thread 0's 'store valid 1', issued in step 2, still waits in the queue of limit's line, second in it: it has to persist before the mfence may be issued.\u000aThis takes it away: 'persist limit' twice."}"#;
+        assert!(page.contains(told));
     }
 }

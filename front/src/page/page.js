@@ -51,11 +51,18 @@
 
   const touch = (place) => place.closest(".card").classList.add("touched");
 
-  const fillChips = (place, entries, before, lost) => {
+  // what is in the way of a step that is not possible: a frame, and the words
+  const block = (place, chip) => {
+    touch(place);
+    chip.classList.add("block");
+    return under(chip, " ", make("b", "", "in the way"));
+  };
+  const fillChips = (place, entries, before, lost, blocker) => {
     const known = new Set(before.map((entry) => entry.life));
     const chips = entries.map((entry) => {
       const fresh = known.has(entry.life) ? "" : " fresh";
-      return make("span", `chip ${entry.look}${fresh}${lost ? " lost" : ""}`, entry.text);
+      const chip = make("span", `chip ${entry.look}${fresh}${lost ? " lost" : ""}`, entry.text);
+      return entry.life === blocker ? block(place, chip) : chip;
     });
     place.replaceChildren(...(chips.length ? chips : [make("span", "none", "empty")]));
     if (entries.length !== before.length) touch(place);
@@ -86,11 +93,12 @@
   const showState = (step) => {
     const [state, before] = [stateAt(step), stateAt(stopped(step) ? step : step - 1)];
     const lost = step === last && story.end !== null;
+    const blocker = stopped(step) && story.blocker ? story.blocker.life : null;
     document.querySelectorAll(".touched").forEach((card) => card.classList.remove("touched"));
     all("program").forEach((list, thread) => fillProgram(list, state.issued[thread], before.issued[thread]));
-    all("buffer").forEach((place, thread) => fillChips(place, state.buffers[thread], before.buffers[thread], lost));
+    all("buffer").forEach((place, thread) => fillChips(place, state.buffers[thread], before.buffers[thread], lost, blocker));
     all("registers").forEach((place, thread) => fillRegisters(place, state.registers[thread], before.registers[thread]));
-    all("queue").forEach((place, line) => fillChips(place, state.queues[line], before.queues[line], lost));
+    all("queue").forEach((place, line) => fillChips(place, state.queues[line], before.queues[line], lost, blocker));
     // by their numbers: those that share a line stand together
     all("word").forEach((place) => fillWord(place, state.words[place.dataset.word], before.words[place.dataset.word]));
     all("want").forEach((place) => fillWant(place, story.wants[place.dataset.want], state.words[place.dataset.want]));
@@ -106,6 +114,7 @@
     const code = step ? story.steps[step - 1].code : "start";
     find("where").replaceChildren(`Step ${step} of ${last}`, make("span", "code", code));
     find("say").textContent = step ? story.steps[step - 1].say : story.start;
+    find("way").textContent = stopped(step) && story.blocker ? story.blocker.told : "";
     document.body.classList.toggle("stop", stopped(step));
   };
   const showKeys = (step) => {

@@ -293,6 +293,7 @@ pub mod tests {
             full_length: 6,
             run: run(),
             states,
+            away: Vec::new(),
         }
     }
 

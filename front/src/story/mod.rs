@@ -1,9 +1,11 @@
 //! What there is to tell of a case: the answer of the proved programs, the run, and the state behind each of its legal steps.
 
+pub mod blocker;
 pub mod lives;
 pub mod state;
 
 use crate::case::{Case, Step};
+use blocker::Place;
 use state::State;
 
 #[derive(Clone, Copy, Debug, PartialEq, Eq)]
@@ -12,10 +14,11 @@ pub enum Answer {
     Unreachable,
     Undecided,
     Legal,
-    /// The index of the first illegal step, from 0, and its rule.
+    /// The index of the first illegal step, from 0, its rule, and where the entry stands that is in its way, if one is.
     Illegal {
         index: usize,
         rule: u32,
+        blocker: Option<Place>,
     },
 }
 
@@ -38,6 +41,13 @@ impl Answer {
             Answer::Undecided => 102,
             Answer::Legal => 103,
             Answer::Illegal { rule, .. } => rule,
+        }
+    }
+
+    pub fn blocker(self) -> Option<Place> {
+        match self {
+            Answer::Illegal { blocker, .. } => blocker,
+            _ => None,
         }
     }
 }
@@ -64,4 +74,6 @@ pub struct Story {
     pub run: Vec<Step>,
     /// The start, then the state behind each legal step.
     pub states: Vec<State>,
+    /// Steps that the proved judge passes behind the legal ones, and that take the blocker away; empty where there is none.
+    pub away: Vec<Step>,
 }

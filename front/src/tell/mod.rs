@@ -1,5 +1,6 @@
 //! An answer in words and as JSON: what a run does, what a power cut leaves, what a rule or a refusal says.
 
+pub mod blocker;
 mod cut;
 pub mod json;
 pub mod objects;

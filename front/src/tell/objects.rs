@@ -1,5 +1,6 @@
 //! One JSON object for a case, on one line; docs/FRONT.md has the fields.
 
+use super::blocker;
 use super::cut;
 use super::json::{list, map, text};
 use super::report;
@@ -7,7 +8,8 @@ use super::rules;
 use super::run;
 use crate::case::Case;
 use crate::messages::Mistake;
-use crate::story::{Answer, Refusal, Story};
+use crate::story::blocker::{find, Place};
+use crate::story::{lives, Answer, Refusal, Story};
 use crate::text::layout;
 
 struct Object(Vec<(&'static str, String)>);
@@ -34,9 +36,10 @@ impl Object {
 pub fn told(story: &Story, command: &str, status: u8) -> String {
     let mut object = Object::new(&story.file, command, status, story.answer.word());
     object.put("number", story.answer.number().to_string());
-    if let Answer::Illegal { index, rule } = story.answer {
+    if let Answer::Illegal { index, rule, .. } = story.answer {
         object.put("index", index.to_string());
         object.put("rule", text(rules::rule(&story.case, rule)));
+        put_blocker(&mut object, story);
     }
     if let Some(budget) = story.budget {
         object.put("budget", budget.to_string());
@@ -48,6 +51,36 @@ pub fn told(story: &Story, command: &str, status: u8) -> String {
         put_run(&mut object, story);
     }
     object.line()
+}
+
+/// What is in the way, where something is: its place, the entry there, and the steps that take it away.
+fn put_blocker(object: &mut Object, story: &Story) {
+    let lives = lives::lives(story);
+    let Some(found) = find(story, &lives) else {
+        return;
+    };
+    let life = &lives[found.life];
+    let own = (life.thread as usize, life.instruction);
+    let mut fields = vec![("place", text(&found.place.to_string()))];
+    match found.place {
+        Place::Buffer { .. } => fields.push(("in", text("buffer"))),
+        Place::Queue { line, .. } => {
+            fields.extend([("in", text("queue")), ("line", line.to_string())]);
+        }
+    }
+    let away = story.away.iter();
+    fields.extend([
+        ("position", found.place.position().to_string()),
+        ("thread", life.thread.to_string()),
+        ("instruction", text(&blocker::written(&story.case, own))),
+        ("issued", life.issued.to_string()),
+        ("told", text(&blocker::waits(story, life, &found))),
+        (
+            "away",
+            list(away.map(|step| text(&layout::short_step(step)))),
+        ),
+    ]);
+    object.put("blocker", map(&fields));
 }
 
 fn put_asked(object: &mut Object, case: &Case) {

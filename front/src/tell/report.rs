@@ -1,5 +1,6 @@
 //! The answer to one case in words.
 
+use super::blocker;
 use super::cut::{self, Place};
 use super::rules;
 use super::run;
@@ -165,10 +166,14 @@ fn headline(story: &Story) -> Vec<String> {
             vec!["LEGAL: the file has no run, and the empty run is legal.".to_string()]
         }
         Answer::Legal => vec![format!("LEGAL: the run, {}.", steps(story.run.len()))],
-        Answer::Illegal { index, rule } => vec![
-            format!("ILLEGAL: step {} of the run (index {index}) breaks rule {rule}.", index + 1),
-            rules::sentence(&story.case, rule),
-        ],
+        Answer::Illegal { index, rule, .. } => {
+            let mut lines = vec![
+                format!("ILLEGAL: step {} of the run (index {index}) breaks rule {rule}.", index + 1),
+                rules::sentence(&story.case, rule),
+            ];
+            lines.extend(blocker::sentences(story));
+            lines
+        }
     }
 }
 
