@@ -2,7 +2,7 @@
 -- stops at step i, breaking rule r, with the entry at b in the way. The step is k, and u is the state before it.
 -- Assumes nothing.
 use Prim.Native.Nat.{ℕ, _<_}
-use mathlib.Core.Path.{_≡_, refl, sym, ap, _∙_, subst}
+use mathlib.Core.Path.{_≡_, sym, ap, _∙_, subst}
 use mathlib.Core.Logic.{_⊎_, inl, inr, _≢_, _↔_, ⊎-elim}
 use mathlib.Core.Bool.{true}
 use mathlib.Core.List.{List}
@@ -124,7 +124,8 @@ module _ (c : Case) (readable : readsBack c ≡ true) (r i : ℕ) (b : Blocker)
         → StandsAt (queue v (q .0)) n h
     left-in-its-queue = Blockers.left-queue-run (c .program) u (stands .0) ks v faultless leads
 
-  -- what can be done next: of an entry in a queue, a persist of that line, which is legal, takes it, or the one before it
+  -- what can be done next: of an entry in a queue, a persist of that line, which is legal; it takes that entry, or one
+  -- before it
   pub persists-next : (q : Line) (n : ℕ) → b ≡ InQueue q n
       → (q .0 < linesOf (c .program))
       × (stepFault (limitsOf (c .program)) (persistStep (q .0)) ≡ 0)

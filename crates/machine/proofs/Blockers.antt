@@ -27,8 +27,8 @@ use Rattle.machine.specs.Next.{issueStep, moveStep, persistStep}
 use Rattle.machine.specs.Ptso.{ptso}
 use Rattle.machine.specs.Followed.{StandsAt, InTheWay, Names, Before, leftAt}
 use Rattle.machine.proofs.blocker.BrokenLaws as BrokenLaws
-use Rattle.machine.proofs.blocker.FirstLaws as FirstLaws
-use Rattle.machine.proofs.blocker.LeftLaws as LeftLaws
+use Rattle.machine.proofs.blocker.NamedLaws as NamedLaws
+use Rattle.machine.proofs.blocker.LeftStepLaws as LeftStepLaws
 use Rattle.machine.proofs.blocker.HeldLaws as HeldLaws
 
 -- A state that fits its program
@@ -78,7 +78,7 @@ module _ (p : Program) (s : State) (fit : Fits p s) where
         × (InTheWay p s k (blockerOf p s k)
         × ((b : Blocker) → InTheWay p s k b → (b ≡ blockerOf p s k) ⊎ Before (blockerOf p s k) b)))
         ⊎ ((Names (ruleOf p s k) → ⊥) × (blockerOf p s k ≡ NoEntry))
-    first-or-none = FirstLaws.first-or-none p s fit k faultless
+    first-or-none = NamedLaws.first-or-none p s fit k faultless
 
     -- as long as an entry that is in the way is not taken, the step breaks the same rule, and it is in the way
     pub held : (b : Blocker) → InTheWay p s k b → ruleOf p s k ≢ 26
@@ -102,15 +102,15 @@ module _ (p : Program) (s : State) (fit : Fits p s) where
         → StandsAt (buffer s (t .0)) i w
         → leftAt ks (InBuffer t i) ≡ InBuffer t n
         → StandsAt (buffer u (t .0)) n w
-    left-buffer-run = LeftLaws.left-buffer-run p s fit ks u faultless leads
+    left-buffer-run = LeftStepLaws.left-buffer-run p s fit ks u faultless leads
 
     pub left-queue-run : (q : Line) (i n : ℕ) (h : Slot) → q .0 < mostLocations
         → StandsAt (queue s (q .0)) i h
         → leftAt ks (InQueue q i) ≡ InQueue q n
         → StandsAt (queue u (q .0)) n h
-    left-queue-run = LeftLaws.left-queue-run p s fit ks u faultless leads
+    left-queue-run = LeftStepLaws.left-queue-run p s fit ks u faultless leads
 
   -- a queue that holds something is one of the program's, and its oldest entry may persist
   pub queued-persists : (q i : ℕ) (h : Slot) → StandsAt (queue s q) i h
       → (q < linesOf p) × (stepFault (limitsOf p) (persistStep q) ≡ 0) × (ruleOf p s (persistStep q) ≡ 0)
-  queued-persists = FirstLaws.queued-persists p s fit
+  queued-persists = NamedLaws.queued-persists p s fit

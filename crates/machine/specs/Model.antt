@@ -28,8 +28,9 @@ use Rattle.cases.specs.Draft.{noStep}
 use Rattle.machine.specs.declared.blocker.Blocker.{Blocker}
 
 -- The number 5 or 8 of a step, 0 where it passes both; the number of the rule that it breaks in a state, 0
--- where it is legal; the first entry that stands in its way there, if it is not; the state after it, if it is; where a run starts; every step that there can be, in the
--- order of next steps; the test for 33; the work left; what a legal step uses up of it.
+-- where it is legal; the first entry that stands in its way there, if it is not; the state after it, if it is;
+-- where a run starts; every step that there can be, in the order of next steps; the test for 33; the work left;
+-- what a legal step uses up of it.
 pub record Model (S K : Type 0) : Type 0 where
   pub fault : K → ℕ
   pub rule : S → K → ℕ

@@ -1,6 +1,6 @@
 -- Document 01, "Rows proved of the rules (marked *) and rows run": all of them, a list for each line of 01.
--- Above each stands 01's line, with a * where 01 has one. Behind them the rows of the requests P3 and P4 of document 02.
--- A run, an index, a full length or a place that they do not name is as the second judge tells it.
+-- Above each stands 01's line, with a * where 01 has one. Behind them the rows of the requests P3 and P4 of document
+-- 02. A run, an index, a full length or a place that they do not name is as the second judge tells it.
 --   table         the rows, in 01's order, then P3's and P4's
 --   outage        the records of its second row; outageBytes: the 50 bytes that 01 has for it
 -- "In the rows below "store x" means x=500, and a budget not named is 1,000,000."
@@ -82,19 +82,24 @@ fenceIssued =
     unreachable
     ∷ []
 
--- * "Store y, flush-opt x, both issued: move at position 1 legal." * "Store x, flush-opt x: 26."
+-- both issued, then a move at position 1
+abbrev overtaking : List Step
+overtaking = issue 0 ∷ issue 0 ∷ move 0 1 ∷ []
+
+-- * "Store y, flush-opt x, both issued: move at position 1 legal." * "Store x, flush-opt x: 26." P4: "26 B0.0".
 abbrev passing : List Row
 passing =
-    ruled (threads 1 ∷ store 0 y 500 ∷ flushOpt 0 x ∷ taking (issue 0 ∷ issue 0 ∷ move 0 1 ∷ [])) (Legal 3)
-    ∷ ruled (threads 1 ∷ store 0 x 500 ∷ flushOpt 0 x ∷ taking (issue 0 ∷ issue 0 ∷ move 0 1 ∷ []))
-    (Illegal 26 2 (inBuffer 0 0))
+    ruled (threads 1 ∷ store 0 y 500 ∷ flushOpt 0 x ∷ taking overtaking) (Legal 3)
+    ∷ ruled (threads 1 ∷ store 0 x 500 ∷ flushOpt 0 x ∷ taking overtaking) (Illegal 26 2 (inBuffer 0 0))
     ∷ []
 
--- * "Store x, exchange y, both issued at once: 22." "Flush-opt x moved, then mfence: 23; not moved: 22."
+-- * "Store x, exchange y, both issued at once: 22." "Flush-opt x moved, then mfence: 23; not moved: 22." P4: "22 B0.0",
+-- "23 Q0.0".
 abbrev barriers : List Row
 barriers =
     ruled (threads 1 ∷ store 0 x 500 ∷ exchange 0 y 7 ∷ taking (issue 0 ∷ issue 0 ∷ [])) (Illegal 22 1 (inBuffer 0 0))
-    ∷ ruled (threads 1 ∷ flushOpt 0 x ∷ mfence 0 ∷ taking (issue 0 ∷ move 0 0 ∷ issue 0 ∷ [])) (Illegal 23 2 (inQueue 0 0))
+    ∷ ruled (threads 1 ∷ flushOpt 0 x ∷ mfence 0 ∷ taking (issue 0 ∷ move 0 0 ∷ issue 0 ∷ []))
+    (Illegal 23 2 (inQueue 0 0))
     ∷ ruled (threads 1 ∷ flushOpt 0 x ∷ mfence 0 ∷ taking (issue 0 ∷ issue 0 ∷ [])) (Illegal 22 1 (inBuffer 0 0))
     ∷ []
 
@@ -168,7 +173,7 @@ inTurn = issue 0 ∷ issue 0 ∷ move 0 0 ∷ move 0 0 ∷ []
 -- flush's move is 27."
 abbrev neighboursWait : List Row
 neighboursWait =
-    ruled (row ∷ store 0 x 500 ∷ flushOpt 0 y ∷ taking (issue 0 ∷ issue 0 ∷ move 0 1 ∷ [])) (Illegal 26 2 (inBuffer 0 0))
+    ruled (row ∷ store 0 x 500 ∷ flushOpt 0 y ∷ taking overtaking) (Illegal 26 2 (inBuffer 0 0))
     ∷ ruled (row ∷ store 0 x 500 ∷ flush 0 y ∷ taking inTurn) (Illegal 27 3 (inQueue 0 0))
     ∷ []
 

@@ -1,14 +1,14 @@
 -- The blocker as the code finds it: what its function asks for, and that what it answers is the state's. Assumes
 -- nothing.
 use Prim.Native.Nat.{ℕ, _≤_, _<_}
-use mathlib.Core.Path.{_≡_, sym, ap, _∙_}
+use mathlib.Core.Path.{_≡_}
 use mathlib.Core.Logic.{_⊎_, inl, inr}
 use mathlib.Core.List.{[]}
 use native.Mathlib.Omega.{arith}
 use lib.ListN.{length, getD}
 use Rattle.cases.specs.declared.case.Step.{Step}
 use Rattle.cases.specs.declared.case.Program.{Program}
-use Rattle.cases.specs.Checks.{limitsOf, linesOf, stepFault}
+use Rattle.cases.specs.Checks.{limitsOf, stepFault}
 use Rattle.cases.specs.Sizes.{mostThreads, mostInstructions}
 use Rattle.cases.proofs.Promises.{thread-low}
 use Rattle.machine.specs.declared.cells.State.{State}
@@ -18,7 +18,7 @@ use Rattle.machine.specs.Parts.{lent}
 use Rattle.machine.specs.Rules.{ruleOf}
 use Rattle.machine.specs.Blocker.{blockerBy, blockerIn, blockerOf}
 use Rattle.machine.specs.Fit.{Fits, Shallow}
-use Rattle.machine.specs.Next.{issueStep, moveStep, persistStep}
+use Rattle.machine.specs.Next.{persistStep}
 use Rattle.machine.proofs.lists.PartLaws.{lt-or-ge}
 use Rattle.machine.proofs.fit.FitLaws.{fits-buffer-within}
 use Rattle.machine.proofs.rules.ReadyLaws.{shallow}

@@ -1,10 +1,10 @@
 -- What a broken rule tells of buffers and queues, and back: each of the five that name an entry, exactly. Assumes
 -- nothing.
-use Prim.Native.Nat.{ℕ, zero, suc, _*_, _≤_, _<_}
+use Prim.Native.Nat.{ℕ, _*_, _≤_, _<_}
 use mathlib.Core.Path.{_≡_, refl, sym, ap, _∙_}
 use mathlib.Core.Logic.{_⊎_, inl, inr, _≢_, _↔_, ⊎-elim}
-use mathlib.Core.Bool.{Bool, true, false}
-use mathlib.Core.List.{List, [], _∷_}
+use mathlib.Core.Bool.{true}
+use mathlib.Core.List.{List, []}
 use native.Mathlib.Omega.{arith}
 use borrow.Author.Tests.{ltb-true, ltb-false, lt-ltb}
 use lib.ListN.{length, getD, take, List·getD-eq-default}
@@ -19,25 +19,22 @@ use Rattle.cases.proofs.ChoiceLaws.{otherwise, refuse-past, refuse-was, refuse-
 use Rattle.cases.proofs.Promises.{thread-low}
 use Rattle.machine.specs.declared.cells.State.{State}
 use Rattle.machine.specs.declared.cells.Waiting.{Waiting}
-use Rattle.machine.specs.declared.cells.Entry.{Entry}
 use Rattle.machine.specs.declared.cells.Entry.the-variants.{Flush, FlushOpt, Sfence}
 use Rattle.machine.specs.Sizes.{room}
-use Rattle.machine.specs.View.{Slot, markOf, lineOf, slots, marksOf, marksIn, queueIn, queue, queueLen}
-use Rattle.machine.specs.View.{blankWaiting, buffer, bufferLen, issuedOf}
+use Rattle.machine.specs.View.{Slot, lineOf, slots, queueIn, queue, queueLen, blankWaiting, buffer, bufferLen}
+use Rattle.machine.specs.View.{issuedOf}
 use Rattle.machine.specs.Parts.{partsOf}
-use Rattle.machine.specs.Look.{markerOf, isAt, foundQueue, foundPosition, marked, bars, firstBar}
+use Rattle.machine.specs.Look.{bars, firstBar}
 use Rattle.machine.specs.Rules.{instructionAt, isBarrier, barrierRule, issueRule, effectRule, passRule}
 use Rattle.machine.specs.Rules.{entryAt, moveRule, persistRule, ruleIn, ruleOf}
 use Rattle.machine.specs.Fit.{Fits}
 use Rattle.machine.specs.Next.{issueStep, moveStep, persistStep}
 use Rattle.machine.specs.Followed.{StandsAt}
 use Rattle.machine.proofs.lists.PartLaws.{lt-or-ge, part-none}
-use Rattle.machine.proofs.lists.StandsLaws.{stands-within, within-stands, stands-get, stands-some, some-stands}
-use Rattle.machine.proofs.view.SlotLaws.{length-marks}
-use Rattle.machine.proofs.look.MarkerLaws.{marker-stands, marker-none}
+use Rattle.machine.proofs.lists.StandsLaws.{stands-within, within-stands, stands-get, stands-some}
+use Rattle.machine.proofs.lists.StandsLaws.{some-stands}
 use Rattle.machine.proofs.look.BarLaws.{bar-stands, bar-first}
 use Rattle.machine.proofs.fit.FitLaws.{fits-queue-long, fits-buffer-long}
-use Rattle.machine.proofs.fit.SpareLaws.{marks-fit}
 use Rattle.machine.proofs.moves.MoveLaws.{move-flush-low, move-flush-held}
 use Rattle.machine.proofs.steps.StepFaultLaws.{StepKinds, step-kinds}
 use Rattle.machine.proofs.rules.ReadyLaws.{head-named}
@@ -45,30 +42,12 @@ use Rattle.machine.proofs.rules.RuleLaws.{Between, issue-between, move-
 use Rattle.machine.proofs.rules.ToldLaws.{barrier-told, barrier-is, barrier-22, barrier-23, entry-told}
 use Rattle.machine.proofs.rules.ToldLaws.{first-is, behind-is, effect-27, effect-28, sfence-28}
 use Rattle.machine.proofs.rules.ToldLaws.{effect-not-26, pass-26, pass-most}
-
--- A slot of a queue, and its mark
-mark-stands : (q : List Slot) (i m : ℕ) → i < length q → getD (marksOf q) i 0 ≡ m
-    → (h : Slot) × StandsAt q i h × (h .mark ≡ m)
-unfolding marksOf StandsAt
-mark-stands [] i m low e = absurd (omega arith)
-mark-stands (h ∷ q) zero m low e = (h, refl, e)
-mark-stands (h ∷ q) (suc i) m low e = mark-stands q i m (omega arith) e
-
-pub stands-mark : (q : List Slot) (i : ℕ) (h : Slot) → StandsAt q i h → getD (marksOf q) i 0 ≡ h .mark
-unfolding marksOf StandsAt
-stands-mark [] i h e = absurd e
-stands-mark (g ∷ q) zero h e = ap (λ (x : Slot). x .mark) e
-stands-mark (g ∷ q) (suc i) h e = stands-mark q i h e
+use Rattle.machine.proofs.blocker.MarkedLaws.{HasMarker, marked-has, has-marked}
 
 -- the thread's next instruction is an exchange or an mfence
 abbrev pub Barrier : Program → State → ℕ → Type 0
 Barrier p s t =
     (issuedOf s t < countAt p t) × (isBarrier (instructionAt p t (issuedOf s t) .operation) ≡ true)
-
--- a marker of the thread stands in some queue
-abbrev pub HasMarker : State → ℕ → Type 0
-HasMarker s t =
-    (q : ℕ) × (i : ℕ) × (h : Slot) × (q < mostLocations) × StandsAt (queue s q) i h × (h .mark ≡ markOf t)
 
 -- A state that fits its program
 module _ (p : Program) (s : State) (fit : Fits p s) where
@@ -87,41 +66,6 @@ module _ (p : Program) (s : State) (fit : Fits p s) where
           let len : queueLen s q ≡ 0 = List·getD-eq-default (s .lengths) 0 (omega arith) in
           let empty : queue s q ≡ [] = rw (part-none (q * room) _ (s .held) len) in
           stands-some (queue s q) i h stands empty
-
-  -- the look for a marker finds one exactly where there is one, and says where
-  module _ (t : ℕ) where
-    abbrev found-queue : ℕ
-    found-queue = foundQueue (markerOf (s .marks) (s .lengths) t)
-
-    abbrev found-position : ℕ
-    found-position = foundPosition (markerOf (s .marks) (s .lengths) t)
-
-    pub marked-stands : marked (s .marks) (s .lengths) t ≡ true
-        → (h : Slot) × (found-queue < mostLocations) × StandsAt (queue s found-queue) found-position h
-        × (h .mark ≡ markOf t)
-    unfolding marked
-    marked-stands h =
-        let found = marker-stands (s .marks) (s .lengths) t h in
-        let marks = marks-fit p s fit found-queue (found .0) in
-        let long : length (marksIn (s .marks) (s .lengths) found-queue) ≡ length (queue s found-queue)
-        = sym (ap length marks) ∙ length-marks _ in
-        let low = found .1 in
-        let at = mark-stands (queue s found-queue) found-position (markOf t) (omega arith)
-        (ap (λ ms. getD ms found-position 0) marks ∙ found .2) in
-        (at .0, found .0, at .1, at .2)
-
-  marked-has : (t : ℕ) → marked (s .marks) (s .lengths) t ≡ true → HasMarker s t
-  marked-has t h = let m = marked-stands t h in (_, _, m .0, m .1, m .2, m .3)
-
-  pub has-marked : (t : ℕ) → HasMarker s t → marked (s .marks) (s .lengths) t ≡ true
-  unfolding marked
-  has-marked t (q, i, h, low, stands, mark) = go (isAt (markerOf (s .marks) (s .lengths) t)) refl
-    where
-      go : (b : Bool) → isAt (markerOf (s .marks) (s .lengths) t) ≡ b → b ≡ true
-      go true e = refl
-      go false e =
-          absurd (marker-none (s .marks) (s .lengths) t e q i low
-          (ap (λ ms. getD ms i 0) (sym (marks-fit p s fit q low)) ∙ stands-mark (queue s q) i h stands ∙ mark))
 
   module _ (t : ℕ) (low : t < p .threads) where
     long : length (buffer s t) ≡ bufferLen s t
@@ -169,13 +113,14 @@ module _ (p : Program) (s : State) (fit : Fits p s) where
             let b = barrier-told p (partsOf s) t 23 h (λ z. omega arith) (λ z. omega arith) in
             let c = refuse-past _ _ _ _ (b .1) (λ z. omega arith) in
             let none : bufferLen s t ≤ 0 = ltb-false _ _ (c .0) in
-            (b .0, length-none _ (omega (arith, long)), marked-has t (refuse-was _ _ _ _ (c .1) (λ z. omega arith)))
+            let marked = refuse-was _ _ _ _ (c .1) (λ z. omega arith) in
+            (b .0, length-none _ (omega (arith, long)), marked-has p s fit t marked)
 
         is : Barrier p s t × (buffer s t ≡ []) × HasMarker s t → issueRule p (partsOf s) t ≡ 23
         is (b, none, marker) =
             let n = ap length none in
             barrier-is p (partsOf s) t b
-            ∙ barrier-23 p (partsOf s) t (omega (arith, long)) (has-marked t marker)
+            ∙ barrier-23 p (partsOf s) t (omega (arith, long)) (has-marked p s fit t marker)
 
     pub issue-numbers : ruleOf p s (issueStep t) ≤ 23
     unfolding ruleOf ruleIn pick
@@ -220,7 +165,24 @@ module _ (p : Program) (s : State) (fit : Fits p s) where
               let there = stands-within (buffer s t) i w stands in
               let first = bar-first p (lineOf p (l .0)) (buffer s t) i j v bar e before in
               behind-is p (partsOf s) t i (omega (arith, long)) (λ z. omega arith)
-              ∙ (unfold passRule refuse in rw (at, entry, lt-ltb (firstBar p (lineOf p (l .0)) (take i (buffer s t))) i (omega arith)))
+              ∙ (unfold passRule refuse in
+              rw (at, entry, lt-ltb (firstBar p (lineOf p (l .0)) (take i (buffer s t))) i (omega arith)))
+
+      -- 27 and 28 are of the entry at position 0
+      first-told : (r : ℕ) → 27 ≤ r → moveRule p (partsOf s) t i ≡ r
+          → (i ≡ 0) × StandsAt (buffer s t) 0 (getD (buffer s t) 0 blankWaiting)
+          × (effectRule p (partsOf s) t (entryAt (buffer s t) 0) ≡ r)
+      first-told r high h = let e = entry-told p (partsOf s) t i r h (λ z. omega arith) in go (e .0) (e .1)
+        where
+          go : i < bufferLen s t
+              → ((i ≡ 0) × (effectRule p (partsOf s) t (entryAt (buffer s t) i) ≡ r))
+              ⊎ ((i ≢ 0) × (passRule p (buffer s t) i (entryAt (buffer s t) i) ≡ r))
+              → (i ≡ 0) × StandsAt (buffer s t) 0 (getD (buffer s t) 0 blankWaiting)
+              × (effectRule p (partsOf s) t (entryAt (buffer s t) 0) ≡ r)
+          go n (inl (z, e)) = (z, within-stands (buffer s t) 0 blankWaiting (omega (arith, long)), rw z at e)
+          go n (inr (z, e)) =
+              let m = pass-most p (buffer s t) i (entryAt (buffer s t) i) in
+              absurd (omega arith)
 
       -- "A flush leaves only if its location's queue is empty, markers counted (else 27)"
       pub broken-27 : (ruleOf p s (moveStep t i) ≡ 27)
@@ -234,18 +196,11 @@ module _ (p : Program) (s : State) (fit : Fits p s) where
               (i ≡ 0) × (w : Waiting) × StandsAt (buffer s t) 0 w × (l : Location) × (w .entry ≡ Flush l)
               × (queue s (lineOf p (l .0)) ≢ [])
 
-          go : i < bufferLen s t
-              → ((i ≡ 0) × (effectRule p (partsOf s) t (entryAt (buffer s t) i) ≡ 27))
-              ⊎ ((i ≢ 0) × (passRule p (buffer s t) i (entryAt (buffer s t) i) ≡ 27))
-              → Held
-          go h (inl (z, e)) =
-              let w = within-stands (buffer s t) 0 blankWaiting (omega (arith, long)) in
-              let l = effect-27 p (partsOf s) t 0 _ (rw z at e) in
-              (z, _, w, l .0, l .1, queued _ w (l .0) (l .1) .1 (l .2))
-          go h (inr (z, e)) = let m = pass-most p (buffer s t) i (entryAt (buffer s t) i) in absurd (omega arith)
-
           told : moveRule p (partsOf s) t i ≡ 27 → Held
-          told h = let e = entry-told p (partsOf s) t i 27 h (λ z. omega arith) in go (e .0) (e .1)
+          told h =
+              let f = first-told 27 (omega arith) h in
+              let l = effect-27 p (partsOf s) t 0 _ (f .2) in
+              (f .0, _, f .1, l .0, l .1, queued _ (f .1) (l .0) (l .1) .1 (l .2))
 
           is : Held → moveRule p (partsOf s) t i ≡ 27
           is (z, w, stands, l, entry, some) =
@@ -264,18 +219,11 @@ module _ (p : Program) (s : State) (fit : Fits p s) where
           Held : Type 0
           Held = (i ≡ 0) × (w : Waiting) × StandsAt (buffer s t) 0 w × (w .entry ≡ Sfence) × HasMarker s t
 
-          go : i < bufferLen s t
-              → ((i ≡ 0) × (effectRule p (partsOf s) t (entryAt (buffer s t) i) ≡ 28))
-              ⊎ ((i ≢ 0) × (passRule p (buffer s t) i (entryAt (buffer s t) i) ≡ 28))
-              → Held
-          go h (inl (z, e)) =
-              let w = within-stands (buffer s t) 0 blankWaiting (omega (arith, long)) in
-              let l = effect-28 p (partsOf s) t 0 _ (rw z at e) in
-              (z, _, w, l .0, marked-has t (l .1))
-          go h (inr (z, e)) = let m = pass-most p (buffer s t) i (entryAt (buffer s t) i) in absurd (omega arith)
-
           told : moveRule p (partsOf s) t i ≡ 28 → Held
-          told h = let e = entry-told p (partsOf s) t i 28 h (λ z. omega arith) in go (e .0) (e .1)
+          told h =
+              let f = first-told 28 (omega arith) h in
+              let l = effect-28 p (partsOf s) t 0 _ (f .2) in
+              (f .0, _, f .1, l .0, marked-has p s fit t (l .1))
 
           is : Held → moveRule p (partsOf s) t i ≡ 28
           is (z, w, stands, entry, marker) =
@@ -283,7 +231,7 @@ module _ (p : Program) (s : State) (fit : Fits p s) where
               let there = stands-within (buffer s t) 0 w stands in
               let e : entryAt (buffer s t) i ≡ Sfence = rw z (at ∙ entry) in
               first-is p (partsOf s) t i (omega (arith, long)) z
-              ∙ sfence-28 p (partsOf s) t i _ e (has-marked t marker)
+              ∙ sfence-28 p (partsOf s) t i _ e (has-marked p s fit t marker)
 
       -- any rule of a move but 24 is of an entry that waits
       pub move-waits : 25 ≤ ruleOf p s (moveStep t i) → i < bufferLen s t

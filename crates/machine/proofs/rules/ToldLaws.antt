@@ -20,8 +20,8 @@ use Rattle.machine.specs.declared.cells.Entry.the-variants.{Store, Flush
 use Rattle.machine.specs.View.{lineOf, bufferIn}
 use Rattle.machine.specs.Parts.{Parts}
 use Rattle.machine.specs.Look.{marked, firstBar}
-use Rattle.machine.specs.Rules.{instructionAt, isBarrier, barrierRule, operationRule, issueRule}
-use Rattle.machine.specs.Rules.{effectRule, passRule, entryAt, moveRule}
+use Rattle.machine.specs.Rules.{instructionAt, isBarrier, barrierRule, operationRule, issueRule, effectRule}
+use Rattle.machine.specs.Rules.{passRule, entryAt, moveRule}
 
 -- Issue: over the parts that its rule looks at
 module _ (p : Program) (x : Parts) (t : ℕ) where

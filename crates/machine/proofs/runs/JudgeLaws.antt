@@ -110,7 +110,9 @@ module _ (m : Model State Step) (s : State) (ks : List Step) where
       → m .blocker u (getD ks n noStep) ≡ b
       → judgeFrom m 0 s ks .verdict ≡ Illegal r n b
   judge-illegal-says n u r b h e d =
-      verdict-is _ u (judge-says-illegal n u h) ∙ ap (λ x. Illegal x n (m .blocker u (getD ks n noStep))) e ∙ ap (Illegal r n) d
+      verdict-is _ u (judge-says-illegal n u h)
+      ∙ ap (λ x. Illegal x n (m .blocker u (getD ks n noStep))) e
+      ∙ ap (Illegal r n) d
 
   -- a verdict of one kind is none of the other
   legal-illegal : (n r i : ℕ) (b : Blocker) → Legal n ≡ Illegal r i b → ⊥

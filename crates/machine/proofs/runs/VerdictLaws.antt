@@ -28,7 +28,7 @@ use Rattle.machine.specs.Ptso.{ptso}
 use Rattle.machine.proofs.fit.StartLaws.{start-fits}
 use Rattle.machine.proofs.model.ModelLaws.{stops-fits}
 use Rattle.machine.proofs.model.PtsoLaws.{ptso-lawful}
-use Rattle.machine.proofs.blocker.FirstLaws.{blocker-low}
+use Rattle.machine.proofs.blocker.NamedLaws.{blocker-low}
 use Rattle.machine.proofs.runs.RerunLaws.{run-faultless}
 use Rattle.machine.proofs.rules.RuleLaws.{rule-table}
 use Rattle.machine.proofs.runs.JudgeLaws.{leads-or-stops, judge-legal-says, judge-illegal-says}
