@@ -1,18 +1,18 @@
 -- Request P4, "Name the blocker", in theorems to quote: of a run of a case that can be read, which the judge says
 -- stops at step i, breaking rule r, with the entry at b in the way. The step is k, and u is the state before it.
 -- Assumes nothing.
-use Prim.Native.Nat.{ℕ, _<_}
+use Prim.Native.Nat.{ℕ, suc, _<_}
 use mathlib.Core.Path.{_≡_, sym, ap, _∙_, subst}
 use mathlib.Core.Logic.{_⊎_, inl, inr, _≢_, _↔_, ⊎-elim}
 use mathlib.Core.Bool.{true}
 use mathlib.Core.List.{List}
 use native.Mathlib.Omega.{arith}
-use lib.ListN.{getD}
+use lib.ListN.{getD, replicate}
 use Rattle.cases.specs.declared.case.Line.{Line}
 use Rattle.cases.specs.declared.case.Thread.{Thread}
 use Rattle.cases.specs.declared.case.Step.{Step}
 use Rattle.cases.specs.declared.case.Case.{Case}
-use Rattle.cases.specs.Checks.{limitsOf, linesOf, stepFault}
+use Rattle.cases.specs.Checks.{limitsOf, stepFault}
 use Rattle.cases.specs.Draft.{noStep}
 use Rattle.cases.specs.Sizes.{mostThreads, mostLocations}
 use Rattle.cases.specs.Writing.{readsBack}
@@ -124,22 +124,22 @@ module _ (c : Case) (readable : readsBack c ≡ true) (r i : ℕ) (b : Blocker)
         → StandsAt (queue v (q .0)) n h
     left-in-its-queue = Blockers.left-queue-run (c .program) u (stands .0) ks v faultless leads
 
-  -- what can be done next: of an entry in a queue, a persist of that line, which is legal; it takes that entry, or one
-  -- before it
-  pub persists-next : (q : Line) (n : ℕ) → b ≡ InQueue q n
-      → (q .0 < linesOf (c .program))
-      × (stepFault (limitsOf (c .program)) (persistStep (q .0)) ≡ 0)
-      × (ruleOf (c .program) u (persistStep (q .0)) ≡ 0)
+  -- what can be done next: where the entry stands in a queue, persists of that line, one for each that stands before it
+  -- and one for itself, are a legal run from there, and take it away
+  pub persists-take-it-away : (q : Line) (n : ℕ) → b ≡ InQueue q n
+      → (v : State) × Faultless (ptso (c .program)) (replicate (suc n) (persistStep (q .0)))
+      × Leads (ptso (c .program)) u (replicate (suc n) (persistStep (q .0))) v
+      × (leftAt (replicate (suc n) (persistStep (q .0))) (InQueue q n) ≡ NoEntry)
   unfolding InTheWay
-  persists-next q n e = go told
+  persists-take-it-away q n e = go told
     where
       go : Told r b
-          → (q .0 < linesOf (c .program))
-          × (stepFault (limitsOf (c .program)) (persistStep (q .0)) ≡ 0)
-          × (ruleOf (c .program) u (persistStep (q .0)) ≡ 0)
+          → (v : State) × Faultless (ptso (c .program)) (replicate (suc n) (persistStep (q .0)))
+          × Leads (ptso (c .program)) u (replicate (suc n) (persistStep (q .0))) v
+          × (leftAt (replicate (suc n) (persistStep (q .0))) (InQueue q n) ≡ NoEntry)
       go (inl x) =
           let way : InTheWay (c .program) u k (InQueue q n) = subst (InTheWay (c .program) u k) e (x .1 .0) in
-          Blockers.queued-persists (c .program) u (stands .0) (q .0) n (way .0) (way .1)
+          Blockers.away-persisted (c .program) u (stands .0) q (way .0) n (way .1)
       go (inr x) =
           let z : _≡_ {A = ℕ} 0 2 = ap blockerWhich (sym (x .1) ∙ e) in
           absurd (omega arith)

@@ -1,16 +1,17 @@
 -- What the machine promises of the first entry in the way (specs/Blocker, Followed): beside Promises and Effects, all
 -- that the layers above may cite. Each law is stated in full. Assumes nothing.
-use Prim.Native.Nat.{ℕ, _<_}
+use Prim.Native.Nat.{ℕ, suc, _<_}
 use mathlib.Core.Path.{_≡_}
 use mathlib.Core.Logic.{_⊎_, _≢_, _↔_}
 use mathlib.Core.Bool.{true}
 use mathlib.Core.List.{List, []}
+use lib.ListN.{replicate}
 use Rattle.cases.specs.declared.case.Location.{Location}
 use Rattle.cases.specs.declared.case.Line.{Line}
 use Rattle.cases.specs.declared.case.Thread.{Thread}
 use Rattle.cases.specs.declared.case.Step.{Step}
 use Rattle.cases.specs.declared.case.Program.{Program}
-use Rattle.cases.specs.Checks.{limitsOf, linesOf, stepFault, countAt}
+use Rattle.cases.specs.Checks.{limitsOf, stepFault, countAt}
 use Rattle.cases.specs.Sizes.{mostThreads, mostLocations}
 use Rattle.machine.specs.declared.cells.State.{State}
 use Rattle.machine.specs.declared.cells.Waiting.{Waiting}
@@ -30,6 +31,7 @@ use Rattle.machine.proofs.blocker.BrokenLaws as BrokenLaws
 use Rattle.machine.proofs.blocker.NamedLaws as NamedLaws
 use Rattle.machine.proofs.blocker.LeftStepLaws as LeftStepLaws
 use Rattle.machine.proofs.blocker.HeldLaws as HeldLaws
+use Rattle.machine.proofs.blocker.AwayLaws as AwayLaws
 
 -- A state that fits its program
 module _ (p : Program) (s : State) (fit : Fits p s) where
@@ -110,7 +112,10 @@ module _ (p : Program) (s : State) (fit : Fits p s) where
         → StandsAt (queue u (q .0)) n h
     left-queue-run = LeftStepLaws.left-queue-run p s fit ks u faultless leads
 
-  -- a queue that holds something is one of the program's, and its oldest entry may persist
-  pub queued-persists : (q i : ℕ) (h : Slot) → StandsAt (queue s q) i h
-      → (q < linesOf p) × (stepFault (limitsOf p) (persistStep q) ≡ 0) × (ruleOf p s (persistStep q) ≡ 0)
-  queued-persists = NamedLaws.queued-persists p s fit
+  -- persists of its line take an entry of a queue away, one for each that stands before it and one for itself; each is
+  -- legal where it is taken
+  pub away-persisted : (q : Line) (h : Slot) (n : ℕ) → StandsAt (queue s (q .0)) n h
+      → (u : State) × Faultless (ptso p) (replicate (suc n) (persistStep (q .0)))
+      × Leads (ptso p) s (replicate (suc n) (persistStep (q .0))) u
+      × (leftAt (replicate (suc n) (persistStep (q .0))) (InQueue q n) ≡ NoEntry)
+  away-persisted q h n = AwayLaws.away-persisted p q h n s fit

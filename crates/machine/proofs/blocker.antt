@@ -17,3 +17,5 @@ pub mod LeftStepLaws
 pub mod KeptLaws
 -- held: as long as an entry in the way is not taken, it is in the way, and the same rule is broken
 pub mod HeldLaws
+-- away: persists of its line take an entry of a queue away; persistsOf
+pub mod AwayLaws
