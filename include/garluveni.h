@@ -1,7 +1,8 @@
 /*
  * Garluveni's C face: judges a run of a small program on persistent memory, names the entry that stands in the way
  * of an illegal step, and asks whether a power cut can leave a memory. The functions are proved to return exactly
- * what docs/SIGNATURES.md says of them, for every input. They are for x86-64 Linux and stand in target/staticlib/libhost.a, which 'rt staticlib host' makes:
+ * what docs/SIGNATURES.md says of them, for every input. They are for x86-64 Linux and stand in
+ * target/staticlib/libhost.a, which 'rt staticlib host' makes:
  *
  *     cc -Iinclude host.c target/staticlib/libhost.a
  *
@@ -108,7 +109,7 @@ static inline uint32_t garluveni_place(uint32_t number) { return number / 256u; 
 
 /* A blocker: where it stands, of which thread's buffer or which line's queue, and how many are older there. */
 static inline uint32_t garluveni_blocker_in(uint32_t blocker) { return blocker % 256u; }
-static inline uint32_t garluveni_blocker_which(uint32_t blocker) { return blocker / 256u % 256u; }
+static inline uint32_t garluveni_blocker_number(uint32_t blocker) { return blocker / 256u % 256u; }
 static inline uint32_t garluveni_blocker_position(uint32_t blocker) { return blocker / 65536u; }
 
 #ifdef __cplusplus

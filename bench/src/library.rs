@@ -1,4 +1,4 @@
-//! The proved library's two functions, called as a C program calls them (include/garluveni.h), in two builds of it.
+//! The proved library's judge and question, called as a C program calls them (include/garluveni.h), in two builds of it.
 
 use crate::case::STEP_RECORD;
 

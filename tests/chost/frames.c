@@ -99,12 +99,13 @@ static void print_answer(uint32_t number)
 
 static void print_blocker(uint32_t place)
 {
-    uint32_t among = place % 256u, which = place / 256u % 256u, position = place / 65536u;
-    if (place == 0)
+    uint32_t in = garluveni_blocker_in(place);
+    if (place == GARLUVENI_NO_BLOCKER)
         return;
-    if (among != 1 && among != 2)
+    if (in != GARLUVENI_IN_BUFFER && in != GARLUVENI_IN_QUEUE)
         stop("neither a buffer nor a queue");
-    printf(" %c%lu.%lu", among == 1 ? 'B' : 'Q', (unsigned long)which, (unsigned long)position);
+    printf(" %c%lu.%lu", in == GARLUVENI_IN_BUFFER ? 'B' : 'Q', (unsigned long)garluveni_blocker_number(place),
+           (unsigned long)garluveni_blocker_position(place));
 }
 
 static void judge(void)

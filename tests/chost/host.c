@@ -314,7 +314,7 @@ static void blockers(void)
     BLOCKED(&f, GARLUVENI_MARKER_QUEUED, 2, GARLUVENI_IN_QUEUE, 7, 0);
     uint32_t third = blocker(GARLUVENI_IN_QUEUE, 7, 2);
     CHECK(garluveni_blocker_in(third) == GARLUVENI_IN_QUEUE);
-    CHECK(garluveni_blocker_which(third) == 7);
+    CHECK(garluveni_blocker_number(third) == 7);
     CHECK(garluveni_blocker_position(third) == 2);
 }
 

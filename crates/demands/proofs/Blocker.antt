@@ -24,7 +24,7 @@ use Rattle.machine.specs.declared.runs.Verdict.the-variants.{Illegal}
 use Rattle.machine.specs.View.{Slot, queue, buffer}
 use Rattle.machine.specs.Rules.{ruleOf, startOf}
 use Rattle.machine.specs.Blocker.{blockerWhich, blockerOf}
-use Rattle.machine.specs.Followed.{StandsAt, InTheWay, Names, Before, leftAt}
+use Rattle.machine.specs.InTheWay.{StandsAt, InTheWay, Names, Before, leftAt}
 use Rattle.machine.specs.Fit.{Fits}
 use Rattle.machine.specs.Judge.{runOf, judgeOf}
 use Rattle.machine.specs.Model.{Leads, Faultless, StopsAt}
@@ -91,8 +91,8 @@ module _ (c : Case) (readable : readsBack c ≡ true) (r i : ℕ) (b : Blocker)
   -- Later: a legal run from there to a state v
   module _ (named : Names r) (ks : List Step) (v : State) (faultless : Faultless (ptso (c .program)) ks)
       (leads : Leads (ptso (c .program)) u ks v) where
-    -- in every later state in which that entry has not left the buffer or persisted, the same step is illegal by the
-    -- same rule
+    -- of 22, 23, 27 and 28: in every later state in which that entry has not left the buffer or persisted, the same step
+    -- is illegal by the same rule
     pub has-to-go : r ≢ 26 → leftAt ks b ≢ NoEntry → ruleOf (c .program) v k ≡ r
     has-to-go other stays =
         Blockers.held (c .program) u (stands .0) k (stands .1) b (names-the-first-in-the-way named .0)

@@ -16,7 +16,7 @@ use Rattle.cases.specs.Choice.{pick, both, either, refuse}
 use Rattle.cases.specs.Bytes.{IsBytes, half}
 use Rattle.cases.specs.Record.{recordOf, openNo}
 use Rattle.cases.specs.Checks.{faultOf, countAt}
-use Rattle.cases.specs.Draft.{emptyCase, blankDraft}
+use Rattle.cases.specs.Draft.{emptyCase, blankDraft, runWith}
 use Rattle.cases.specs.Reading.{numberOf, readOf}
 use Rattle.cases.specs.Seats.{encodeOf}
 use Rattle.cases.specs.Writing.{readsBack, wroteOf}
@@ -25,20 +25,24 @@ use Rattle.cases.proofs.ChoiceLaws.{true-not}
 use Rattle.cases.proofs.Computing.{reading-computes, writing-computes, testing-computes}
 use Rattle.cases.specs.Operations.{storeRegister}
 use Rattle.machine.specs.declared.cells.State.{State}
+use Rattle.machine.specs.declared.blocker.Blocker.the-variants.{InBuffer}
+use Rattle.machine.specs.declared.runs.Verdict.the-variants.{Illegal}
 use Rattle.machine.specs.Rules.{instructionAt, persistRule, ruleIn, ruleOf, startOf}
 use Rattle.cases.specs.Ranges.{ProgramFits}
 use Rattle.machine.specs.Fit.{anyFrom}
 use Rattle.machine.specs.Work.{Unfinished}
 use Rattle.machine.specs.Model.{fullLength, Leads, Faultless, StopsAt, Listed, LegalRun, FinishedRun}
+use Rattle.machine.specs.Judge.{judgeOf}
 use Rattle.machine.specs.Next.{persistStep}
 use Rattle.machine.specs.Ptso.{ptso}
 use Rattle.machine.proofs.Promises.{program-fits, ptso-lawful, full-length-most, case-lawful}
 use Rattle.machine.proofs.Effects.{start-issued}
+use Rattle.machine.proofs.Computing.{judging-computes}
 use Rattle.search.specs.Walk.{here, walkFrom}
 use Rattle.search.specs.Question.{misses, missesAt, lacksAt, reachesIn, reaches, None, FirstThat, askOf}
 use Rattle.search.specs.Question.{undecided}
 use Rattle.search.proofs.Promises.{walk-first, undecided-exactly}
-use Rattle.demands.specs.Example.{example, threadless, stepFirst, programFirst}
+use Rattle.demands.specs.Example.{example, blocked, threadless, stepFirst, programFirst}
 use Rattle.demands.specs.Writes.{isWrite, writes, Writer, LastWrite, Unwritten, Alone}
 use Rattle.demands.specs.Carried.{lastRun}
 use Rattle.demands.proofs.DemandThree.{any-thread}
@@ -152,6 +156,15 @@ pub example-stops : StopsAt (ptso (example .program)) (startOf (example .program
     (startOf (example .program))
 unfolding Leads ruleOf ruleIn persistRule startOf pick refuse
 example-stops = record { within = omega arith; before = refl; broken = λ e. absurd (omega arith) }
+
+-- one that stops with an entry in the way: an mfence behind a store that waits
+pub blocked-readable : readsBack blocked ≡ true
+unfolding blocked runWith testing-computes
+blocked-readable = refl
+
+pub blocked-named : judgeOf blocked .verdict ≡ Illegal 22 1 (InBuffer (record { 0 = 0 }) 0)
+unfolding blocked runWith testing-computes judgeOf judging-computes
+blocked-named = refl
 
 -- a question that is reached: the empty run does where nothing is asked for
 pub example-first :

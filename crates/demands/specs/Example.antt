@@ -2,6 +2,7 @@
 -- and then 1 to location 1, thread 1 stores 7 to location 0; nobody writes location 2. Each location has a line
 -- of its own. It asks for nothing and has no steps.
 --   example        the case
+--   blocked        a case whose run stops at an mfence, with a store in its way
 --   threadless     a case in memory that no byte string reads as: it has no thread
 --   stepFirst      bytes whose first record is a step
 --   programFirst   bytes whose first record is a program
@@ -12,9 +13,10 @@ use lib.ListN.{replicate}
 use Rattle.cases.specs.declared.case.Instruction.{Instruction}
 use Rattle.cases.specs.declared.case.Case.{Case}
 use Rattle.cases.specs.Sizes.{mostThreads, mostInstructions, mostLocations, allCode}
-use Rattle.cases.specs.Operations.{storeWord}
+use Rattle.cases.specs.Operations.{storeWord, mfence}
 use Rattle.cases.specs.Lines.{ownVersion}
-use Rattle.cases.specs.Draft.{noInstruction, emptyCase}
+use Rattle.cases.specs.Draft.{noInstruction, emptyCase, runWith}
+use Rattle.machine.specs.Next.{issueStep}
 
 -- store word w to location l
 abbrev pub storing : ℕ → ℕ → Instruction
@@ -38,6 +40,30 @@ example =
       };
       ask = emptyCase .ask;
       run = emptyCase .run;
+    }
+
+-- an mfence
+abbrev fencing : Instruction
+fencing =
+    record { operation = mfence; location = record { 0 = 0 }; register = record { 0 = 0 }; word = 0 }
+
+-- thread 0 stores 500 to location 0; both it and the mfence behind it are issued at once
+unfoldable pub blocked : Case
+unfolding emptyCase
+blocked =
+    record {
+      version = ownVersion;
+      program = record {
+        threads = 1;
+        locations = 1;
+        lines = 1;
+        line = emptyCase .program .line;
+        first = replicate mostLocations 0;
+        counts = 2 ∷ replicate (mostThreads - 1) 0;
+        code = storing 0 500 ∷ fencing ∷ replicate (allCode - 2) noInstruction;
+      };
+      ask = emptyCase .ask;
+      run = runWith (issueStep 0 ∷ issueStep 0 ∷ []);
     }
 
 unfoldable pub threadless : Case

@@ -5,7 +5,8 @@
 --   unpackedPlace n           and the place
 --   judgePacked s             what the judge's call gets for the bytes s
 --   placePacked b             the place of an entry, as one number
---   unpackedWhich, unpackedOne, unpackedPosition n   what is packed in it
+--   unpackedWhich, unpackedOne, unpackedPosition n   of that number: 1 for a buffer, 2 for a queue, 0 for none; which
+--                             one; the position
 --   blockerPacked s           what the call for the judge's blocker gets for the bytes s
 --   questionPacked s room b   what the question's call gets for the bytes s, `room` lent bytes, a budget b
 -- Assumes nothing.

@@ -1,6 +1,7 @@
 // Judges the run of a case from standard input, of any length: LEGAL and the number of steps, then a line
 // `location word` for each location of the program; ILLEGAL, the index, the rule and, where one is named, the
-// place of the first entry in the way; or REFUSED, the number and the offset. Where standard input cannot be read it says so on standard error, and nothing else.
+// place of the first entry in the way; or REFUSED, the number and the offset. Where standard input cannot be read
+// it says so on standard error, and nothing else.
 use cases::sizes::LOCATIONS;
 use input::Filled;
 use libc::STDIN_FILENO;

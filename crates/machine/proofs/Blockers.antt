@@ -1,4 +1,4 @@
--- What the machine promises of the first entry in the way (specs/Blocker, Followed): beside Promises and Effects, all
+-- What the machine promises of the first entry in the way (specs/Blocker, InTheWay): beside Promises and Effects, all
 -- that the layers above may cite. Each law is stated in full. Assumes nothing.
 use Prim.Native.Nat.{ℕ, suc, _<_}
 use mathlib.Core.Path.{_≡_}
@@ -26,7 +26,7 @@ use Rattle.machine.specs.Fit.{Fits}
 use Rattle.machine.specs.Model.{Leads, Faultless}
 use Rattle.machine.specs.Next.{issueStep, moveStep, persistStep}
 use Rattle.machine.specs.Ptso.{ptso}
-use Rattle.machine.specs.Followed.{StandsAt, InTheWay, Names, Before, leftAt}
+use Rattle.machine.specs.InTheWay.{StandsAt, InTheWay, Names, Before, leftAt}
 use Rattle.machine.proofs.blocker.BrokenLaws as BrokenLaws
 use Rattle.machine.proofs.blocker.NamedLaws as NamedLaws
 use Rattle.machine.proofs.blocker.LeftStepLaws as LeftStepLaws

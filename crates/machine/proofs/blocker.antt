@@ -1,4 +1,4 @@
--- The first entry in the way (specs/Blocker, Followed).
+-- The first entry in the way (specs/Blocker, InTheWay).
 -- marked, has, stands-mark: the look for a marker, over queues as lists; HasMarker
 pub mod MarkedLaws
 -- broken, issue, move, persist: what a rule tells, and back; entry, queue: of an entry that stands there; Barrier

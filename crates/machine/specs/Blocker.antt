@@ -60,7 +60,8 @@ abbrev pub taken : Parts → Step → Entry
 taken x k = entryAt (ownBuffer x k) (k .position)
 
 -- "Rules 22, 23, 26, 27 and 28": 22 the own buffer's oldest entry; 23 and 28 the thread's first marker, "the lowest
--- queue comes first"; 26 the first entry before the flush-opt that bars it; 27 the oldest of the flush's queue
+-- queue comes first"; 26 the first entry before the flush-opt that bars it; 27 the oldest of the queue
+-- of the flush's line
 unfoldable pub blockerBy : ℕ → Program → Parts → Step → Blocker
 blockerBy r p x k =
     pick (eqb r 22) (InBuffer (k .thread) 0)

@@ -13,5 +13,5 @@ pub mod Work
 pub mod Next
 pub mod Ptso
 pub mod Judge
-pub mod Followed
+pub mod InTheWay
 pub mod Offer

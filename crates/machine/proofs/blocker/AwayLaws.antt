@@ -18,7 +18,7 @@ use Rattle.machine.specs.Fit.{Fits}
 use Rattle.machine.specs.Model.{Leads, Faultless}
 use Rattle.machine.specs.Next.{persistStep}
 use Rattle.machine.specs.Ptso.{ptso}
-use Rattle.machine.specs.Followed.{StandsAt, leftBy, leftAt, persistedBy}
+use Rattle.machine.specs.InTheWay.{StandsAt, leftBy, leftAt, persistedBy}
 use Rattle.machine.proofs.blocker.BrokenLaws.{queue-low}
 use Rattle.machine.proofs.blocker.NamedLaws.{queued-persists}
 use Rattle.machine.proofs.blocker.LeftStepLaws.{left-queue-step}

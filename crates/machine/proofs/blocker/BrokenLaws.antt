@@ -29,7 +29,7 @@ use Rattle.machine.specs.Rules.{instructionAt, isBarrier, barrierRule, i
 use Rattle.machine.specs.Rules.{entryAt, moveRule, persistRule, ruleIn, ruleOf}
 use Rattle.machine.specs.Fit.{Fits}
 use Rattle.machine.specs.Next.{issueStep, moveStep, persistStep}
-use Rattle.machine.specs.Followed.{StandsAt}
+use Rattle.machine.specs.InTheWay.{StandsAt}
 use Rattle.machine.proofs.lists.PartLaws.{lt-or-ge, part-none}
 use Rattle.machine.proofs.lists.StandsLaws.{stands-within, within-stands, stands-get, stands-some}
 use Rattle.machine.proofs.lists.StandsLaws.{some-stands}
@@ -238,7 +238,7 @@ module _ (p : Program) (s : State) (fit : Fits p s) where
       unfolding ruleOf ruleIn pick
       move-waits h = entry-told p (partsOf s) t i _ refl (λ z. omega arith) .0
 
-      pub move-numbers : (ruleOf p s (moveStep t i) ≡ 0)
+      move-numbers : (ruleOf p s (moveStep t i) ≡ 0)
           ⊎ ((24 ≤ ruleOf p s (moveStep t i)) × (ruleOf p s (moveStep t i) ≤ 28))
       unfolding ruleOf ruleIn pick
       move-numbers = move-between p (partsOf s) t i

@@ -24,7 +24,7 @@ use Rattle.machine.specs.Look.{markerOf, isAt, foundQueue, foundPosition
 use Rattle.machine.specs.Rules.{ruleOf}
 use Rattle.machine.specs.Blocker.{markerPlace, entryLine, taken}
 use Rattle.machine.specs.Fit.{Fits}
-use Rattle.machine.specs.Followed.{StandsAt, InTheWay, Before}
+use Rattle.machine.specs.InTheWay.{StandsAt, InTheWay, Before}
 use Rattle.machine.proofs.lists.PartLaws.{lt-or-ge}
 use Rattle.machine.proofs.lists.StandsLaws.{some-stands}
 use Rattle.machine.proofs.fit.SpareLaws.{marks-fit}

@@ -25,7 +25,7 @@ use Rattle.machine.specs.Model.{Leads, Faultless}
 use Rattle.machine.specs.Next.{issueStep, moveStep}
 use Rattle.machine.specs.Ptso.{ptso}
 use Rattle.machine.specs.Blocker.{entryLine, taken}
-use Rattle.machine.specs.Followed.{StandsAt, InTheWay, leftBy, leftAt}
+use Rattle.machine.specs.InTheWay.{StandsAt, InTheWay, leftBy, leftAt}
 use Rattle.machine.proofs.lists.StandsLaws.{stands-some}
 use Rattle.machine.proofs.blocker.MarkedLaws.{HasMarker}
 use Rattle.machine.proofs.blocker.BrokenLaws.{broken-22, broken-23, broken-26, broken-27, broken-28}

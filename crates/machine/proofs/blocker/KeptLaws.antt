@@ -25,7 +25,7 @@ use Rattle.machine.specs.Rules.{ruleOf, nextOf}
 use Rattle.machine.specs.Fit.{Fits}
 use Rattle.machine.specs.Next.{issueStep, moveStep}
 use Rattle.machine.specs.Blocker.{entryLine, taken}
-use Rattle.machine.specs.Followed.{StandsAt, leftBy}
+use Rattle.machine.specs.InTheWay.{StandsAt, leftBy}
 use Rattle.machine.proofs.steps.StepFaultLaws.{StepKinds, step-kinds, fault-none}
 use Rattle.machine.proofs.steps.StepLaws.{step-fits}
 use Rattle.machine.proofs.steps.IssueEffectLaws.{issue-issued-other, issue-buffer-other}
@@ -91,7 +91,7 @@ module _ (p : Program) (s : State) (fit : Fits p s) (j : Step) (good : stepFault
 
     -- the next instruction of a thread that cannot issue it, and its buffer where it is empty
     module _ (broken : ruleOf p s (issueStep (t .0)) ≢ 0) where
-      pub issued-kept : issuedOf next (t .0) ≡ issuedOf s (t .0)
+      issued-kept : issuedOf next (t .0) ≡ issuedOf s (t .0)
       issued-kept = go (step-kinds p j good)
         where
           go : StepKinds p j → issuedOf next (t .0) ≡ issuedOf s (t .0)

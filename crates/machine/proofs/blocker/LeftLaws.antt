@@ -16,7 +16,7 @@ use Rattle.cases.proofs.ChoiceLaws.{pick-cases, both-true, both-next, never-bot
 use Rattle.machine.specs.declared.blocker.Blocker.{Blocker}
 use Rattle.machine.specs.declared.blocker.Blocker.the-variants.{InBuffer, InQueue, NoEntry}
 use Rattle.machine.specs.Blocker.{blockerWhich, blockerPosition}
-use Rattle.machine.specs.Followed.{movedBy, persistedBy, leftBy, leftAt}
+use Rattle.machine.specs.InTheWay.{movedBy, persistedBy, leftBy, leftAt}
 
 -- no entry is no place
 pub taken-not-buffer : {t : Thread} {n : ℕ} → NoEntry ≢ InBuffer t n

@@ -23,7 +23,7 @@ use Rattle.machine.specs.Model.{Leads, Faultless}
 use Rattle.machine.specs.Next.{issueStep, moveStep, persistStep}
 use Rattle.machine.specs.Ptso.{ptso}
 use Rattle.machine.specs.Blocker.{blockerPosition}
-use Rattle.machine.specs.Followed.{StandsAt, leftBy, leftAt}
+use Rattle.machine.specs.InTheWay.{StandsAt, leftBy, leftAt}
 use Rattle.machine.proofs.lists.StandsLaws.{stands-append, stands-behind, stands-before, stands-tail}
 use Rattle.machine.proofs.steps.StepFaultLaws.{StepKinds, step-kinds, fault-none}
 use Rattle.machine.proofs.steps.StepLaws.{step-fits}

@@ -12,7 +12,7 @@ use Rattle.machine.specs.declared.cells.State.{State}
 use Rattle.machine.specs.View.{Slot, markOf, marksOf, marksIn, queue}
 use Rattle.machine.specs.Look.{markerOf, isAt, foundQueue, foundPosition, marked}
 use Rattle.machine.specs.Fit.{Fits}
-use Rattle.machine.specs.Followed.{StandsAt}
+use Rattle.machine.specs.InTheWay.{StandsAt}
 use Rattle.machine.proofs.view.SlotLaws.{length-marks}
 use Rattle.machine.proofs.look.MarkerLaws.{marker-stands, marker-none}
 use Rattle.machine.proofs.fit.SpareLaws.{marks-fit}

@@ -23,7 +23,7 @@ use Rattle.machine.specs.Blocker.{blockerNumber, blockerPosition, marker
 use Rattle.machine.specs.Blocker.{blockerIn, blockerOf}
 use Rattle.machine.specs.Fit.{Fits}
 use Rattle.machine.specs.Next.{moveStep, persistStep}
-use Rattle.machine.specs.Followed.{StandsAt, InTheWay, Names}
+use Rattle.machine.specs.InTheWay.{StandsAt, InTheWay, Names}
 use Rattle.machine.proofs.lists.PartLaws.{lt-or-ge}
 use Rattle.machine.proofs.steps.ProgressLaws.{persist-legal}
 use Rattle.machine.proofs.blocker.BrokenLaws.{broken-22, broken-23, broken-26, broken-27, broken-28}

@@ -8,7 +8,7 @@ use native.Mathlib.Omega.{arith}
 use native.Mathlib.Numerals.{add-one}
 use lib.ListN.{length, getD}
 use Rattle.machine.specs.View.{without}
-use Rattle.machine.specs.Followed.{StandsAt}
+use Rattle.machine.specs.InTheWay.{StandsAt}
 
 module _ {A : Type 0} where
   -- with more behind it
@@ -41,7 +41,7 @@ module _ {A : Type 0} where
   stands-tail xs y ys i x e h = rw e at h
 
   -- one thing stands at a position, which is within the list; and at each position within it something does
-  pub stands-same : (xs : List A) (i : ℕ) (x y : A) → StandsAt xs i x → StandsAt xs i y → x ≡ y
+  stands-same : (xs : List A) (i : ℕ) (x y : A) → StandsAt xs i x → StandsAt xs i y → x ≡ y
   unfolding StandsAt
   stands-same [] i x y a b = absurd a
   stands-same (z ∷ xs) zero x y a b = sym a ∙ b

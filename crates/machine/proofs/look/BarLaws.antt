@@ -9,7 +9,7 @@ use Rattle.cases.specs.declared.case.Program.{Program}
 use Rattle.cases.specs.Choice.{pick}
 use Rattle.machine.specs.declared.cells.Waiting.{Waiting}
 use Rattle.machine.specs.Look.{bars, firstBar}
-use Rattle.machine.specs.Followed.{StandsAt}
+use Rattle.machine.specs.InTheWay.{StandsAt}
 
 -- the first bar of the first i entries: it stands there, and no bar before it does
 module _ (p : Program) (q : ℕ) where

@@ -6,8 +6,10 @@
 --   InTheWay p s k b       the entry at the place b is
 --   Names r                the rule r names an entry
 --   Before b d             of two places of the same rule, b comes first
---   leftBy k b             where the entry at the place b stands after the step k; no entry, where the step takes it
---   leftAt ks b            the same after the steps ks
+--   movedBy, persistedBy   the same as leftBy, of an entry of a buffer, and of a queue
+--   leftBy k b             where the entry at the place b stands after the legal step k; no entry, where k takes it out
+--                          of its buffer or queue: what leaves a buffer may wait in a queue then
+--   leftAt ks b            the same after the legal steps ks
 -- Assumes nothing.
 use Prim.Native.Nat.{ℕ, zero, suc, _-_, _<_}
 use mathlib.Core.Path.{_≡_}
@@ -61,7 +63,8 @@ InTheWay p s k NoEntry = ⊥
 abbrev pub Names : ℕ → Type 0
 Names r = (r ≡ 22) ⊎ (r ≡ 23) ⊎ (r ≡ 26) ⊎ (r ≡ 27) ⊎ (r ≡ 28)
 
--- "the lowest queue comes first", and in one queue or buffer the lowest position
+-- "the lowest queue comes first", and in one queue or buffer the lowest position. The entries of buffers that are in
+-- the way of a step are all in its own thread's: threads are not compared.
 unfoldable pub Before : Blocker → Blocker → Type 0
 Before (InBuffer t i) (InBuffer u j) = i < j
 Before (InQueue q i) (InQueue m j) = (q .0 < m .0) ⊎ ((q .0 ≡ m .0) × (i < j))
