@@ -12,7 +12,7 @@ use Rattle.cases.specs.declared.case.Thread.{Thread}
 use Rattle.cases.specs.declared.case.Step.{Step}
 use Rattle.cases.specs.Choice.{pick, both}
 use Rattle.cases.specs.Operations.{move, persist}
-use Rattle.cases.proofs.ChoiceLaws.{pick-cases, both-true, both-next, never-both}
+use Rattle.cases.proofs.ChoiceLaws.{both-true, both-next, never-both}
 use Rattle.machine.specs.declared.blocker.Blocker.{Blocker}
 use Rattle.machine.specs.declared.blocker.Blocker.the-variants.{InBuffer, InQueue, NoEntry}
 use Rattle.machine.specs.Blocker.{blockerWhich, blockerPosition}
@@ -35,20 +35,20 @@ left-taken (k ∷ ks) = left-taken ks
 abbrev pub LeftIn : (ℕ → Blocker) → Blocker → Type 0
 LeftIn place b = (b ≡ NoEntry) ⊎ ((n : ℕ) × (b ≡ place n))
 
+left-in : (place : ℕ → Blocker) (a b : Bool) (i n : ℕ) → LeftIn place (pick a (pick b NoEntry (place n)) (place i))
+unfolding pick
+left-in place true true i n = inl refl
+left-in place true false i n = inr (n, refl)
+left-in place false b i n = inr (i, refl)
+
 module _ (k : Step) (i : ℕ) where
   pub left-buffer : (t : Thread) → LeftIn (InBuffer t) (leftBy k (InBuffer t i))
   unfolding leftBy movedBy
-  left-buffer t =
-      pick-cases (LeftIn (InBuffer t)) _ _ _
-      (λ h. pick-cases (LeftIn (InBuffer t)) _ _ _ (λ e. inl refl) (λ e. inr (_, refl)))
-      (λ h. inr (i, refl))
+  left-buffer t = left-in (InBuffer t) _ _ i _
 
   pub left-queue : (q : Line) → LeftIn (InQueue q) (leftBy k (InQueue q i))
   unfolding leftBy persistedBy
-  left-queue q =
-      pick-cases (LeftIn (InQueue q)) _ _ _
-      (λ h. pick-cases (LeftIn (InQueue q)) _ _ _ (λ e. inl refl) (λ e. inr (_, refl)))
-      (λ h. inr (i, refl))
+  left-queue q = left-in (InQueue q) _ _ i _
 
 -- a test of two that is false: not both hold
 apart : {a b c d : ℕ} → both (eqb a b) (eqb c d) ≡ false → a ≡ b → c ≢ d
