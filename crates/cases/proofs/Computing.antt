@@ -7,7 +7,7 @@ use Rattle.cases.specs.Lines.{listedOf, table, ownLines, newAfter, unord
 use Rattle.cases.specs.Record.{payloadOf, spareOf, mislong, asRow, lineBytes, payloadBytes, recordBytes}
 use Rattle.cases.specs.Record.{bytesOf, asHeader, asWrite, asInstruction, asStep, recordOf, openNo, sizeOf}
 use Rattle.cases.specs.Checks.{kindRank, misplaced, disordered, outside, beyond, leftOver, headerOut}
-use Rattle.cases.specs.Checks.{mislisted, usesRegister, usesWord, instructionOut, instructionLeft}
+use Rattle.cases.specs.Checks.{mislisted, usesLocation, usesRegister, usesWord, instructionOut, instructionLeft}
 use Rattle.cases.specs.Checks.{passedOut, linesOf, stepOut, stepLeft, faultOf}
 use Rattle.cases.specs.Draft.{emptyCase, lineTable, lineCount, withSizes, withHeader, withFirst}
 use Rattle.cases.specs.Draft.{withInstruction, withWant, withPassed, withStep, withProgram, withAsk}
@@ -22,7 +22,7 @@ use Rattle.cases.specs.Writing.{sameRun, sameCase, readsAs, readsBack}
 unfoldable pub reading-computes : ℕ
 unfolding pick both either refuse half wordAt listedOf table ownLines newAfter unordered linesIn payloadOf spareOf
     mislong asRow lineBytes asHeader asWrite asInstruction asStep recordOf openNo sizeOf kindRank misplaced
-    disordered outside beyond leftOver headerOut mislisted usesRegister usesWord instructionOut instructionLeft
+    disordered outside beyond leftOver headerOut mislisted usesLocation usesRegister usesWord instructionOut instructionLeft
     passedOut linesOf stepOut stepLeft faultOf emptyCase lineTable lineCount withSizes withHeader withFirst
     withInstruction withWant withPassed withStep withProgram withAsk withRun blankDraft addOf refusedOf endedOf
     readFrom readOf

@@ -32,8 +32,8 @@ use Rattle.cases.specs.declared.record.Header.{Header}
 use Rattle.cases.specs.declared.record.Record.{Record}
 use Rattle.cases.specs.declared.record.Record.the-variants.{Declare, First, Instruct, Want, Passed, Take}
 use Rattle.cases.specs.Sizes.{mostThreads, mostInstructions, mostLocations, mostRegisters, mostSteps}
-use Rattle.cases.specs.Operations.{storeWord, storeRegister, exchange, flushOpt, lastOperation, move}
-use Rattle.cases.specs.Operations.{persist, lastCode}
+use Rattle.cases.specs.Operations.{storeWord, storeRegister, exchange, flushOpt, compare, lastOperation}
+use Rattle.cases.specs.Operations.{move, persist, lastCode}
 use Rattle.cases.specs.Choice.{pick, both, either, refuse}
 use Rattle.cases.specs.Lines.{lastVersion, listedOf, unordered}
 use Rattle.cases.specs.Record.{lineBytes}
@@ -76,15 +76,15 @@ mislisted h = not (eqb (h .listed) (listedOf (h .version) (h .locations)))
 
 -- "Operations (fields used): 1 store word (location, word); 2 store register (location, register); 3 load
 -- (location, register); 4 exchange (location, register, word); 5 flush (location); 6 flush-opt (location);
--- 7 sfence; 8 mfence."
-abbrev pub usesLocation : ℕ → Bool
-usesLocation op = leb op flushOpt
+-- 7 sfence; 8 mfence." With P5: "Operation 9: location, register, word."
+unfoldable pub usesLocation : ℕ → Bool
+usesLocation op = either (eqb op compare) (leb op flushOpt)
 
 unfoldable pub usesRegister : ℕ → Bool
-usesRegister op = both (leb storeRegister op) (leb op exchange)
+usesRegister op = either (eqb op compare) (both (leb storeRegister op) (leb op exchange))
 
 unfoldable pub usesWord : ℕ → Bool
-usesWord op = either (eqb op storeWord) (eqb op exchange)
+usesWord op = either (eqb op compare) (either (eqb op storeWord) (eqb op exchange))
 
 unfoldable pub instructionOut : Program → Thread → Instruction → Bool
 instructionOut p t x =

@@ -9,6 +9,7 @@ use crate::draft::Draft;
 use crate::lines::LAST_VERSION;
 use crate::lines::is_unordered;
 use crate::lines::listed_of;
+use crate::operations::COMPARE;
 use crate::operations::EXCHANGE;
 use crate::operations::FLUSH_OPT;
 use crate::operations::LAST_CODE;
@@ -155,12 +156,18 @@ fn is_misnumbered(h: Header) -> bool
 fn uses_location(op: u8) -> bool
     ensures { λ r. ⌜ r ≡ usesLocation op ⌝ }
 {
+    if op == COMPARE {
+        return true;
+    }
     op <= FLUSH_OPT
 }
 
 fn uses_register(op: u8) -> bool
     ensures { λ r. ⌜ r ≡ usesRegister op ⌝ }
 {
+    if op == COMPARE {
+        return true;
+    }
     if STORE_REGISTER <= op {
         return op <= EXCHANGE;
     }
@@ -170,6 +177,9 @@ fn uses_register(op: u8) -> bool
 fn uses_word(op: u8) -> bool
     ensures { λ r. ⌜ r ≡ usesWord op ⌝ }
 {
+    if op == COMPARE {
+        return true;
+    }
     if op == STORE_WORD {
         return true;
     }

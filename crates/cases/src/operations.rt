@@ -1,4 +1,4 @@
-// Document 01, "Operations" and "Step codes": their numbers, here and nowhere else of the code;
+// Document 01, "Operations" and "Step codes", and 02's ninth operation: their numbers, here and nowhere else of the code;
 // specs/Operations.antt has the same for the definitions.
 
 pub const STORE_WORD: u8 = 1;
@@ -17,8 +17,10 @@ pub const SFENCE: u8 = 7;
 
 pub const MFENCE: u8 = 8;
 
+pub const COMPARE: u8 = 9;
+
 // There is no operation behind it.
-pub const LAST_OPERATION: u8 = MFENCE;
+pub const LAST_OPERATION: u8 = COMPARE;
 
 pub const ISSUE: u8 = 0;
 

@@ -5,6 +5,7 @@ pub mod DemandThree
 -- What the requests add that a person may quote
 pub mod Lines
 pub mod Blocker
+pub mod Rivals
 -- That what they ask for can be met, and that no wrong implementation which document 01 names meets them
 pub mod Witness
 pub mod ShutOut

@@ -23,14 +23,14 @@ use Rattle.cases.specs.Writing.{readsBack, wroteOf}
 use Rattle.cases.proofs.Promises.{file-bytes, read-after-write}
 use Rattle.cases.proofs.ChoiceLaws.{true-not}
 use Rattle.cases.proofs.Computing.{reading-computes, writing-computes, testing-computes}
-use Rattle.cases.specs.Operations.{storeRegister}
+use Rattle.cases.specs.Operations.{storeRegister, compare}
 use Rattle.machine.specs.declared.cells.State.{State}
 use Rattle.machine.specs.declared.blocker.Blocker.the-variants.{InBuffer}
 use Rattle.machine.specs.declared.runs.Verdict.the-variants.{Illegal}
 use Rattle.machine.specs.Rules.{instructionAt, persistRule, ruleIn, ruleOf, startOf}
 use Rattle.cases.specs.Ranges.{ProgramFits}
 use Rattle.machine.specs.Fit.{anyFrom}
-use Rattle.machine.specs.Work.{Unfinished}
+use Rattle.machine.specs.Work.{Unfinished, Uncompared}
 use Rattle.machine.specs.Model.{fullLength, Leads, Faultless, StopsAt, Listed, LegalRun, FinishedRun}
 use Rattle.machine.specs.Judge.{judgeOf}
 use Rattle.machine.specs.Next.{persistStep}
@@ -43,7 +43,7 @@ use Rattle.search.specs.Question.{misses, missesAt, lacksAt, reachesIn, reaches
 use Rattle.search.specs.Question.{undecided}
 use Rattle.search.proofs.Promises.{walk-first, undecided-exactly}
 use Rattle.demands.specs.Example.{example, blocked, threadless, stepFirst, programFirst}
-use Rattle.demands.specs.Writes.{isWrite, writes, Writer, LastWrite, Unwritten, Alone}
+use Rattle.demands.specs.Writes.{isWrite, writes, writesAt, Writer, LastWrite, Unwritten, Alone}
 use Rattle.demands.specs.Carried.{lastRun}
 use Rattle.demands.proofs.DemandThree.{any-thread}
 
@@ -96,38 +96,52 @@ pub example-unfinished : Unfinished (example .program) (startOf (example .progra
 unfolding example Unfinished
 example-unfinished = inl (0, omega arith, (let none = start-issued (example .program) 0 in omega arith))
 
+-- no compare in it
+pub example-plain : Uncompared (example .program)
+unfolding example Uncompared
+example-plain zero zero h e = absurd (omega arith)
+example-plain zero (suc zero) h e = absurd (omega arith)
+example-plain zero (suc (suc i)) h e = absurd (omega arith)
+example-plain (suc zero) zero h e = absurd (omega arith)
+example-plain (suc zero) (suc i) h e = absurd (omega arith)
+example-plain (suc (suc zero)) i h e = absurd (omega arith)
+example-plain (suc (suc (suc zero))) i h e = absurd (omega arith)
+example-plain (suc (suc (suc (suc t)))) i h e = absurd (omega arith)
+
 -- a thread that writes location 0
 pub example-writer : Writer (example .program) 0 0
-unfolding example writes isWrite both either Writer
+unfolding example writesAt writes isWrite both either Writer
 example-writer = (0, omega arith, refl)
 
 -- last writes: of both threads to location 0, and of thread 0, which writes it alone, to location 1
 pub example-last : LastWrite (example .program) 0 0 0
-unfolding example writes isWrite both either
+unfolding example writesAt writes isWrite both either
 example-last =
     record { there = omega arith; writing = refl; last = others }
   where
-    others : (j : ℕ) → 0 < j → j < 2 → writes (instructionAt (example .program) 0 j) 0 ≡ false
+    others : (j : ℕ) → 0 < j → j < 2 → writesAt (example .program) 0 0 j ≡ false
     others zero h k = absurd (omega arith)
     others (suc zero) h k = refl
     others (suc (suc j)) h k = absurd (omega arith)
 
 pub example-other-last : LastWrite (example .program) 1 0 0
-unfolding example writes isWrite both either
+unfolding example writesAt writes isWrite both either
 example-other-last =
     record { there = omega arith; writing = refl; last = λ j h k. absurd (omega arith) }
 
 pub example-alone : LastWrite (example .program) 0 1 1 × Alone (example .program) 0 1
     × (instructionAt (example .program) 0 1 .operation ≢ storeRegister)
-unfolding example writes isWrite both either Alone
+    × (instructionAt (example .program) 0 1 .operation ≢ compare)
+unfolding example writesAt writes isWrite both either Alone
 example-alone = (
   record { there = omega arith; writing = refl; last = λ j h k. absurd (omega arith) },
   others,
   (λ e. absurd (omega arith)),
+  (λ e. absurd (omega arith)),
 )
   where
     others : (k i : ℕ) → k ≢ 0 → i < countAt (example .program) k
-        → writes (instructionAt (example .program) k i) 1 ≡ false
+        → writesAt (example .program) k 1 i ≡ false
     others zero i n h = absurd (n refl)
     others (suc zero) zero n h = refl
     others (suc zero) (suc i) n h = absurd (omega arith)
@@ -137,7 +151,7 @@ example-alone = (
 
 -- a location that no thread writes
 pub example-unwritten : Unwritten (example .program) 2
-unfolding example writes isWrite both either Unwritten
+unfolding example writesAt writes isWrite both either Unwritten
 example-unwritten zero zero h = refl
 example-unwritten zero (suc zero) h = refl
 example-unwritten zero (suc (suc i)) h = absurd (omega arith)
@@ -149,7 +163,7 @@ example-unwritten (suc (suc (suc (suc t)))) i h = absurd (omega arith)
 
 -- a run that cannot go on: the one in which thread 0 comes last
 pub example-finished : (u : State) × FinishedRun (ptso (example .program)) (lastRun (example .program) 0) u
-example-finished = let r = any-thread example example-readable 0 0 example-writer in (r .1, r .3)
+example-finished = let r = any-thread example example-readable example-plain 0 0 example-writer in (r .1, r .3)
 
 -- a run that stops: nothing is queued at the start, so that a persist is illegal there
 pub example-stops : StopsAt (ptso (example .program)) (startOf (example .program)) (persistStep 0 ∷ []) 0

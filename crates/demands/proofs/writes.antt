@@ -9,5 +9,5 @@ pub mod ComingLaws
 pub mod PassingLaws
 -- run-settles, run-keeps: along a run to its end; Done, newest
 pub mod SettleLaws
--- last, writer: the last instruction that writes, LastWriteFrom, NoWriteFrom; fixes
+-- last, some: the last instruction that writes, LastWriteFrom, NoWriteFrom; fixes, none
 pub mod LastWriteLaws

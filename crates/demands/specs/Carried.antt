@@ -1,4 +1,4 @@
--- Demand 3, "any of those threads can be the one": the run in which a thread comes last, written out. Every
+-- Demand 3, "any of those threads can be the one", of a program without operation 9: the run in which a thread comes last, written out. Every
 -- other thread in turn, then that one; each instruction is carried through, from its issue to the memory,
 -- before the next.
 --   carried p t x         the steps that carry instruction x of thread t through

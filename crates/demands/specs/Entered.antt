@@ -9,7 +9,7 @@
 --   enteredOf p ks q        the same from the start
 --   persists ks q           how many of the steps ks persist an entry of queue q
 --   writesBy t xs           the writes among the arrivals xs that thread t brings
---   writeTo p q x w         the write of the instruction x, where it is one to line q; w is its word
+--   writeTo p s t q x       the write to line q that instruction x of thread t makes, issued in the state s
 --   issues p s k t q        the write to line q that the step k issues of thread t in the state s
 --   issuedFrom p s ks t q   those of the run ks from the state s, in order: a thread issues in program order
 --   issuedBy p ks t q       the same from the start
@@ -27,7 +27,7 @@ use Rattle.machine.specs.Sizes.{firstMarker}
 use Rattle.machine.specs.View.{Slot, lineOf, writeSlot, buffer, issuedOf}
 use Rattle.machine.specs.Rules.{instructionAt, entryAt, nextOf, startOf}
 use Rattle.machine.specs.Joins.{exchanges, enters}
-use Rattle.demands.specs.Writes.{isWrite, fixedBy}
+use Rattle.demands.specs.Writes.{really, fixedBy}
 
 pub record Arrival : Type 0 where
   pub thread : ℕ
@@ -41,11 +41,12 @@ unfoldable pub entriesOf : List Arrival → List Slot
 entriesOf [] = []
 entriesOf (a ∷ xs) = a .entry ∷ entriesOf xs
 
--- an exchange xs it is issued, a store or a flush-opt xs it moves
+-- an exchange, or a compare that succeeds, as it is issued; a store or a flush-opt as it moves
 unfoldable pub arrives : Program → State → Step → ℕ → List Arrival
 arrives p s k q =
     pick (eqb (k .code) issue)
-    (broughtBy (k .thread .0) (exchanges p q (instructionAt p (k .thread .0) (issuedOf s (k .thread .0)))))
+    (broughtBy (k .thread .0)
+    (exchanges p s (k .thread .0) q (instructionAt p (k .thread .0) (issuedOf s (k .thread .0)))))
     (pick (eqb (k .code) move)
     (broughtBy (k .thread .0) (enters p (k .thread .0) q (entryAt (buffer s (k .thread .0)) (k .position))))
     [])
@@ -67,14 +68,15 @@ writesBy t [] = []
 writesBy t (a ∷ xs) =
     pick (both (eqb (a .thread) t) (ltb (a .entry .mark) firstMarker)) (a .entry ∷ writesBy t xs) (writesBy t xs)
 
-unfoldable pub writeTo : Program → ℕ → Instruction → ℕ → List Slot
-writeTo p q x w =
-    pick (both (isWrite (x .operation)) (eqb (lineOf p (x .location .0)) q)) (writeSlot (x .location .0) w ∷ []) []
+unfoldable pub writeTo : Program → State → ℕ → ℕ → Instruction → List Slot
+writeTo p s t q x =
+    pick (both (really p s t x) (eqb (lineOf p (x .location .0)) q)) (writeSlot (x .location .0) (fixedBy s t x) ∷ [])
+    []
 
 unfoldable pub issues : Program → State → Step → ℕ → ℕ → List Slot
 issues p s k t q =
     pick (both (eqb (k .code) issue) (eqb (k .thread .0) t))
-    (writeTo p q (instructionAt p t (issuedOf s t)) (fixedBy s t (instructionAt p t (issuedOf s t)))) []
+    (writeTo p s t q (instructionAt p t (issuedOf s t))) []
 
 unfoldable pub issuedFrom : Program → State → List Step → ℕ → ℕ → List Slot
 issuedFrom p s [] t q = []

@@ -3,6 +3,7 @@
 -- of its own. It asks for nothing and has no steps.
 --   example        the case
 --   blocked        a case whose run stops at an mfence, with a store in its way
+--   rivals         two threads that would take location 0 by compare and swap
 --   threadless     a case in memory that no byte string reads as: it has no thread
 --   stepFirst      bytes whose first record is a step
 --   programFirst   bytes whose first record is a program
@@ -13,7 +14,7 @@ use lib.ListN.{replicate}
 use Rattle.cases.specs.declared.case.Instruction.{Instruction}
 use Rattle.cases.specs.declared.case.Case.{Case}
 use Rattle.cases.specs.Sizes.{mostThreads, mostInstructions, mostLocations, allCode}
-use Rattle.cases.specs.Operations.{storeWord, mfence}
+use Rattle.cases.specs.Operations.{storeWord, load, mfence, compare}
 use Rattle.cases.specs.Lines.{ownVersion}
 use Rattle.cases.specs.Draft.{noInstruction, emptyCase, runWith}
 use Rattle.machine.specs.Next.{issueStep}
@@ -64,6 +65,34 @@ blocked =
       };
       ask = emptyCase .ask;
       run = runWith (issueStep 0 ∷ issueStep 0 ∷ []);
+    }
+
+-- load location l into register 0; compare location l with register 0, word w
+abbrev loading : ℕ → Instruction
+loading l = record { operation = load; location = record { 0 = l }; register = record { 0 = 0 }; word = 0 }
+
+abbrev comparing : ℕ → ℕ → Instruction
+comparing l w =
+    record { operation = compare; location = record { 0 = l }; register = record { 0 = 0 }; word = w }
+
+-- P5: "Two threads, each: load y into register 0; compare x, register 0, word 1 (thread 1: 2)". Nobody writes y.
+unfoldable pub rivals : Case
+unfolding emptyCase
+rivals =
+    record {
+      version = ownVersion;
+      program = record {
+        threads = 2;
+        locations = 2;
+        lines = 2;
+        line = 0 ∷ 1 ∷ replicate (mostLocations - 2) 0;
+        first = replicate mostLocations 0;
+        counts = 2 ∷ 2 ∷ replicate (mostThreads - 2) 0;
+        code = loading 1 ∷ comparing 0 1 ∷ replicate (mostInstructions - 2) noInstruction
+            ++ loading 1 ∷ comparing 0 2 ∷ replicate (allCode - mostInstructions - 2) noInstruction;
+      };
+      ask = emptyCase .ask;
+      run = emptyCase .run;
     }
 
 unfoldable pub threadless : Case

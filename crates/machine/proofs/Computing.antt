@@ -8,7 +8,8 @@ use Rattle.machine.specs.View.{withIssued}
 use Rattle.machine.specs.Look.{wordOr, newestWrite, storedOr, newestStore, queuedWord, loadOf}
 use Rattle.machine.specs.Look.{markerAmong, markerFrom, markerOf, marked, bars, firstBar}
 use Rattle.machine.specs.Rules.{enqueue, await, barrierRule, isBarrier, operationRule, issueRule, entryOf}
-use Rattle.machine.specs.Rules.{loaded, exchanged, performed, issueOf, effectRule, effectOf, passRule}
+use Rattle.machine.specs.Rules.{loaded, fetched, exchanged, matches, compared, performed, issueOf}
+use Rattle.machine.specs.Rules.{effectRule, effectOf, passRule}
 use Rattle.machine.specs.Rules.{moveRule, moveOf, persistRule, settled, persistFirst, persistOf, ruleIn, ruleOf}
 use Rattle.machine.specs.Rules.{nextOf, startOf}
 use Rattle.machine.specs.Blocker.{entryLine, blockerBy, blockerIn, blockerOf}
@@ -23,7 +24,7 @@ unfoldable pub steps-compute : ℕ
 unfolding part put without slots wordsOf marksOf lineOf marksIn queueIn withQueue bufferIn withBuffer
     withWord withRegister withIssued wordOr newestWrite storedOr newestStore queuedWord loadOf markerAmong
     markerFrom markerOf marked bars firstBar enqueue await barrierRule isBarrier operationRule issueRule
-    entryOf loaded exchanged performed issueOf effectRule effectOf passRule moveRule moveOf persistRule
+    entryOf loaded fetched exchanged matches compared performed issueOf effectRule effectOf passRule moveRule moveOf persistRule
     settled persistFirst persistOf ruleIn ruleOf nextOf startOf
 steps-compute = 0
 

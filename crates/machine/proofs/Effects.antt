@@ -4,6 +4,7 @@
 use Prim.Native.Nat.{ℕ, suc, _<_}
 use mathlib.Core.Path.{_≡_}
 use mathlib.Core.Logic.{_⊎_, _≢_}
+use mathlib.Core.Bool.{true}
 use mathlib.Core.List.{List, [], _∷_, _++_}
 use lib.ListN.{length, getD}
 use Rattle.cases.specs.declared.case.Location.{Location}
@@ -11,11 +12,10 @@ use Rattle.cases.specs.declared.case.Step.{Step}
 use Rattle.cases.specs.declared.case.Program.{Program}
 use Rattle.cases.specs.Sizes.{mostThreads, mostLocations}
 use Rattle.cases.specs.Checks.{limitsOf, linesOf, stepFault, countAt}
-use Rattle.cases.specs.Operations.{exchange}
 use Rattle.machine.specs.declared.cells.State.{State}
 use Rattle.machine.specs.declared.cells.Entry.the-variants.{FlushOpt}
 use Rattle.machine.specs.View.{Slot, without, queue, buffer, wordOf, issuedOf}
-use Rattle.machine.specs.Rules.{instructionAt, entryAt, ruleOf, nextOf, startOf}
+use Rattle.machine.specs.Rules.{instructionAt, isBarrier, entryAt, ruleOf, nextOf, startOf}
 use Rattle.machine.specs.Joins.{joins, exchanges, enters, storeOf, swapOf, onWay, lastOr}
 use Rattle.machine.specs.Fit.{Fits}
 use Rattle.machine.specs.Next.{issueStep, moveStep, persistStep}
@@ -72,19 +72,19 @@ module _ (p : Program) (s : State) (fit : Fits p s) where
     issue-buffer-other = IssueEffectLaws.issue-buffer-other p s fit t low legal
 
     pub issue-queue : (q : ℕ) → q < mostLocations
-        → queue (nextOf p s (issueStep t)) q ≡ queue s q ++ exchanges p q (instructionAt p t (issuedOf s t))
+        → queue (nextOf p s (issueStep t)) q ≡ queue s q ++ exchanges p s t q (instructionAt p t (issuedOf s t))
     issue-queue = IssueEffectLaws.issue-queue p s fit t low legal
 
     pub issue-word : (l : ℕ) → wordOf (nextOf p s (issueStep t)) l ≡ wordOf s l
     issue-word = IssueEffectLaws.issue-word p s fit t low legal
 
     pub issue-words : (l : ℕ) → l < p .locations
-        → onWay p (nextOf p s (issueStep t)) l ≡ onWay p s l ++ swapOf l (instructionAt p t (issuedOf s t))
+        → onWay p (nextOf p s (issueStep t)) l ≡ onWay p s l ++ swapOf p s t l (instructionAt p t (issuedOf s t))
     issue-words = WordEffectLaws.issue-words p s fit t low legal
 
-    -- "Exchange and mfence need the own buffer empty (else 22)": of the exchange
-    pub exchange-alone : instructionAt p t (issuedOf s t) .operation ≡ exchange → buffer s t ≡ []
-    exchange-alone = IssueEffectLaws.exchange-alone p s fit t low legal
+    -- "Exchange and mfence need the own buffer empty (else 22)", and a compare, whether it succeeds or fails
+    pub barrier-alone : isBarrier (instructionAt p t (issuedOf s t) .operation) ≡ true → buffer s t ≡ []
+    barrier-alone = IssueEffectLaws.barrier-alone p s fit t low legal
 
   -- what a move does to each part
   module _ (t i : ℕ) (low : t < p .threads) (legal : ruleOf p s (moveStep t i) ≡ 0) where

@@ -31,8 +31,8 @@ use Rattle.machine.specs.Rules.{ruleOf, nextOf, startOf}
 use Rattle.machine.specs.Blocker.{blockerNumber, blockerPosition, blockerOf}
 use Rattle.machine.specs.Fit.{sumTo, misfits, Sized, Fits, Shallow}
 use Rattle.cases.specs.Ranges.{ProgramFits}
-use Rattle.machine.specs.Work.{work, Unfinished, programWeight, cost}
-use Rattle.machine.specs.Model.{Model, Lawful, EachCostsOne, spent, fullLength, Leads, Faultless, StopsAt}
+use Rattle.machine.specs.Work.{work, Unfinished, programWeight, Uncompared, cost, failuresFrom, failuresOf}
+use Rattle.machine.specs.Model.{Model, Lawful, spent, fullLength, Leads, Faultless, StopsAt}
 use Rattle.machine.specs.Model.{legalSteps, Listed, Ascending}
 use Rattle.machine.specs.Judge.{rulingNo, told, steppedOf, stepOf, verdictNo, verdictPlace, verdictBlocker}
 use Rattle.machine.specs.Judge.{judged, judgeFrom, runOf, judgeRun, stopped, judgeOf, judgeBytes}
@@ -44,6 +44,8 @@ use Rattle.machine.proofs.view.LineOfLaws as LineOfLaws
 use Rattle.machine.proofs.fit.StartLaws as StartLaws
 use Rattle.machine.proofs.steps.StepFaultLaws.{fault-none}
 use Rattle.machine.proofs.steps.StepLaws as StepLaws
+use Rattle.machine.proofs.steps.FailureLaws as FailureLaws
+use Rattle.machine.proofs.work.CostLaws as CostLaws
 use Rattle.machine.proofs.steps.ProgressLaws as ProgressLaws
 use Rattle.machine.proofs.runs.RerunLaws as RerunLaws
 use Rattle.machine.proofs.model.ModelLaws as ModelLaws
@@ -73,10 +75,6 @@ module _ {S K : Type 0} (m : Model S K) where
 
   pub faultless-append : (ks js : List K) → Faultless m ks → Faultless m js → Faultless m (ks ++ js)
   faultless-append = ModelLaws.faultless-append m
-
-  -- where every step uses up one, so many steps use up so much
-  pub spent-length : EachCostsOne m → (s : S) (ks : List K) → spent m s ks ≡ length ks
-  spent-length = ModelLaws.spent-length m
 
   -- that has its laws
   module _ {Fit : S → Type 0} {rank : K → ℕ} (laws : Lawful m Fit rank) where
@@ -112,9 +110,10 @@ pub stops-fits : {S : Type 0} (m : Model S Step) {Fit : S → Type 0} {rank : St
     → Fit u × (m .fault (getD ks n noStep) ≡ 0)
 stops-fits = ModelLaws.stops-fits
 
--- each step of the machine of document 01 uses up one
-pub each-costs-one : (p : Program) → EachCostsOne (ptso p)
-each-costs-one = PtsoLaws.each-costs-one
+-- of the machine of document 01 a run uses up one for each of its steps, and one more for each compare that fails
+pub spent-failures : (p : Program) (s : State) (ks : List Step)
+    → spent (ptso p) s ks ≡ length ks + failuresFrom p s ks
+spent-failures = CostLaws.spent-failures
 
 -- A program that the machine can run
 module _ (p : Program) (fits : ProgramFits p) where
@@ -218,7 +217,8 @@ module _ (c : Case) (readable : readsBack c ≡ true) where
   pub run-faultless : Faultless (ptso (c .program)) (runOf c)
   run-faultless = RerunLaws.run-faultless c (readable-ranged c readable)
 
-  -- a legal run of it ends in a state that fits, and has used up one of the full length for each of its steps
+  -- a legal run of it ends in a state that fits, and has used up one of the full length for each of its steps, and
+  -- one more for each compare that failed
   pub legal-run-fits : (u : State) → Leads (ptso (c .program)) (startOf (c .program)) (runOf c) u
       → Fits (c .program) u
   legal-run-fits u h =
@@ -226,11 +226,11 @@ module _ (c : Case) (readable : readsBack c ≡ true) where
       (start-fits (c .program) program-fits) run-faultless h
 
   pub legal-run-work : (u : State) → Leads (ptso (c .program)) (startOf (c .program)) (runOf c) u
-      → work (c .program) u + length (runOf c) ≡ fullLength (ptso (c .program))
-  unfolding fullLength
+      → work (c .program) u + (length (runOf c) + failuresOf (c .program) (runOf c))
+      ≡ fullLength (ptso (c .program))
+  unfolding fullLength failuresOf
   legal-run-work u h =
-      let one = spent-length (ptso (c .program)) (each-costs-one (c .program)) (startOf (c .program))
-      (runOf c) in
+      let each = spent-failures (c .program) (startOf (c .program)) (runOf c) in
       let all = leads-work (ptso (c .program)) case-lawful _ (runOf c) u
       (start-fits (c .program) program-fits) run-faultless h in
       omega arith
@@ -295,15 +295,24 @@ module _ (p : Program) (s : State) (fit : Fits p s) where
     pub step-fits : Fits p (nextOf p s k)
     step-fits = StepLaws.step-fits p s fit k (fault-none p k faultless) legal
 
-    -- and uses up its cost of the work left, which is 1
+    -- and uses up its cost of the work left: one, but a failed compare two
     pub step-work : work p (nextOf p s k) + cost p s k ≡ work p s
     step-work = StepLaws.step-work p s fit k (fault-none p k faultless) legal
+
+    -- without operation 9 that is one
+    pub cost-one : Uncompared p → cost p s k ≡ 1
+    cost-one plain = FailureLaws.cost-one p plain s fit k (fault-none p k faultless) legal
 
     -- from a state that is blank behind its entries it leads to one that is
     pub step-blank : BlankBehind s → BlankBehind (nextOf p s k)
     step-blank blank = BlankStepLaws.step-blank p s fit blank k (fault-none p k faultless) legal
 
-  -- so does a run of them
+  -- and in a run nothing fails
+  pub failures-none : (ks : List Step) (u : State) → Uncompared p → Faultless (ptso p) ks → Leads (ptso p) s ks u
+      → failuresFrom p s ks ≡ 0
+  failures-none ks u plain = FailureLaws.failures-none p plain s ks u fit
+
+  -- from a blank state a run leads to one that is
   pub leads-blank : (ks : List Step) (u : State) → BlankBehind s → Faultless (ptso p) ks → Leads (ptso p) s ks u
       → BlankBehind u
   leads-blank ks u = BlankStepLaws.leads-blank p s ks u fit

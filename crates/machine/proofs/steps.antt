@@ -5,9 +5,11 @@ pub mod StepFaultLaws
 pub mod IssueLaws
 -- move-fits, persist-work, step-fits and their like
 pub mod StepLaws
+-- fails-none, cost-one, failures-none: of a program without a compare
+pub mod FailureLaws
 -- performed, effect: what is added; Adds
 pub mod AddsLaws
--- issue: what it does to each part of the state; exchange-alone
+-- issue: what it does to each part of the state; barrier-alone
 pub mod IssueEffectLaws
 -- move: what it does to each part
 pub mod MoveEffectLaws

@@ -3,3 +3,5 @@
 pub mod WeighLaws
 -- work: what a change of one part does to it
 pub mod WorkLaws
+-- cost: of an issue, of another step; spent-failures
+pub mod CostLaws

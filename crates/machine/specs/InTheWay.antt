@@ -47,7 +47,7 @@ WaitsInWay p s k i w =
     × (bars p (entryLine p (taken (partsOf s) k)) (w .entry) ≡ true))
 
 -- "A flush leaves only if its location's queue is empty, markers counted (else 27)": every entry of it; exchange,
--- mfence and sfence need "no marker of that thread in any queue" (23, 28): each of those
+-- compare, mfence and sfence need "no marker of that thread in any queue" (23, 28): each of those
 abbrev pub QueuedInWay : Program → State → Step → ℕ → Slot → Type 0
 QueuedInWay p s k q h =
     ((ruleOf p s k ≡ 27) × (q ≡ entryLine p (taken (partsOf s) k)))

@@ -13,7 +13,6 @@
 --   spent m s ks          what the steps ks use up together
 --   Listed, Ascending     how the theorems say "on the list" and "in that order, once"
 --   Lawful m Fit rank     the laws of such a machine; of states that it reaches Fit may be taken for granted
---   EachCostsOne m        every step uses up one
 -- Assumes nothing.
 use Prim.Native.Nat.{ℕ, _+_, _<_, _≤_}
 use mathlib.Core.Path.{_≡_}
@@ -100,6 +99,3 @@ pub record Lawful {S K : Type 0} (m : Model S K) (Fit : S → Type 0) (rank : K 
   pub costs : (s : S) → Fit s → (k : K) → m .fault k ≡ 0 → m .rule s k ≡ 0 → 1 ≤ m .cost s k
   pub complete : (k : K) → Listed k (m .candidates) ↔ (m .fault k ≡ 0)
   pub rises : Ascending rank (m .candidates)
-
-unfoldable pub EachCostsOne : {S K : Type 0} → Model S K → Type 0
-EachCostsOne {S} {K} m = (s : S) (k : K) → m .cost s k ≡ 1

@@ -3,9 +3,12 @@
 -- said apart.
 --   enqueue s q h, await     the state with one more at a queue's end, at a buffer's end
 --   instructionAt p t i      instruction i of thread t
---   isBarrier op             exchange and mfence
+--   isBarrier op             exchange, compare and mfence
 --   operationRule            the rule against issuing an operation: 22, 23
 --   issueRule, issueOf       issue: 21, 22, 23
+--   matches p s t x          the word that the compare x of thread t reads is the one in its register: it succeeds
+--   fails p s t x            x is a compare, and does not
+--   fetched, exchanged, compared   the register takes the word read; what an exchange does; what a compare does
 --   entryAt b i              the entry at position i of the buffer b
 --   moveRule, moveOf         move: 24, 25, 26, then 27 or 28
 --   effectRule, effectOf     what an entry does as it takes effect: 27, 28. It is already out of its buffer, so
@@ -16,17 +19,17 @@
 --   startOf p                where a run starts
 -- Assumes nothing.
 use Prim.Native.Nat.{ℕ, _+_, _*_}
-use mathlib.Core.Bool.{Bool}
+use mathlib.Core.Bool.{Bool, not}
 use mathlib.Core.List.{List, [], _∷_, _++_}
 use lib.ListN.{getD, take, replicate}
 use lib.Dec.{eqb, leb, ltb}
 use Rattle.cases.specs.declared.case.Instruction.{Instruction}
 use Rattle.cases.specs.declared.case.Step.{Step}
 use Rattle.cases.specs.declared.case.Program.{Program}
-use Rattle.cases.specs.Choice.{pick, either, refuse}
+use Rattle.cases.specs.Choice.{pick, both, either, refuse}
 use Rattle.cases.specs.Sizes.{mostThreads, mostInstructions, mostLocations, allCode}
-use Rattle.cases.specs.Operations.{storeWord, storeRegister, load, exchange, flush, flushOpt, mfence, issue}
-use Rattle.cases.specs.Operations.{move}
+use Rattle.cases.specs.Operations.{storeWord, storeRegister, load, exchange, flush, flushOpt, mfence, compare}
+use Rattle.cases.specs.Operations.{issue, move}
 use Rattle.cases.specs.Checks.{countAt}
 use Rattle.cases.specs.Draft.{noInstruction}
 use Rattle.machine.specs.declared.cells.State.{State}
@@ -51,14 +54,14 @@ abbrev pub instructionAt : Program → ℕ → ℕ → Instruction
 instructionAt p t i = getD (p .code) (t * mostInstructions + i) noInstruction
 
 -- "Exchange and mfence need the own buffer empty (else 22), then no marker of that thread in any queue (else
--- 23)."
+-- 23)." A compare too, and "Rules 22 and 23 apply to failures too": whether it succeeds is not asked.
 unfoldable pub barrierRule : Parts → ℕ → ℕ
 barrierRule x t =
     refuse (ltb 0 (getD (x .waiting) t 0)) 22
     (refuse (marked (x .marks) (x .lengths) t) 23 0)
 
 unfoldable pub isBarrier : ℕ → Bool
-isBarrier op = either (eqb op exchange) (eqb op mfence)
+isBarrier op = either (eqb op exchange) (either (eqb op compare) (eqb op mfence))
 
 unfoldable pub operationRule : ℕ → Parts → ℕ → ℕ
 operationRule op x t = pick (isBarrier op) (barrierRule x t) 0
@@ -83,19 +86,35 @@ entryOf registers t x =
 unfoldable pub loaded : Program → State → ℕ → Instruction → State
 loaded p s t x = withRegister s t (x .register .0) (loadOf p s t (x .location .0))
 
--- "Exchange reads queue or memory and puts its write at the queue's end." "the register takes the old one"
+-- "Exchange reads queue or memory": the register takes the word read
+unfoldable pub fetched : Program → State → ℕ → Instruction → State
+fetched p s t x = withRegister s t (x .register .0) (queuedWord p s (x .location .0))
+
+-- "and puts its write at the queue's end." "the register takes the old one"
 unfoldable pub exchanged : Program → State → ℕ → Instruction → State
 exchanged p s t x =
-    enqueue (withRegister s t (x .register .0) (queuedWord p s (x .location .0))) (lineOf p (x .location .0))
-    (writeSlot (x .location .0) (x .word))
+    enqueue (fetched p s t x) (lineOf p (x .location .0)) (writeSlot (x .location .0) (x .word))
 
--- what an instruction does as it is issued: load, exchange and mfence are done with it; the others wait
+-- Document 02, P5: "If the word read equals the register, the new word is written; the register takes the word
+-- read either way."
+unfoldable pub matches : Program → State → ℕ → Instruction → Bool
+matches p s t x = eqb (queuedWord p s (x .location .0)) (registerIn (s .registers) t (x .register .0))
+
+unfoldable pub compared : Program → State → ℕ → Instruction → State
+compared p s t x = pick (matches p s t x) (exchanged p s t x) (fetched p s t x)
+
+-- "a failed compare"
+unfoldable pub fails : Program → State → ℕ → Instruction → Bool
+fails p s t x = both (eqb (x .operation) compare) (not (matches p s t x))
+
+-- what an instruction does as it is issued: load, exchange, compare and mfence are done with it; the others wait
 unfoldable pub performed : Program → State → ℕ → Instruction → State
 performed p s t x =
     pick (eqb (x .operation) load) (loaded p s t x)
     (pick (eqb (x .operation) exchange) (exchanged p s t x)
+    (pick (eqb (x .operation) compare) (compared p s t x)
     (pick (eqb (x .operation) mfence) s
-    (await s t (entryOf (s .registers) t x))))
+    (await s t (entryOf (s .registers) t x)))))
 
 unfoldable pub issueOf : Program → State → ℕ → State
 issueOf p s t =

@@ -10,6 +10,7 @@ use cases::case::Instruction;
 use cases::case::Program;
 use cases::case::Thread;
 use cases::case::Write;
+use cases::operations::COMPARE;
 use cases::operations::EXCHANGE;
 use cases::operations::FLUSH;
 use cases::operations::FLUSH_OPT;
@@ -31,14 +32,18 @@ ghost use Rattle.machine.specs.Sizes.{room, allSlots};
 ghost use Rattle.machine.specs.View.{lineOf, queueLen, bufferLen, issuedOf};
 ghost use Rattle.machine.specs.Parts.{lent};
 ghost use Rattle.machine.specs.Rules.{instructionAt, isBarrier, barrierRule, operationRule};
-ghost use Rattle.machine.specs.Rules.{issueRule, entryOf, loaded, exchanged, performed, issueOf, await};
+ghost use Rattle.machine.specs.Rules.{issueRule, entryOf, loaded, fetched, exchanged, compared, performed};
+ghost use Rattle.machine.specs.Rules.{issueOf, await};
 ghost use Rattle.machine.specs.Fit.{Shallow};
 
-// Does an operation need what went before it to be done? Exchange and mfence do.
+// Does an operation need what went before it to be done? Exchange, compare and mfence do.
 fn is_barrier(op: u8) -> bool
     ensures { λ r. ⌜ r ≡ isBarrier op ⌝ }
 {
     if op == EXCHANGE {
+        return true;
+    }
+    if op == COMPARE {
         return true;
     }
     op == MFENCE
@@ -151,20 +156,45 @@ fn load(p: Program, s: State, t: Thread, x: Instruction) -> State
     u
 }
 
-// The register takes the newest write in the line's queue, else the persistent word; the instruction's word goes
-// to the queue's end.
+// The register takes the newest write in the line's queue, else the persistent word.
+fn fetch(p: Program, s: State, t: Thread, x: Instruction) -> State
+    requires { ⌜ (t .0 < mostThreads) × (x .location .0 < mostLocations) × (x .register .0 < mostRegisters)
+        × (lineOf p (x .location .0) < mostLocations) × (queueLen s (lineOf p (x .location .0)) ≤ room) ⌝ }
+    ensures { λ r. ⌜ r ≡ fetched p s (t .0) x ⌝ }
+{
+    let mut u = s;
+    let l = x.location;
+    let word = u.words[l.0 as usize];
+    let old = look::newest_write(&u.held, &u.marks, &u.lengths, look::line_of(p, l), l, word);
+    u.registers[(t.0 as usize) * REGISTERS + (x.register.0 as usize)] = old;
+    u
+}
+
+// The register takes the old word; the instruction's goes to the queue's end.
 fn exchange(p: Program, s: State, t: Thread, x: Instruction) -> State
     requires { ⌜ (t .0 < mostThreads) × (x .location .0 < mostLocations) × (x .register .0 < mostRegisters)
         × (lineOf p (x .location .0) < mostLocations) × (queueLen s (lineOf p (x .location .0)) < room) ⌝ }
     ensures { λ r. ⌜ r ≡ exchanged p s (t .0) x ⌝ }
 {
-    let mut u = s;
     let l = x.location;
-    let word = u.words[l.0 as usize];
-    let q = look::line_of(p, l);
-    let old = look::newest_write(&u.held, &u.marks, &u.lengths, q, l, word);
-    u.registers[(t.0 as usize) * REGISTERS + (x.register.0 as usize)] = old;
-    change::enqueue(u, q, x.word, l.0)
+    change::enqueue(fetch(p, s, t, x), look::line_of(p, l), x.word, l.0)
+}
+
+// Where the word read is the register's, an exchange; else the register takes it, and nothing is written.
+fn compare(p: Program, s: State, t: Thread, x: Instruction) -> State
+    requires { ⌜ (t .0 < mostThreads) × (x .location .0 < mostLocations) × (x .register .0 < mostRegisters)
+        × (lineOf p (x .location .0) < mostLocations) × (queueLen s (lineOf p (x .location .0)) < room) ⌝ }
+    ensures { λ r. ⌜ r ≡ compared p s (t .0) x ⌝ }
+{
+    let v = s;
+    let l = x.location;
+    let at = (t.0 as usize) * REGISTERS + (x.register.0 as usize);
+    let before = v.registers[at];
+    let u = fetch(p, s, t, x);
+    if u.registers[at] == before {
+        return change::enqueue(u, look::line_of(p, l), x.word, l.0);
+    }
+    u
 }
 
 // The instruction's entry joins the end of the thread's buffer.
@@ -195,6 +225,9 @@ fn perform(p: Program, s: State, t: Thread, x: Instruction) -> State
     }
     if op == EXCHANGE {
         return exchange(p, s, t, x);
+    }
+    if op == COMPARE {
+        return compare(p, s, t, x);
     }
     if op == MFENCE {
         return s;

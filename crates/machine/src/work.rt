@@ -7,6 +7,7 @@ use crate::steps;
 use cases::case::Case;
 use cases::case::Program;
 use cases::case::Thread;
+use cases::operations::COMPARE;
 use cases::operations::EXCHANGE;
 use cases::operations::FLUSH;
 use cases::operations::FLUSH_OPT;
@@ -78,6 +79,9 @@ fn unissued_weight(op: u8) -> usize
         return 3;
     }
     if op == SFENCE {
+        return 2;
+    }
+    if op == COMPARE {
         return 2;
     }
     1

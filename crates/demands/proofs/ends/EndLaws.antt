@@ -11,7 +11,7 @@ use Rattle.cases.specs.declared.case.Step.{Step}
 use Rattle.cases.specs.declared.case.Program.{Program}
 use Rattle.cases.specs.Checks.{limitsOf, linesOf, stepFault, countAt}
 use Rattle.machine.specs.declared.cells.State.{State}
-use Rattle.machine.specs.Model.{Model, Lawful, EachCostsOne, Leads, Faultless, LegalRun, CannotGoOn}
+use Rattle.machine.specs.Model.{Model, Lawful, Leads, Faultless, LegalRun, CannotGoOn}
 use Rattle.machine.specs.Model.{FinishedRun, spent, fullLength}
 use Rattle.machine.specs.View.{queue, buffer, issuedOf}
 use Rattle.machine.specs.Rules.{ruleOf}
@@ -19,7 +19,7 @@ use Rattle.machine.specs.Fit.{Fits}
 use Rattle.machine.specs.Work.{work, Unfinished}
 use Rattle.machine.specs.Ptso.{ptso}
 use Rattle.machine.proofs.Promises.{leads-append, faultless-append, leads-fits, leads-work, spent-least}
-use Rattle.machine.proofs.Promises.{spent-length, step-lowers, progress, work-some}
+use Rattle.machine.proofs.Promises.{step-lowers, progress, work-some}
 use Rattle.demands.proofs.writes.LastLaws.{cons-some}
 use Rattle.demands.proofs.writes.SettleLaws.{Done}
 
@@ -44,22 +44,9 @@ module _ {S K : Type 0} (m : Model S K) {Fit : S → Type 0} {rank : K → ℕ} 
         let n = spent-least m laws (m .start) ks u (laws .starts) (run .faultless) (run .leads) in
         omega arith
 
-  -- where every step uses up one
-  module _ (one : EachCostsOne m) where
-    -- "by exactly one"
-    pub step-one : (u : S) → Fit u → (k : K) → m .fault k ≡ 0 → m .rule u k ≡ 0
-        → m .left (m .after u k) + 1 ≡ m .left u
-    unfolding EachCostsOne
-    step-one u f k faultless legal =
-        let w = laws .lowers u f k faultless legal in
-        let c = one u k in
-        omega arith
-
-    pub full-length-ends : (ks : List K) (u : S) → LegalRun m ks u → length ks ≡ fullLength m → CannotGoOn m u
-    full-length-ends ks u run e =
-        let w = run-work ks u run in
-        let n = spent-length m one (m .start) ks in
-        work-stuck u (run-fits ks u run) (omega arith)
+    -- where it has used up the full length it cannot go on
+    pub spent-ends : spent m (m .start) ks ≡ fullLength m → CannotGoOn m u
+    spent-ends e = let w = run-work in work-stuck u run-fits (omega arith)
 
   -- where some step is legal while work is left
   module _ (going : (s : S) → Fit s → 0 < m .left s → (k : K) × (m .fault k ≡ 0) × (m .rule s k ≡ 0)) where
@@ -112,20 +99,6 @@ module _ {S K : Type 0} (m : Model S K) {Fit : S → Type 0} {rank : K → ℕ} 
             over = work-stuck (r .1) (r .4) (r .5);
           },
         )
-
-    -- "one length": where every step uses up one
-    module _ (one : EachCostsOne m) where
-      pub one-length : (ks : List K) (u : S) → LegalRun m ks u → CannotGoOn m u → length ks ≡ fullLength m
-      one-length ks u run stuck =
-          let w = finished-spends ks u run stuck in
-          let n = spent-length m one (m .start) ks in
-          omega arith
-
-      pub every-run-ends : (ks : List K) (u : S) → LegalRun m ks u
-          → (js : List K) × (v : S) × FinishedRun m (ks ++ js) v × (length (ks ++ js) ≡ fullLength m)
-      every-run-ends ks u run =
-          let r = run-ends ks u run in
-          (r .0, r .1, r .2, one-length (ks ++ r .0) (r .1) (r .2 .legal) (r .2 .over))
 
 -- is a list empty?
 empty-or : {A : Type 0} (xs : List A) → (xs ≡ []) ⊎ (xs ≢ [])

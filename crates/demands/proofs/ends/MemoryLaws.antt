@@ -2,7 +2,7 @@
 use Prim.Native.Nat.{ℕ, _-_, _<_}
 use mathlib.Core.Path.{_≡_, refl, sym, ap, subst, _∙_}
 use mathlib.Core.Logic.{_⊎_, inl, inr, _≢_}
-use mathlib.Core.Bool.{false}
+use mathlib.Core.Bool.{true, false}
 use mathlib.Core.List.{List, []}
 use native.Mathlib.Omega.{arith}
 use native.Mathlib.Decide.{ℕ-discrete}
@@ -12,7 +12,7 @@ use Rattle.cases.specs.declared.case.Step.{Step}
 use Rattle.cases.specs.declared.case.Program.{Program}
 use Rattle.cases.proofs.ChoiceLaws.{never-both, both-true}
 use Rattle.cases.specs.Checks.{countAt}
-use Rattle.cases.specs.Operations.{storeRegister}
+use Rattle.cases.specs.Operations.{storeRegister, compare}
 use Rattle.machine.specs.declared.cells.State.{State}
 use Rattle.machine.specs.View.{buffer, wordOf, issuedOf}
 use Rattle.machine.specs.Rules.{instructionAt, startOf}
@@ -21,29 +21,31 @@ use Rattle.machine.proofs.Promises.{ptso-lawful, start-fits}
 use Rattle.machine.proofs.Effects.{start-buffer, start-words, start-issued, start-word}
 use Rattle.machine.specs.Model.{LegalRun, FinishedRun}
 use Rattle.machine.specs.Ptso.{ptso}
-use Rattle.demands.specs.Writes.{writes, fixedFrom, fixedOf, LastWrite, Unwritten, Alone}
+use Rattle.machine.specs.Work.{Uncompared}
+use Rattle.demands.specs.Writes.{writes, writesAt, fixedFrom, fixedOf, madeFrom, madeOf, LastOf, LastWrite}
+use Rattle.demands.specs.Writes.{LastMade, Unwritten, NoneMade, Alone}
 use Rattle.demands.proofs.writes.LastLaws.{Settles}
 use Rattle.machine.specs.Joins.{lastOr}
 use Rattle.demands.proofs.writes.StoresLaws.{gathered, fixesFrom}
 use Rattle.demands.proofs.writes.ComingLaws.{coming}
 use Rattle.demands.proofs.writes.SettleLaws.{newest, run-settles, run-keeps}
-use Rattle.demands.proofs.writes.LastWriteLaws.{NoWriteFrom, LastWriteFrom, last-or-none, fixes-last}
-use Rattle.demands.proofs.writes.LastWriteLaws.{fixes-unwritten, last-one}
-use Rattle.demands.proofs.fixed.FixedLaws.{fixed-word}
+use Rattle.demands.proofs.writes.LastWriteLaws.{fixes-last, fixes-none, none-fixes, last-one, last-same}
+use Rattle.demands.proofs.fixed.FixedLaws.{fixed-word, made-surely, made-never}
 use Rattle.demands.proofs.ends.EndLaws.{stuck-done, run-fits}
 
 module _ (p : Program) (fits : ProgramFits p) where
   pub in-threads : (t i : ℕ) → i < countAt p t → t < p .threads
   in-threads t i h = fits .instructions t i h .0
 
-  -- where nothing waits in a thread's buffer and it has issued nothing, all it has to come is in its program
+  -- where nothing waits in a thread's buffer and it has issued nothing, all it has to come is still to be made
   pub unissued-coming : (s : State) (ks : List Step) (l t : ℕ) → buffer s t ≡ [] → issuedOf s t ≡ 0
-      → coming p s ks l t ≡ fixesFrom p t l (fixedFrom p s ks t) 0 (countAt p t)
+      → coming p s ks l t ≡ fixesFrom (madeFrom p s ks t l) (fixedFrom p s ks t) 0 (countAt p t)
   unfolding coming gathered
   unissued-coming s ks l t b e = let n : countAt p t - 0 ≡ countAt p t = omega arith in rw (b, e, n) refl
 
   start-coming : (ks : List Step) (l t : ℕ)
-      → coming p (startOf p) ks l t ≡ fixesFrom p t l (fixedFrom p (startOf p) ks t) 0 (countAt p t)
+      → coming p (startOf p) ks l t ≡ fixesFrom (madeOf p ks t l) (fixedOf p ks t) 0 (countAt p t)
+  unfolding madeOf fixedOf
   start-coming ks l t = unissued-coming (startOf p) ks l t (start-buffer p t) (start-issued p t)
 
   start-newest : (l : ℕ) → newest p (startOf p) l ≡ getD (p .first) l 0
@@ -57,84 +59,122 @@ module _ (p : Program) (fits : ProgramFits p) where
         run-settles p l low (startOf p) ks u (start-fits p fits) (run .legal .faultless) (run .legal .leads)
         (stuck-done p u (run-fits (ptso p) (ptso-lawful p fits) ks u (run .legal)) (run .over))
 
-    pub memory-at-end :
-        ((t : ℕ) × (i : ℕ) × LastWrite p t l i × (wordOf u l ≡ fixedOf p ks t i))
-        ⊎ (Unwritten p l × (wordOf u l ≡ getD (p .first) l 0))
-    unfolding fixedOf Unwritten Settles
-    memory-at-end = go end-settles
+    pub memory-made :
+        ((t : ℕ) × (i : ℕ) × LastMade p ks t l i × (wordOf u l ≡ fixedOf p ks t i))
+        ⊎ (NoneMade p ks l × (wordOf u l ≡ getD (p .first) l 0))
+    unfolding NoneMade Settles
+    memory-made = go end-settles
       where
         go : Settles (p .threads) (coming p (startOf p) ks l) (newest p (startOf p) l) (wordOf u l)
-            → ((t : ℕ) × (i : ℕ) × LastWrite p t l i × (wordOf u l ≡ fixedFrom p (startOf p) ks t i))
-            ⊎ (Unwritten p l × (wordOf u l ≡ getD (p .first) l 0))
+            → ((t : ℕ) × (i : ℕ) × LastMade p ks t l i × (wordOf u l ≡ fixedOf p ks t i))
+            ⊎ (((t i : ℕ) → i < countAt p t → madeOf p ks t l i ≡ false) × (wordOf u l ≡ getD (p .first) l 0))
         go (inl x) =
             inr (
               (λ t i h.
                   let e = sym (start-coming ks l t) ∙ x .0 t (in-threads t i h) in
-                  fixes-unwritten p t l (fixedFrom p (startOf p) ks t) e i h),
+                  fixes-none (madeOf p ks t l) (fixedOf p ks t) (countAt p t) e i h),
               x .1 ∙ start-newest l,
             )
         go (inr x) =
             let e = start-coming ks l (x .0) in
-            let w = fixes-last p (x .0) l (fixedFrom p (startOf p) ks (x .0)) (rw e at (x .2)) in
+            let w = fixes-last (madeOf p ks (x .0) l) (fixedOf p ks (x .0)) (countAt p (x .0)) (rw e at (x .2)) in
             inl (x .0, w .0, w .1, x .3 ∙ ap (λ (y : List ℕ). lastOr y 0) e ∙ w .2)
 
-  -- a store of a word and an exchange fix the word that the program has
-  pub memory-own-word : (ks : List Step) (u : State) → FinishedRun (ptso p) ks u → (t i : ℕ) → i < countAt p t
-      → instructionAt p t i .operation ≢ storeRegister
-      → fixedOf p ks t i ≡ instructionAt p t i .word
-  unfolding fixedOf
-  memory-own-word ks u run t i there word =
-      let d = stuck-done p u (run-fits (ptso p) (ptso-lawful p fits) ks u (run .legal)) (run .over) .issued
-      t (in-threads t i there) in
-      fixed-word p (startOf p) ks u t i (start-fits p fits) (run .legal .faultless) (run .legal .leads)
-      (let z = start-issued p t in omega arith) (omega arith) word
+  -- At the end every instruction is issued: one that is no compare has made its write, where it is one
+  module _ (ks : List Step) (u : State) (run : FinishedRun (ptso p) ks u) (t i : ℕ) (there : i < countAt p t) where
+    all-issued : i < issuedOf u t
+    all-issued =
+        let d = stuck-done p u (run-fits (ptso p) (ptso-lawful p fits) ks u (run .legal)) (run .over) .issued
+        t (in-threads t i there) in
+        omega arith
+
+    pub memory-surely : (l : ℕ) → instructionAt p t i .operation ≢ compare → madeOf p ks t l i ≡ writesAt p t l i
+    unfolding madeOf
+    memory-surely l plain =
+        made-surely p (startOf p) ks u t l i (start-fits p fits) (run .legal .faultless) (run .legal .leads)
+        (let z = start-issued p t in omega arith) all-issued plain
+
+    -- and has fixed the word that the program has, but for a store of a register
+    pub memory-own-word : instructionAt p t i .operation ≢ storeRegister
+        → fixedOf p ks t i ≡ instructionAt p t i .word
+    unfolding fixedOf
+    memory-own-word word =
+        fixed-word p (startOf p) ks u t i (start-fits p fits) (run .legal .faultless) (run .legal .leads)
+        (let z = start-issued p t in omega arith) all-issued word
+
+  -- A program without a compare: what is really made is what the program writes
+  module _ (plain : Uncompared p) (ks : List Step) (u : State) (run : FinishedRun (ptso p) ks u) where
+    pub plain-made : (t l i : ℕ) → i < countAt p t → madeOf p ks t l i ≡ writesAt p t l i
+    unfolding Uncompared
+    plain-made t l i h = memory-surely ks u run t i h l (plain t i h)
+
+    pub memory-at-end : (l : ℕ) → l < p .locations
+        → ((t : ℕ) × (i : ℕ) × LastWrite p t l i × (wordOf u l ≡ fixedOf p ks t i))
+        ⊎ (Unwritten p l × (wordOf u l ≡ getD (p .first) l 0))
+    unfolding NoneMade Unwritten
+    memory-at-end l low = go (memory-made ks u run l low)
+      where
+        go : ((t : ℕ) × (i : ℕ) × LastMade p ks t l i × (wordOf u l ≡ fixedOf p ks t i))
+            ⊎ (((t i : ℕ) → i < countAt p t → madeOf p ks t l i ≡ false) × (wordOf u l ≡ getD (p .first) l 0))
+            → ((t : ℕ) × (i : ℕ) × LastWrite p t l i × (wordOf u l ≡ fixedOf p ks t i))
+            ⊎ (((t i : ℕ) → i < countAt p t → writesAt p t l i ≡ false) × (wordOf u l ≡ getD (p .first) l 0))
+        go (inl x) = inl (x .0, x .1, last-same _ _ _ (x .1) (plain-made (x .0) l) (x .2), x .3)
+        go (inr x) = inr ((λ t i h. sym (plain-made t l i h) ∙ x .0 t i h), x .1)
 
   pub written-low : (t l i : ℕ) → LastWrite p t l i → l < p .locations
-  unfolding writes
+  unfolding writesAt writes
   written-low t l i o =
       let e : instructionAt p t i .location .0 ≡ l = eqb-true _ _ (both-true _ _ (o .writing) .1) in
       let low = fits .instructions t i (o .there) .1 .low-location in
       omega arith
 
-  -- A location that one thread alone writes, and whose last write there has its word in the program
+  -- A location that one thread alone writes, and whose last write there is surely made, with its word in the
+  -- program
   pub memory-alone : (t l i : ℕ) → LastWrite p t l i → Alone p t l
       → instructionAt p t i .operation ≢ storeRegister
+      → instructionAt p t i .operation ≢ compare
       → (ks : List Step) (u : State) → FinishedRun (ptso p) ks u → wordOf u l ≡ instructionAt p t i .word
-  unfolding Alone Unwritten
-  memory-alone t l i last alone word ks u run = go (memory-at-end ks u run l (written-low t l i last))
+  unfolding Alone NoneMade madeOf
+  memory-alone t l i last alone word plain ks u run = go (memory-made ks u run l (written-low t l i last))
     where
-      own : (k j : ℕ) → LastWrite p k l j → wordOf u l ≡ fixedOf p ks k j → Dec (k ≡ t)
+      made : madeFrom p (startOf p) ks t l i ≡ true
+      made = memory-surely ks u run t i (last .there) l plain ∙ last .writing
+
+      last-made : LastOf (madeFrom p (startOf p) ks t l) (countAt p t) i
+      last-made =
+          record {
+            there = last .there;
+            writing = made;
+            last = λ j h k. made-never p (startOf p) ks t l j (last .last j h k);
+          }
+
+      own : (k j : ℕ) → LastOf (madeFrom p (startOf p) ks k l) (countAt p k) j → wordOf u l ≡ fixedOf p ks k j
+          → Dec (k ≡ t)
           → wordOf u l ≡ instructionAt p t i .word
-      own k j o e (no d) = absurd (never-both (o .writing) (alone k j d (o .there)))
+      own k j o e (no d) =
+          absurd (never-both (o .writing) (made-never p (startOf p) ks k l j (alone k j d (o .there))))
       own k j o e (yes d) =
           e
           ∙ ap (λ (m : ℕ). fixedOf p ks m j) d
-          ∙ ap (fixedOf p ks t) (last-one p t l j i (subst (λ m. LastWrite p m l j) d o) last)
+          ∙ ap (fixedOf p ks t)
+          (last-one (madeFrom p (startOf p) ks t l) (countAt p t) j i
+          (subst (λ m. LastOf (madeFrom p (startOf p) ks m l) (countAt p m) j) d o) last-made)
           ∙ memory-own-word ks u run t i (last .there) word
 
-      go : ((k : ℕ) × (j : ℕ) × LastWrite p k l j × (wordOf u l ≡ fixedOf p ks k j))
-          ⊎ (((k j : ℕ) → j < countAt p k → writes (instructionAt p k j) l ≡ false)
+      go : ((k : ℕ) × (j : ℕ) × LastOf (madeFrom p (startOf p) ks k l) (countAt p k) j × (wordOf u l ≡ fixedOf p ks k j))
+          ⊎ (((k j : ℕ) → j < countAt p k → madeFrom p (startOf p) ks k l j ≡ false)
           × (wordOf u l ≡ getD (p .first) l 0))
           → wordOf u l ≡ instructionAt p t i .word
       go (inl x) = own (x .0) (x .1) (x .2) (x .3) (ℕ-discrete (x .0) t)
-      go (inr x) = absurd (never-both (last .writing) (x .0 t i (last .there)))
+      go (inr x) = absurd (never-both made (x .0 t i (last .there)))
 
   -- A location that no thread writes
   pub memory-unwritten : (l : ℕ) → l < p .locations → Unwritten p l
       → (ks : List Step) (u : State) → LegalRun (ptso p) ks u → wordOf u l ≡ getD (p .first) l 0
-  unfolding Unwritten
+  unfolding Unwritten madeOf
   memory-unwritten l low none ks u run =
       run-keeps p l low (startOf p) ks u (start-fits p fits) (run .faultless) (run .leads) (start-words p l)
-      (λ t h. start-coming ks l t ∙ nothing t)
+      (λ t h.
+      start-coming ks l t
+      ∙ none-fixes _ (fixedOf p ks t) (countAt p t) (λ i k. made-never p (startOf p) ks t l i (none t i k)))
       ∙ start-word p l
-    where
-      nothing : (t : ℕ) → fixesFrom p t l (fixedFrom p (startOf p) ks t) 0 (countAt p t) ≡ []
-      nothing t = go (last-or-none p t l (fixedFrom p (startOf p) ks t) 0 (countAt p t))
-        where
-          go : NoWriteFrom p t l (fixedFrom p (startOf p) ks t) 0 (countAt p t)
-              ⊎ ((j : ℕ) × LastWriteFrom p t l (fixedFrom p (startOf p) ks t) 0 (countAt p t) j)
-              → fixesFrom p t l (fixedFrom p (startOf p) ks t) 0 (countAt p t) ≡ []
-          go (inl o) = o .nothing
-          go (inr o) =
-              let below = o .1 .below in
-              absurd (never-both (o .1 .writing) (none t (o .0) (omega arith)))

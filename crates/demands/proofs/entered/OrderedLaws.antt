@@ -15,7 +15,7 @@ use Rattle.cases.specs.declared.case.Instruction.{Instruction}
 use Rattle.cases.specs.declared.case.Step.{Step}
 use Rattle.cases.specs.declared.case.Program.{Program}
 use Rattle.cases.specs.Choice.{pick, both, either}
-use Rattle.cases.specs.Operations.{lastOperation, firstOperation, exchange, issue}
+use Rattle.cases.specs.Operations.{lastOperation, firstOperation, compare, issue}
 use Rattle.cases.proofs.ChoiceLaws.{pick-false}
 use Rattle.cases.specs.Checks.{limitsOf, linesOf, stepFault}
 use Rattle.cases.specs.Ranges.{InstructionFits}
@@ -26,8 +26,8 @@ use Rattle.machine.specs.declared.cells.Entry.{Entry}
 use Rattle.machine.specs.declared.cells.Entry.the-variants.{Store, Flush, FlushOpt, Sfence}
 use Rattle.machine.specs.Sizes.{firstMarker}
 use Rattle.machine.specs.View.{Slot, lineOf, writeSlot, markerSlot, markOf, buffer, issuedOf, blankWaiting}
-use Rattle.machine.specs.Rules.{instructionAt, entryAt, entryOf, isBarrier, ruleOf, nextOf}
-use Rattle.machine.specs.Joins.{joins, exchanges, enters}
+use Rattle.machine.specs.Rules.{instructionAt, entryAt, entryOf, isBarrier, matches, ruleOf, nextOf}
+use Rattle.machine.specs.Joins.{joins, swaps, exchanges, enters}
 use Rattle.machine.specs.Fit.{Fits, Named, NamedBy}
 use Rattle.machine.proofs.lists.AllLaws.{all-get}
 use Rattle.machine.specs.Model.{Leads, Faultless}
@@ -37,7 +37,7 @@ use Rattle.machine.proofs.Promises.{step-fits}
 use Rattle.machine.proofs.OperationLaws.{each-operation, of}
 use Rattle.machine.proofs.Effects.{step-kinds, issue-left, issue-buffer, issue-buffer-other}
 use Rattle.machine.proofs.Effects.{move-within, move-first-or, move-buffer, move-buffer-other, persist-buffer}
-use Rattle.demands.specs.Writes.{isWrite, fixedBy}
+use Rattle.demands.specs.Writes.{really, fixedBy}
 use Rattle.demands.specs.Entered.{broughtBy, arrives, enteredFrom, writesBy, writeTo, issues, issuedFrom}
 use Rattle.demands.proofs.writes.StoresLaws.{gathered, gathered-append, gathered-without}
 use Rattle.demands.proofs.writes.StoresLaws.{gathered-alone, gathered-swap}
@@ -77,18 +77,18 @@ module _ (t : ℕ) where
   brought-entry p q few (FlushOpt l) h = brought-marker _
   brought-entry p q few Sfence h = unfold broughtBy writesBy in refl
 
--- What an instruction fixes goes into its thread's buffer or straight into the queue
+-- What an instruction makes goes into its thread's buffer or straight into the queue
 module _ (p : Program) (s : State) (t q : ℕ) (m : Location) (r : Register) (w : ℕ) (there : m .0 < firstMarker) where
   abbrev Splits : ℕ → Type 0
-  Splits op = writeTo p q (of op m r w) (fixedBy s t (of op m r w))
+  Splits op = writeTo p s t q (of op m r w)
       ≡ waits p q (joins (s .registers) t (of op m r w))
-      ++ writesBy t (broughtBy t (exchanges p q (of op m r w)))
+      ++ writesBy t (broughtBy t (exchanges p s t q (of op m r w)))
 
   stored : (hs : List Slot) → hs ≡ (hs ++ []) ++ []
   stored hs = sym (append-nil (hs ++ []) ∙ append-nil hs)
 
   ordered-split : (op : ℕ) → firstOperation ≤ op → op ≤ lastOperation → Splits op
-  unfolding writeTo isWrite both either fixedBy joins isBarrier exchanges entryOf gathered storeTo pick broughtBy
+  unfolding writeTo really swaps both either fixedBy joins isBarrier exchanges entryOf gathered storeTo pick broughtBy
       writesBy
   ordered-split =
       each-operation Splits
@@ -100,6 +100,7 @@ module _ (p : Program) (s : State) (t q : ℕ) (m : Location) (r : Register) (w 
       refl
       refl
       refl
+      (sym (brought-write t (m .0) w there (both (matches p s t (of compare m r w)) (eqb (lineOf p (m .0)) q))))
 
 -- a step of thread t, or of another: what waits and what it issues is what it brings and what waits then
 abbrev Keeps : Program → State → Step → ℕ → ℕ → Type 0
@@ -174,12 +175,12 @@ module _ (p : Program) (s : State) (f : Fits p s) (t q : ℕ) (low : t < p .thre
     under = let few = f .program .sized .few-locations in let l = fits .low-location in omega arith
 
     abbrev swapped : List Slot
-    swapped = writesBy m (broughtBy m (exchanges p q next))
+    swapped = writesBy m (broughtBy m (exchanges p s m q next))
 
     alone : ((waits p q (buffer s m) ≡ []) × (waits p q (joins (s .registers) m next) ≡ [])) ⊎ (swapped ≡ [])
     alone = ⊎-elim inl (λ e. inr (none e)) (gathered-alone (storeTo p q) p s f m there legal)
       where
-        none : eqb (next .operation) exchange ≡ false → swapped ≡ []
+        none : swaps p s m next ≡ false → swapped ≡ []
         none e = unfold exchanges both pick broughtBy writesBy in rw e refl
 
     issue-own : Keeps p s (issueStep m) m q

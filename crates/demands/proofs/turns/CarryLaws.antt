@@ -8,6 +8,7 @@ use native.Mathlib.Omega.{arith}
 use Rattle.cases.specs.declared.case.Instruction.{Instruction}
 use Rattle.cases.specs.declared.case.Step.{Step}
 use Rattle.cases.specs.declared.case.Program.{Program}
+use Rattle.cases.specs.Operations.{compare}
 use Rattle.cases.specs.Checks.{limitsOf, linesOf, stepFault, countAt}
 use Rattle.machine.specs.declared.cells.State.{State}
 use Rattle.machine.specs.View.{queue, buffer, issuedOf}
@@ -15,6 +16,7 @@ use Rattle.machine.specs.Rules.{instructionAt, ruleOf, nextOf}
 use Rattle.machine.specs.Joins.{joins, exchanges}
 use Rattle.machine.specs.Model.{Leads, Faultless}
 use Rattle.machine.specs.Next.{issueStep}
+use Rattle.machine.specs.Work.{Uncompared}
 use Rattle.machine.specs.Ptso.{ptso}
 use Rattle.machine.proofs.Promises.{step-fits, few-lines, issue-legal, leads-append, faultless-append}
 use Rattle.machine.proofs.Effects.{issue-issued, issue-issued-other, issue-buffer, issue-buffer-other}
@@ -34,7 +36,7 @@ pub record Carries (p : Program) (s : State) (ks : List Step) (t n : ℕ) : Type
 
 -- one instruction
 module _ (p : Program) (s : State) (o : Quiet p s) (t : ℕ) (low : t < p .threads)
-    (left : issuedOf s t < countAt p t) where
+    (left : issuedOf s t < countAt p t) (plain : instructionAt p t (issuedOf s t) .operation ≢ compare) where
   abbrev next : Instruction
   next = instructionAt p t (issuedOf s t)
 
@@ -51,7 +53,7 @@ module _ (p : Program) (s : State) (o : Quiet p s) (t : ℕ) (low : t < p .threa
   issued-buffer : buffer issued t ≡ joins (s .registers) t next
   issued-buffer = rw (issue-buffer p s (o .fit) t low (may-issue .1), o .buffers t low) refl
 
-  issued-queue : (q : ℕ) → q < linesOf p → queue issued q ≡ exchanges p q next
+  issued-queue : (q : ℕ) → q < linesOf p → queue issued q ≡ exchanges p s t q next
   issued-queue q h =
       let w = few-lines p (o .fit .program) in
       rw (issue-queue p s (o .fit) t low (may-issue .1) q (omega arith), o .queues q h) refl
@@ -59,9 +61,9 @@ module _ (p : Program) (s : State) (o : Quiet p s) (t : ℕ) (low : t < p .threa
   rest : (ks : List Step) × (carried p t next ≡ issueStep t ∷ ks) × Through p issued ks
   rest =
       let fits = o .fit .program .instructions t (issuedOf s t) left .1 in
-      behind p (s .registers) t low issued (step-fits p s (o .fit) (issueStep t) (may-issue .0) (may-issue .1))
+      behind p s t low issued (step-fits p s (o .fit) (issueStep t) (may-issue .0) (may-issue .1))
       issued-others (next .location) (next .register) (next .word) (fits .low-location) (next .operation)
-      (fits .some-operation) (fits .low-operation) issued-buffer issued-queue
+      (fits .some-operation) (fits .low-operation) plain issued-buffer issued-queue
 
   pub carries-one : Carries p s (carried p t next) t (suc (issuedOf s t))
   unfolding Faultless Leads
@@ -94,11 +96,12 @@ carries-append p s ks ms t m n one more =
       others = λ k h. more .others k h ∙ one .others k h;
     }
 
--- all instructions of a thread, one after the other
-module _ (p : Program) (t : ℕ) (low : t < p .threads) where
+-- all instructions of a thread, one after the other, of a program without a compare
+module _ (p : Program) (plain : Uncompared p) (t : ℕ) (low : t < p .threads) where
   carries-next : (i : ℕ) (s : State) → Quiet p s → issuedOf s t ≡ i → i < countAt p t
       → Carries p s (carried p t (instructionAt p t i)) t (suc i)
-  carries-next i s o e h = rw e at (carries-one p s o t low (rw e h))
+  unfolding Uncompared
+  carries-next i s o e h = rw e at (carries-one p s o t low (rw e h) (rw e (plain t i h)))
 
   carries-from : (i n : ℕ) (s : State) → Quiet p s → issuedOf s t ≡ i → i + n ≡ countAt p t
       → Carries p s (carriedFrom p t i n) t (countAt p t)

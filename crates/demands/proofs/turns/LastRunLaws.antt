@@ -14,6 +14,7 @@ use Rattle.cases.specs.Checks.{countAt}
 use Rattle.machine.specs.declared.cells.State.{State}
 use Rattle.machine.specs.View.{issuedOf}
 use Rattle.machine.specs.Model.{Leads, Faultless}
+use Rattle.machine.specs.Work.{Uncompared}
 use Rattle.machine.specs.Ptso.{ptso}
 use Rattle.demands.specs.Carried.{carriedAll, othersFrom}
 use Rattle.machine.proofs.Promises.{leads-append, faultless-append}
@@ -27,7 +28,7 @@ pub record Turn (p : Program) (t u : ℕ) (s : State) : Type 0 where
   pub past : (k : ℕ) → k < u → k ≢ t → issuedOf s k ≡ countAt p k
   pub ahead : (k : ℕ) → u ≤ k → issuedOf s k ≡ 0
 
-module _ (p : Program) (t : ℕ) where
+module _ (p : Program) (plain : Uncompared p) (t : ℕ) where
   -- the other threads, one after the other
   turn-same : (u : ℕ) (s : State) → u ≡ t → Turn p t u s → Turn p t (suc u) s
   turn-same u s e o =
@@ -42,7 +43,7 @@ module _ (p : Program) (t : ℕ) where
       → (v : State) × Faultless (ptso p) (carriedAll p u) × Leads (ptso p) s (carriedAll p u) v
       × Turn p t (suc u) v
   turn-more u s low e o =
-      let c = carries-all p u low s (o .quiet) (o .ahead u (omega arith)) in (
+      let c = carries-all p plain u low s (o .quiet) (o .ahead u (omega arith)) in (
         c .end,
         c .faultless,
         c .leads,

@@ -17,12 +17,12 @@ use Rattle.cases.specs.Choice.{pick, both, either}
 use Rattle.cases.specs.Checks.{limitsOf, linesOf, stepFault}
 use Rattle.cases.proofs.ChoiceLaws.{pick-true, pick-false}
 use Rattle.cases.proofs.Promises.{thread-low}
-use Rattle.cases.specs.Operations.{lastOperation, firstOperation}
+use Rattle.cases.specs.Operations.{compare, lastOperation, firstOperation}
 use Rattle.machine.specs.declared.cells.State.{State}
 use Rattle.machine.specs.declared.cells.Entry.{Entry}
 use Rattle.machine.specs.View.{Slot, lineOf, writeSlot, markerSlot, without, queue, buffer, issuedOf}
 use Rattle.machine.specs.Rules.{isBarrier, entryOf, ruleOf, nextOf}
-use Rattle.machine.specs.Joins.{joins, exchanges, enters}
+use Rattle.machine.specs.Joins.{joins, swaps, exchanges, enters}
 use Rattle.machine.specs.Fit.{Fits}
 use Rattle.machine.specs.Model.{Leads, Faultless}
 use Rattle.machine.specs.Next.{issueStep, moveStep, persistStep}
@@ -154,13 +154,14 @@ module _ (p : Program) (s : State) (t : ℕ) (low : t < p .threads) (e : Entry) 
       }))
 
 -- What stands behind an issue where nothing waited before, by the instruction's operation
-module _ (p : Program) (registers : List ℕ) (t : ℕ) (low : t < p .threads) (v : State) (fit : Fits p v)
+module _ (p : Program) (s : State) (t : ℕ) (low : t < p .threads) (v : State) (fit : Fits p v)
     (others : (k : ℕ) → k < p .threads → k ≢ t → buffer v k ≡ [])
     (l : Location) (r : Register) (w : ℕ) (there : l .0 < p .locations) where
   abbrev pub Behind : ℕ → Type 0
   Behind op =
-      buffer v t ≡ joins registers t (of op l r w)
-      → ((q : ℕ) → q < linesOf p → queue v q ≡ exchanges p q (of op l r w))
+      op ≢ compare
+      → buffer v t ≡ joins (s .registers) t (of op l r w)
+      → ((q : ℕ) → q < linesOf p → queue v q ≡ exchanges p s t q (of op l r w))
       → (ks : List Step) × (carried p t (of op l r w) ≡ issueStep t ∷ ks) × Through p v ks
 
   -- the queue of its location
@@ -184,21 +185,22 @@ module _ (p : Program) (registers : List ℕ) (t : ℕ) (low : t < p .threads) (
   quiet : buffer v t ≡ [] → ((q : ℕ) → q < linesOf p → queue v q ≡ []) → Quiet p v
   quiet b q = record { fit = fit; buffers = empty b; queues = q }
 
-  -- store word, store register, load, exchange, flush, flush-opt, sfence, mfence
+  -- store word, store register, load, exchange, flush, flush-opt, sfence, mfence; no compare
   pub behind : (op : ℕ) → firstOperation ≤ op → op ≤ lastOperation → Behind op
-  unfolding carried joins exchanges enters isBarrier entryOf both either pick
+  unfolding carried joins swaps exchanges enters isBarrier entryOf both either pick
   behind =
       each-operation Behind
-      (λ b q. (_, refl, through-queued p v t low _ (waits _ b q) own (writeSlot (l .0) w) own-there (λ k. refl)))
-      (λ b q. (_, refl, through-queued p v t low _ (waits _ b q) own _ own-there (λ k. refl)))
-      (λ b q. ([], refl, through-none p v (quiet b q)))
-      (λ b q. (
+      (λ n b q. (_, refl, through-queued p v t low _ (waits _ b q) own (writeSlot (l .0) w) own-there (λ k. refl)))
+      (λ n b q. (_, refl, through-queued p v t low _ (waits _ b q) own _ own-there (λ k. refl)))
+      (λ n b q. ([], refl, through-none p v (quiet b q)))
+      (λ n b q. (
         _,
         refl,
         through-persist p v own (writeSlot (l .0) w) own-there
             (record { fit = fit; buffers = empty b; queues = q }),
       ))
-      (λ b q. (_, refl, through-left p v t low _ (waits _ b q) (λ k. refl)))
-      (λ b q. (_, refl, through-queued p v t low _ (waits _ b q) own (markerSlot t) own-there (λ k. refl)))
-      (λ b q. (_, refl, through-left p v t low _ (waits _ b q) (λ k. refl)))
-      (λ b q. ([], refl, through-none p v (quiet b q)))
+      (λ n b q. (_, refl, through-left p v t low _ (waits _ b q) (λ k. refl)))
+      (λ n b q. (_, refl, through-queued p v t low _ (waits _ b q) own (markerSlot t) own-there (λ k. refl)))
+      (λ n b q. (_, refl, through-left p v t low _ (waits _ b q) (λ k. refl)))
+      (λ n b q. ([], refl, through-none p v (quiet b q)))
+      (λ n. absurd (n refl))

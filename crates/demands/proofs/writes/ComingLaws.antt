@@ -19,15 +19,17 @@ use Rattle.machine.specs.Fit.{Fits}
 use Rattle.machine.specs.Next.{moveStep, persistStep}
 use Rattle.machine.proofs.Effects.{move-within, move-first-or, move-issued, move-buffer, move-buffer-other}
 use Rattle.machine.proofs.Effects.{move-words, move-word, persist-issued, persist-buffer, persist-words}
-use Rattle.demands.specs.Writes.{issuesAt, fixedFrom}
+use Rattle.demands.specs.Writes.{issuesAt, fixedFrom, madeFrom}
 use Rattle.demands.proofs.writes.StoresLaws.{storesOf, fixesFrom, gathered-without, fixes-same}
-use Rattle.demands.proofs.fixed.IssuesLaws.{fixed-next, move-issues, persist-issues}
+use Rattle.demands.proofs.fixed.IssuesLaws.{fixed-next, made-next, move-issues, persist-issues}
 use Rattle.cases.proofs.Promises.{thread-low}
 
--- what thread t has to come to location l in the run ks from s: what waits in its buffer, then what it fixes
+-- what thread t has to come to location l in the run ks from s: what waits in its buffer, then what it really
+-- makes
 unfoldable pub coming : Program → State → List Step → ℕ → ℕ → List ℕ
 coming p s ks l t =
-    storesOf l (buffer s t) ++ fixesFrom p t l (fixedFrom p s ks t) (issuedOf s t) (countAt p t - issuedOf s t)
+    storesOf l (buffer s t)
+    ++ fixesFrom (madeFrom p s ks t l) (fixedFrom p s ks t) (issuedOf s t) (countAt p t - issuedOf s t)
 
 -- the step k: thread `thread` puts `new` on its way, `out` comes to memory
 pub record Passing (p : Program) (s : State) (k : Step) (ks : List Step) (l : ℕ) : Type 0 where
@@ -52,8 +54,10 @@ coming-taken p s k ks l t new h e b =
     rw (
       b,
       e,
-      fixes-same p t l (fixedFrom p s (k ∷ ks) t) (fixedFrom p (nextOf p s k) ks t) (issuedOf s t)
-          (countAt p t - issuedOf s t) (λ j m. fixed-next p s k ks t j (h j)),
+      fixes-same (madeFrom p s (k ∷ ks) t l) (madeFrom p (nextOf p s k) ks t l) (fixedFrom p s (k ∷ ks) t)
+          (fixedFrom p (nextOf p s k) ks t)
+          (issuedOf s t) (countAt p t - issuedOf s t) (λ j m. made-next p s k ks t j l (h j))
+          (λ j m. fixed-next p s k ks t j (h j)),
     )
     (append-assoc new (storesOf l (buffer (nextOf p s k) t)) _)
 

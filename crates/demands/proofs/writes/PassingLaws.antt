@@ -6,27 +6,25 @@ use mathlib.Core.Logic.{_⊎_, inl, inr, ⊎-elim}
 use mathlib.Core.Bool.{false}
 use mathlib.Core.List.{List, [], _∷_, _++_, append-assoc}
 use native.Mathlib.Omega.{arith}
-use lib.Dec.{eqb}
 use Rattle.cases.specs.declared.case.Instruction.{Instruction}
 use Rattle.cases.specs.declared.case.Step.{Step}
 use Rattle.cases.specs.declared.case.Program.{Program}
 use Rattle.cases.specs.Checks.{limitsOf, linesOf, stepFault, countAt}
 use Rattle.cases.specs.Ranges.{InstructionFits}
-use Rattle.cases.specs.Operations.{exchange}
 use Rattle.cases.specs.Choice.{pick, both}
 use Rattle.machine.specs.declared.cells.State.{State}
 use Rattle.machine.specs.View.{buffer, issuedOf}
 use Rattle.machine.specs.Rules.{instructionAt, ruleOf, nextOf}
-use Rattle.machine.specs.Joins.{joins, onlyIf, storeOf, swapOf, lastOr}
+use Rattle.machine.specs.Joins.{joins, swaps, onlyIf, storeOf, swapOf, lastOr}
 use Rattle.machine.specs.Fit.{Fits}
 use Rattle.machine.specs.Next.{issueStep, moveStep, persistStep}
 use Rattle.machine.proofs.Effects.{step-kinds, issue-left, issue-issued, issue-issued-other, issue-buffer}
 use Rattle.machine.proofs.Effects.{issue-buffer-other, issue-words, issue-word}
-use Rattle.demands.specs.Writes.{fixedFrom}
+use Rattle.demands.specs.Writes.{fixedFrom, madeFrom}
 use Rattle.demands.proofs.writes.StoresLaws.{storesOf, fixesFrom, gathered-append, gathered-alone}
 use Rattle.demands.proofs.writes.StoresLaws.{gathered-swap, stores-split, fixes-same}
-use Rattle.demands.proofs.fixed.IssuesLaws.{fixed-here, fixed-next, issues-here, issues-later}
-use Rattle.demands.proofs.fixed.IssuesLaws.{issues-other}
+use Rattle.demands.proofs.fixed.IssuesLaws.{fixed-here, fixed-next, made-here, made-next, issues-here}
+use Rattle.demands.proofs.fixed.IssuesLaws.{issues-later, issues-other}
 use Rattle.demands.proofs.writes.ComingLaws.{coming, Passing, coming-taken, persist-passing}
 use Rattle.demands.proofs.writes.ComingLaws.{move-passing}
 use Rattle.cases.proofs.Promises.{thread-low}
@@ -45,9 +43,11 @@ module _ (p : Program) (s : State) (f : Fits p s) (ks : List Step) (l : ℕ) (th
 
     -- what the instruction fixes, and what comes behind it
     fixes-next :
-        fixesFrom p t l (fixedFrom p s (issueStep t ∷ ks) t) (issuedOf s t) (countAt p t - issuedOf s t)
-        ≡ (storesOf l (joins (s .registers) t next) ++ swapOf l next)
-        ++ fixesFrom p t l (fixedFrom p after ks t) (issuedOf after t) (countAt p t - issuedOf after t)
+        fixesFrom (madeFrom p s (issueStep t ∷ ks) t l) (fixedFrom p s (issueStep t ∷ ks) t) (issuedOf s t)
+        (countAt p t - issuedOf s t)
+        ≡ (storesOf l (joins (s .registers) t next) ++ swapOf p s t l next)
+        ++ fixesFrom (madeFrom p after ks t l) (fixedFrom p after ks t) (issuedOf after t)
+        (countAt p t - issuedOf after t)
     unfolding fixesFrom
     fixes-next =
         let left = issue-left p s f t low legal in
@@ -55,12 +55,16 @@ module _ (p : Program) (s : State) (f : Fits p s) (ks : List Step) (l : ℕ) (th
         rw (
           issue-issued p s f t low legal,
           n,
+          made-here p s (issueStep t) ks t (issuedOf s t) l (issues-here s t),
           fixed-here p s (issueStep t) ks t (issuedOf s t) (issues-here s t),
-          stores-split s t l (next .location) (next .register) (next .word) (next .operation)
+          stores-split p s t l (next .location) (next .register) (next .word) (next .operation)
               (fits .some-operation)
               (fits .low-operation),
-          fixes-same p t l (fixedFrom p s (issueStep t ∷ ks) t) (fixedFrom p after ks t) (suc (issuedOf s t))
-              (countAt p t - suc (issuedOf s t))
+          fixes-same (madeFrom p s (issueStep t ∷ ks) t l) (madeFrom p after ks t l)
+              (fixedFrom p s (issueStep t ∷ ks) t)
+              (fixedFrom p after ks t)
+              (suc (issuedOf s t)) (countAt p t - suc (issuedOf s t))
+              (λ j m. made-next p s (issueStep t) ks t j l (issues-later s t j (λ e. omega arith)))
               (λ j m. fixed-next p s (issueStep t) ks t j (issues-later s t j (λ e. omega arith))),
         )
         refl
@@ -71,10 +75,10 @@ module _ (p : Program) (s : State) (f : Fits p s) (ks : List Step) (l : ℕ) (th
         sym (append-assoc a (j ++ n) r) ∙ ap (λ x. x ++ r) (gathered-swap a j n e) ∙ append-assoc n (a ++ j) r
 
     alone : ((storesOf l (buffer s t) ≡ []) × (storesOf l (joins (s .registers) t next) ≡ []))
-        ⊎ (swapOf l next ≡ [])
+        ⊎ (swapOf p s t l next ≡ [])
     alone = ⊎-elim inl (λ e. inr (none e)) (gathered-alone (storeOf l) p s f t low legal)
       where
-        none : eqb (next .operation) exchange ≡ false → swapOf l next ≡ []
+        none : swaps p s t next ≡ false → swapOf p s t l next ≡ []
         none e = unfold swapOf onlyIf both pick in rw e refl
 
     pub issue-passing : Passing p s (issueStep t) ks l
@@ -82,7 +86,7 @@ module _ (p : Program) (s : State) (f : Fits p s) (ks : List Step) (l : ℕ) (th
     issue-passing =
         record {
           thread = t;
-          new = swapOf l next;
+          new = swapOf p s t l next;
           out = [];
           low = λ n. low;
           queued = sym (issue-words p s f t low legal l there);

@@ -1,9 +1,9 @@
--- Location l's writes: those that wait in a store buffer, and those that a thread has still to fix. Assumes
+-- Location l's writes: those that wait in a store buffer, and those that a thread has still to make. Assumes
 -- nothing.
 use Prim.Native.Nat.{ℕ, zero, suc, _≤_, _<_}
 use mathlib.Core.Path.{_≡_, refl, sym, ap, _∙_}
 use mathlib.Core.Logic.{_⊎_, inl, inr}
-use mathlib.Core.Bool.{false}
+use mathlib.Core.Bool.{Bool, true, false}
 use mathlib.Core.List.{List, [], _∷_, _++_, append-nil, append-assoc}
 use native.Mathlib.Omega.{arith}
 use native.Mathlib.Numerals.{add-one}
@@ -14,7 +14,7 @@ use Rattle.cases.specs.declared.case.Register.{Register}
 use Rattle.cases.specs.declared.case.Instruction.{Instruction}
 use Rattle.cases.specs.declared.case.Program.{Program}
 use Rattle.cases.specs.Choice.{pick, both, either}
-use Rattle.cases.specs.Operations.{lastOperation, firstOperation, exchange}
+use Rattle.cases.specs.Operations.{lastOperation, firstOperation}
 use Rattle.machine.specs.declared.cells.State.{State}
 use Rattle.machine.specs.declared.cells.Waiting.{Waiting}
 use Rattle.machine.specs.declared.cells.Entry.{Entry}
@@ -22,11 +22,11 @@ use Rattle.machine.specs.View.{without, registerIn, buffer, issuedOf}
 use Rattle.machine.specs.Rules.{instructionAt, entryAt, entryOf, isBarrier, ruleOf}
 use Rattle.machine.specs.Fit.{Fits}
 use Rattle.machine.specs.Next.{issueStep}
-use Rattle.machine.specs.Joins.{joins, onlyIf, storeOf, swapOf}
+use Rattle.machine.specs.Joins.{joins, swaps, onlyIf, storeOf, swapOf}
 use Rattle.machine.proofs.OperationLaws.{each-operation, of}
-use Rattle.machine.proofs.Effects.{issue-left, exchange-alone}
+use Rattle.machine.proofs.Effects.{issue-left, barrier-alone}
 use Rattle.cases.specs.Ranges.{InstructionFits}
-use Rattle.demands.specs.Writes.{isWrite, writes, fixedBy}
+use Rattle.demands.specs.Writes.{really, makes, fixedBy}
 
 -- what f says of each entry that waits, joined
 unfoldable pub gathered : {A : Type 0} → (Entry → List A) → List Waiting → List A
@@ -36,10 +36,10 @@ gathered f (w ∷ b) = f (w .entry) ++ gathered f b
 abbrev pub storesOf : ℕ → List Waiting → List ℕ
 storesOf l b = gathered (storeOf l) b
 
--- the n instructions of thread t from the i-th on, where instruction j fixes the word f j
-unfoldable pub fixesFrom : Program → ℕ → ℕ → (ℕ → ℕ) → ℕ → ℕ → List ℕ
-fixesFrom p t l f i zero = []
-fixesFrom p t l f i (suc n) = onlyIf (writes (instructionAt p t i) l) (f i) ++ fixesFrom p t l f (suc i) n
+-- of the n instructions from the i-th on those that make a write, by m; instruction j fixes the word f j
+unfoldable pub fixesFrom : (ℕ → Bool) → (ℕ → ℕ) → ℕ → ℕ → List ℕ
+fixesFrom m f i zero = []
+fixesFrom m f i (suc n) = onlyIf (m i) (f i) ++ fixesFrom m f (suc i) n
 
 -- one behind another
 pub gathered-append : {A : Type 0} (f : Entry → List A) (b c : List Waiting)
@@ -61,25 +61,30 @@ gathered-without f (w ∷ b) (suc i) h (inr e) =
     let r = gathered-without f b i (omega arith) (inr e) in
     rw (add-one, e) (ap (λ x. f (w .entry) ++ x) (rw (e, add-one) at r))
 
--- words that are the same to the last
-pub fixes-same : (p : Program) (t l : ℕ) (f g : ℕ → ℕ) (i n : ℕ) → ((j : ℕ) → i ≤ j → f j ≡ g j)
-    → fixesFrom p t l f i n ≡ fixesFrom p t l g i n
+-- writes and words that are the same to the last
+pub fixes-same : (m o : ℕ → Bool) (f g : ℕ → ℕ) (i n : ℕ) → ((j : ℕ) → i ≤ j → m j ≡ o j)
+    → ((j : ℕ) → i ≤ j → f j ≡ g j)
+    → fixesFrom m f i n ≡ fixesFrom o g i n
 unfolding fixesFrom
-fixes-same p t l f g i zero h = refl
-fixes-same p t l f g i (suc n) h =
-    rw (h i (omega arith), fixes-same p t l f g (suc i) n (λ j k. h j (omega arith)))
+fixes-same m o f g i zero e h = refl
+fixes-same m o f g i (suc n) e h =
+    rw (
+      e i (omega arith),
+      h i (omega arith),
+      fixes-same m o f g (suc i) n (λ j k. e j (omega arith)) (λ j k. h j (omega arith)),
+    )
 
--- What an instruction fixes goes into its thread's buffer or straight into the queue
-module _ (s : State) (t l : ℕ) (m : Location) (r : Register) (w : ℕ) where
+-- What an instruction makes goes into its thread's buffer or straight into the queue
+module _ (p : Program) (s : State) (t l : ℕ) (m : Location) (r : Register) (w : ℕ) where
   abbrev Splits : ℕ → Type 0
-  Splits op = onlyIf (writes (of op m r w) l) (fixedBy s t (of op m r w))
-      ≡ storesOf l (joins (s .registers) t (of op m r w)) ++ swapOf l (of op m r w)
+  Splits op = onlyIf (makes p s t (of op m r w) l) (fixedBy s t (of op m r w))
+      ≡ storesOf l (joins (s .registers) t (of op m r w)) ++ swapOf p s t l (of op m r w)
 
   stored : (v : ℕ) → onlyIf (eqb (m .0) l) v ≡ (onlyIf (eqb (m .0) l) v ++ []) ++ []
   stored v = sym (append-nil (onlyIf (eqb (m .0) l) v ++ []) ∙ append-nil (onlyIf (eqb (m .0) l) v))
 
   pub stores-split : (op : ℕ) → firstOperation ≤ op → op ≤ lastOperation → Splits op
-  unfolding writes isWrite both either fixedBy joins isBarrier swapOf entryOf gathered storeOf onlyIf pick
+  unfolding makes really swaps both either fixedBy joins isBarrier swapOf entryOf gathered storeOf onlyIf pick
   stores-split =
       each-operation Splits
       (stored w)
@@ -90,18 +95,19 @@ module _ (s : State) (t l : ℕ) (m : Location) (r : Register) (w : ℕ) where
       refl
       refl
       refl
+      refl
 
-  -- an exchange puts nothing into the buffer; another instruction is none
+  -- a barrier puts nothing into the buffer; another instruction writes nothing at once
   abbrev Apart : ℕ → Type 0
-  Apart op = ((op ≡ exchange) × (joins (s .registers) t (of op m r w) ≡ [])) ⊎ (eqb op exchange ≡ false)
+  Apart op = ((isBarrier op ≡ true) × (joins (s .registers) t (of op m r w) ≡ [])) ⊎ (swaps p s t (of op m r w) ≡ false)
 
   stores-apart : (op : ℕ) → firstOperation ≤ op → op ≤ lastOperation → Apart op
-  unfolding joins isBarrier either pick
+  unfolding joins isBarrier swaps both either pick
   stores-apart =
       each-operation Apart (inr refl) (inr refl) (inr refl) (inl (refl, refl)) (inr refl) (inr refl) (inr refl)
-      (inr refl)
+      (inr refl) (inl (refl, refl))
 
--- what is issued legally: an exchange, with nothing in the buffer before and behind it, or another instruction
+-- what is issued legally: a barrier, with nothing in the buffer before and behind it, or what writes nothing at once
 module _ {A : Type 0} (g : Entry → List A) (p : Program) (s : State) (f : Fits p s) (t : ℕ) (low : t < p .threads)
     (legal : ruleOf p s (issueStep t) ≡ 0) where
   abbrev x : Instruction
@@ -111,16 +117,16 @@ module _ {A : Type 0} (g : Entry → List A) (p : Program) (s : State) (f : Fits
   fits = f .program .instructions t (issuedOf s t) (issue-left p s f t low legal) .1
 
   pub gathered-alone : ((gathered g (buffer s t) ≡ []) × (gathered g (joins (s .registers) t x) ≡ []))
-      ⊎ (eqb (x .operation) exchange ≡ false)
+      ⊎ (swaps p s t x ≡ false)
   unfolding gathered
   gathered-alone =
-      go (stores-apart s t 0 (x .location) (x .register) (x .word) (x .operation) (fits .some-operation)
+      go (stores-apart p s t 0 (x .location) (x .register) (x .word) (x .operation) (fits .some-operation)
       (fits .low-operation))
     where
-      go : ((x .operation ≡ exchange) × (joins (s .registers) t x ≡ [])) ⊎ (eqb (x .operation) exchange ≡ false)
+      go : ((isBarrier (x .operation) ≡ true) × (joins (s .registers) t x ≡ [])) ⊎ (swaps p s t x ≡ false)
           → ((gathered g (buffer s t) ≡ []) × (gathered g (joins (s .registers) t x) ≡ []))
-          ⊎ (eqb (x .operation) exchange ≡ false)
-      go (inl e) = inl (rw (exchange-alone p s f t low legal (e .0)) refl, rw (e .1) refl)
+          ⊎ (swaps p s t x ≡ false)
+      go (inl e) = inl (rw (barrier-alone p s f t low legal (e .0)) refl, rw (e .1) refl)
       go (inr e) = inr e
 
 -- so what goes straight on its way comes before or alone

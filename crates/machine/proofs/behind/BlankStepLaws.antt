@@ -16,7 +16,7 @@ use Rattle.cases.specs.Sizes.{mostInstructions, allCode}
 use Rattle.cases.specs.Checks.{linesOf}
 use Rattle.cases.proofs.ArrayLaws.{getD-blank}
 use Rattle.cases.proofs.Promises.{thread-low}
-use Rattle.cases.specs.Operations.{firstOperation, lastOperation}
+use Rattle.cases.specs.Operations.{exchange, compare, firstOperation, lastOperation}
 use Rattle.machine.specs.declared.cells.State.{State}
 use Rattle.machine.specs.declared.cells.Entry.{Entry}
 use Rattle.machine.specs.declared.cells.Entry.the-variants.{Store, Flush, FlushOpt, Sfence}
@@ -25,8 +25,9 @@ use Rattle.machine.specs.View.{Slot, lineOf, writeSlot, markerSlot, with
 use Rattle.machine.specs.View.{withWord, blankWaiting, buffer, issuedOf}
 use Rattle.machine.specs.Parts.{partsOf}
 use Rattle.machine.specs.Behind.{BlankBehind}
-use Rattle.machine.specs.Rules.{enqueue, await, instructionAt, issueRule, entryOf, loaded, exchanged}
-use Rattle.machine.specs.Rules.{performed, issueOf, effectOf, moveRule, moveOf, settled, persistFirst, persistOf}
+use Rattle.machine.specs.Look.{queuedWord}
+use Rattle.machine.specs.Rules.{enqueue, await, instructionAt, issueRule, entryOf, loaded, fetched, exchanged}
+use Rattle.machine.specs.Rules.{matches, compared, performed, issueOf, effectOf, moveRule, moveOf, settled, persistFirst, persistOf}
 use Rattle.machine.specs.Rules.{ruleOf, nextOf, startOf}
 use Rattle.cases.specs.Ranges.{ProgramFits}
 use Rattle.machine.specs.Fit.{Fits, Named}
@@ -87,18 +88,21 @@ module _ (p : Program) (s : State) (t : ℕ) (o : Spare p s t) (blank : BlankBeh
 
   performed-blank : (l : Location) (r : Register) (w : ℕ) → l .0 < p .locations
       → (op : ℕ) → firstOperation ≤ op → op ≤ lastOperation → BlankBehind (performed p s t (of op l r w))
-  unfolding performed pick entryOf loaded exchanged
+  unfolding performed pick entryOf loaded fetched exchanged compared
   performed-blank l r w there =
+      let swapped = enqueue-blank p _ t (register-spare p s t o (r .0) (queuedWord p s (l .0)))
+      (blank-register s blank t _ _) (lineOf p (l .0)) (to (l .0) there) (writeSlot (l .0) w) in
       each-operation (λ op. BlankBehind (performed p s t (of op l r w)))
       (await-blank p s t o blank low _)
       (await-blank p s t o blank low _)
       (blank-register s blank t _ _)
-      (enqueue-blank p _ t (register-spare p s t o _ _) (blank-register s blank t _ _) (lineOf p (l .0))
-      (to (l .0) there) (writeSlot (l .0) w))
+      swapped
       (await-blank p s t o blank low _)
       (await-blank p s t o blank low _)
       (await-blank p s t o blank low _)
       blank
+      (pick-cases BlankBehind (matches p s t (of compare l r w)) (exchanged p s t (of exchange l r w))
+      (fetched p s t (of exchange l r w)) (λ e. swapped) (λ e. blank-register s blank t _ _))
 
   effect-blank : (e : Entry) → Named (p .locations) e → BlankBehind (effectOf p s t e)
   unfolding effectOf Named

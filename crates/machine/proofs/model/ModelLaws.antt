@@ -13,7 +13,7 @@ use Rattle.cases.specs.declared.case.Step.{Step}
 use Rattle.cases.specs.Draft.{noStep}
 use Rattle.cases.specs.Choice.{pick}
 use Rattle.machine.specs.Model.{Model, Leads, Faultless, allowed, legalSteps, spent, Listed, Ascending}
-use Rattle.machine.specs.Model.{Lawful, EachCostsOne, StopsAt}
+use Rattle.machine.specs.Model.{Lawful, StopsAt}
 
 module _ {K : Type 0} (rule : K → ℕ) where
   -- among the allowed are exactly the listed ones that break no rule
@@ -66,7 +66,6 @@ module _ {S K : Type 0} (m : Model S K) where
   faultless-append [] js a b = b
   faultless-append (k ∷ ks) js a b = (a .0, faultless-append ks js (a .1) b)
 
-  -- where every step uses up one, so many steps use up so much
   -- the first n of some steps; the one at a position
   faultless-take : (n : ℕ) (ks : List K) → Faultless m ks → Faultless m (take n ks)
   unfolding Faultless
@@ -79,14 +78,6 @@ module _ {S K : Type 0} (m : Model S K) where
   faultless-at n [] d low h = absurd (omega arith)
   faultless-at zero (k ∷ ks) d low h = h .0
   faultless-at (suc n) (k ∷ ks) d low h = faultless-at n ks d (omega arith) (h .1)
-
-  pub spent-length : EachCostsOne m → (s : S) (ks : List K) → spent m s ks ≡ length ks
-  unfolding EachCostsOne spent
-  spent-length one s [] = refl
-  spent-length one s (k ∷ ks) =
-      let a = one s k in
-      let b = spent-length one (m .after s k) ks in
-      omega arith
 
   module _ {Fit : S → Type 0} {rank : K → ℕ} (laws : Lawful m Fit rank) where
     -- the list of next steps holds the legal ones, exactly, in order, each once

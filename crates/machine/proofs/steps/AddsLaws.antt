@@ -3,6 +3,7 @@
 use Prim.Native.Nat.{ℕ, _≤_, _<_}
 use mathlib.Core.Path.{_≡_, refl, sym}
 use mathlib.Core.Logic.{_≢_}
+use mathlib.Core.Bool.{Bool, true, false}
 use mathlib.Core.List.{List, [], _∷_, _++_, append-nil}
 use native.Mathlib.Omega.{arith}
 use native.Mathlib.Decide.{ℕ-discrete}
@@ -15,7 +16,7 @@ use Rattle.cases.specs.declared.case.Program.{Program}
 use Rattle.cases.specs.Choice.{pick, both, either}
 use Rattle.cases.specs.Sizes.{mostThreads, mostInstructions, mostLocations}
 use Rattle.cases.specs.Checks.{linesOf}
-use Rattle.cases.specs.Operations.{lastOperation, firstOperation}
+use Rattle.cases.specs.Operations.{exchange, compare, lastOperation, firstOperation}
 use Rattle.machine.specs.declared.cells.State.{State}
 use Rattle.machine.specs.declared.cells.Waiting.{Waiting}
 use Rattle.machine.specs.declared.cells.Entry.{Entry}
@@ -23,9 +24,9 @@ use Rattle.machine.specs.declared.cells.Entry.the-variants.{Store, Flush
 use Rattle.machine.specs.Sizes.{room}
 use Rattle.machine.specs.View.{Slot, lineOf, writeSlot, markerSlot, queue, queueLen, withQueue, buffer}
 use Rattle.machine.specs.View.{withBuffer, wordOf, withRegister, issuedOf}
-use Rattle.machine.specs.Rules.{enqueue, await, isBarrier, entryOf, loaded, exchanged, performed}
-use Rattle.machine.specs.Rules.{effectOf}
-use Rattle.machine.specs.Joins.{joins, exchanges, enters}
+use Rattle.machine.specs.Rules.{enqueue, await, isBarrier, entryOf, loaded, fetched, exchanged, matches}
+use Rattle.machine.specs.Rules.{compared, performed, effectOf}
+use Rattle.machine.specs.Joins.{joins, swaps, exchanges, enters}
 use Rattle.machine.specs.Fit.{Named}
 use Rattle.machine.proofs.OperationLaws.{each-operation, of}
 use Rattle.machine.proofs.view.QueueLaws.{queue-same, queue-other}
@@ -121,25 +122,43 @@ module _ (p : Program) (s : State) (t : ℕ) (o : Spare p s t) (low : t < p .thr
   to : (l : ℕ) → l < p .locations → lineOf p l < linesOf p
   to = line-there p (o .fit .program)
 
-  pub performed-adds : (l : Location) (r : Register) (w : ℕ) → l .0 < p .locations
-      → (op : ℕ) → firstOperation ≤ op → op ≤ lastOperation
-      → Adds s (performed p s t (of op l r w)) t (joins (s .registers) t (of op l r w))
-      (λ q. exchanges p q (of op l r w))
-  unfolding performed pick both either isBarrier entryOf loaded exchanged joins exchanges
-  performed-adds l r w there =
-      each-operation
-      (λ op. Adds s (performed p s t (of op l r w)) t (joins (s .registers) t (of op l r w))
-      (λ q. exchanges p q (of op l r w)))
-      (adds-await p s t o low _)
-      (adds-await p s t o low _)
-      (adds-register s _ t _ _ _ _ (adds-none _ t))
-      (adds-register s _ t _ _ _ _
-      (adds-enqueue p _ t (register-spare p s t o _ _) (lineOf p (l .0)) (to (l .0) there)
-      (writeSlot (l .0) w)))
-      (adds-await p s t o low _)
-      (adds-await p s t o low _)
-      (adds-await p s t o low _)
-      (adds-none s t)
+  module _ (l : Location) (r : Register) (w : ℕ) (there : l .0 < p .locations) where
+    fetched-adds : Adds s (fetched p s t (of exchange l r w)) t [] (λ q. [])
+    unfolding fetched
+    fetched-adds = adds-register s _ t _ _ _ _ (adds-none _ t)
+
+    exchanged-adds : Adds s (exchanged p s t (of exchange l r w)) t []
+        (λ q. pick (eqb (lineOf p (l .0)) q) (writeSlot (l .0) w ∷ []) [])
+    unfolding exchanged fetched
+    exchanged-adds =
+        adds-register s _ t _ _ _ _
+        (adds-enqueue p _ t (register-spare p s t o _ _) (lineOf p (l .0)) (to (l .0) there)
+        (writeSlot (l .0) w))
+
+    compared-adds : (b : Bool)
+        → Adds s (pick b (exchanged p s t (of exchange l r w)) (fetched p s t (of exchange l r w))) t []
+        (λ q. pick (both b (eqb (lineOf p (l .0)) q)) (writeSlot (l .0) w ∷ []) [])
+    unfolding pick both
+    compared-adds true = exchanged-adds
+    compared-adds false = fetched-adds
+
+    pub performed-adds : (op : ℕ) → firstOperation ≤ op → op ≤ lastOperation
+        → Adds s (performed p s t (of op l r w)) t (joins (s .registers) t (of op l r w))
+        (λ q. exchanges p s t q (of op l r w))
+    unfolding performed pick both either isBarrier entryOf loaded fetched exchanged compared joins swaps exchanges
+    performed-adds =
+        each-operation
+        (λ op. Adds s (performed p s t (of op l r w)) t (joins (s .registers) t (of op l r w))
+        (λ q. exchanges p s t q (of op l r w)))
+        (adds-await p s t o low _)
+        (adds-await p s t o low _)
+        (adds-register s _ t _ _ _ _ (adds-none _ t))
+        exchanged-adds
+        (adds-await p s t o low _)
+        (adds-await p s t o low _)
+        (adds-await p s t o low _)
+        (adds-none s t)
+        (compared-adds (matches p s t (of compare l r w)))
 
   pub effect-adds : (e : Entry) → Named (p .locations) e
       → Adds s (effectOf p s t e) t [] (λ q. enters p t q e)

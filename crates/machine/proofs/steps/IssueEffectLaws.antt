@@ -3,23 +3,24 @@
 use Prim.Native.Nat.{ℕ, suc, _+_, _≤_, _<_}
 use mathlib.Core.Path.{_≡_, _∙_}
 use mathlib.Core.Logic.{_≢_}
+use mathlib.Core.Bool.{true}
 use mathlib.Core.List.{[], _++_}
 use native.Mathlib.Omega.{arith}
 use native.Mathlib.Numerals.{add-one}
 use borrow.Author.Tests.{ltb-false}
 use Rattle.cases.specs.declared.case.Instruction.{Instruction}
 use Rattle.cases.specs.declared.case.Program.{Program}
-use Rattle.cases.specs.Choice.{pick, either}
+use Rattle.cases.specs.Choice.{pick}
 use Rattle.cases.specs.Sizes.{mostThreads, mostLocations}
 use Rattle.cases.proofs.ChoiceLaws.{refuse-none}
 use Rattle.cases.proofs.Promises.{thread-low}
 use Rattle.cases.specs.Checks.{countAt}
-use Rattle.cases.specs.Operations.{exchange}
 use Rattle.machine.specs.declared.cells.State.{State}
 use Rattle.machine.specs.View.{queue, bufferIn, buffer, bufferLen, wordOf, issuedOf, withIssued}
 use Rattle.machine.specs.Rules.{instructionAt, isBarrier, barrierRule, operationRule, issueRule, issueOf}
-use Rattle.machine.specs.Rules.{ruleIn, ruleOf, nextOf}
-use Rattle.machine.specs.Joins.{joins, exchanges}
+use Rattle.machine.specs.Rules.{matches, ruleIn, ruleOf, nextOf}
+use Rattle.machine.specs.Look.{queuedWord}
+use Rattle.machine.specs.Joins.{joins, swaps, exchanges}
 use Rattle.machine.specs.Next.{issueStep}
 use Rattle.machine.specs.Fit.{Fits}
 use Rattle.machine.proofs.lists.PartLaws.{part-none}
@@ -43,8 +44,8 @@ module _ (p : Program) (s : State) (f : Fits p s) (t : ℕ) (low : t < p .thread
 
   issue-adds : Adds (withIssued s t (issuedOf s t + 1)) (nextOf p s (issueStep t)) t
       (joins (s .registers) t next)
-      (λ q. exchanges p q next)
-  unfolding nextOf pick issueOf withIssued
+      (λ q. exchanges p s t q next)
+  unfolding nextOf pick issueOf withIssued exchanges swaps matches queuedWord
   issue-adds =
       let x = f .program .instructions t (issuedOf s t) issue-left .1 in
       performed-adds p _ t (counted-spare p s f t low issue-left) low (next .location) (next .register)
@@ -66,7 +67,7 @@ module _ (p : Program) (s : State) (f : Fits p s) (t : ℕ) (low : t < p .thread
   issue-buffer-other = issue-adds .others
 
   pub issue-queue : (q : ℕ) → q < mostLocations
-      → queue (nextOf p s (issueStep t)) q ≡ queue s q ++ exchanges p q next
+      → queue (nextOf p s (issueStep t)) q ≡ queue s q ++ exchanges p s t q next
   unfolding withIssued
   issue-queue = issue-adds .queues
 
@@ -74,10 +75,10 @@ module _ (p : Program) (s : State) (f : Fits p s) (t : ℕ) (low : t < p .thread
   unfolding withIssued
   issue-word = issue-adds .words
 
-  -- rule 22 and the exchange
-  pub exchange-alone : next .operation ≡ exchange → buffer s t ≡ []
-  unfolding ruleOf ruleIn pick issueRule operationRule isBarrier either barrierRule bufferIn
-  exchange-alone e =
+  -- rule 22: exchange, compare and mfence are issued with nothing in the own buffer
+  pub barrier-alone : isBarrier (next .operation) ≡ true → buffer s t ≡ []
+  unfolding ruleOf ruleIn pick issueRule operationRule barrierRule bufferIn
+  barrier-alone e =
       let rest = rw e at (refuse-none _ 20 _ legal .1) in
       let n : bufferLen s t ≤ 0 = ltb-false _ _ (refuse-none _ 21 _ rest .0) in
       part-none _ _ _ (omega arith)

@@ -1,27 +1,33 @@
--- Issue: what an instruction does keeps the fit, and lowers the work left by one. Assumes nothing.
-use mathlib.Core.Logic.{inl}
-use Prim.Native.Nat.{ℕ, _+_, _≤_, _<_}
-use mathlib.Core.Path.{_≡_, refl, _∙_}
+-- Issue: what an instruction does keeps the fit, and lowers the work left by one, a compare that fails by two.
+-- Assumes nothing.
+use mathlib.Core.Logic.{inl, _≢_}
+use Prim.Native.Nat.{ℕ, suc, _+_, _*_, _≤_, _<_}
+use mathlib.Core.Path.{_≡_, refl, sym, ap, _∙_}
+use mathlib.Core.Bool.{Bool, true, false, not}
 use native.Mathlib.Omega.{arith}
-use borrow.Author.Tests.{leb-false}
+use borrow.Author.Tests.{leb-false, eq-eqb, ne-eqb}
+use lib.ListN.{length}
 use Rattle.cases.specs.declared.case.Location.{Location}
 use Rattle.cases.specs.declared.case.Register.{Register}
 use Rattle.cases.specs.declared.case.Instruction.{Instruction}
 use Rattle.cases.specs.declared.case.Program.{Program}
-use Rattle.cases.specs.Choice.{pick}
+use Rattle.cases.specs.Choice.{pick, both}
 use Rattle.cases.specs.Ranges.{InstructionFits}
-use Rattle.cases.proofs.ChoiceLaws.{refuse-none}
+use Rattle.cases.proofs.ChoiceLaws.{refuse-none, pick-cases}
 use Rattle.cases.proofs.Promises.{thread-low}
 use Rattle.cases.specs.Checks.{countAt, linesOf}
-use Rattle.cases.specs.Operations.{lastOperation, firstOperation}
+use Rattle.cases.specs.Operations.{exchange, compare, lastOperation, firstOperation}
 use Rattle.machine.specs.declared.cells.State.{State}
 use Rattle.machine.specs.declared.cells.Entry.the-variants.{Flush, FlushOpt, Sfence}
-use Rattle.machine.specs.Sizes.{room}
+use Rattle.cases.specs.Sizes.{mostThreads, mostRegisters}
+use lib.Seq.{getD-set-same}
+use Rattle.machine.specs.Sizes.{room, allRegisters}
 use Rattle.machine.specs.View.{writeSlot, lineOf, queue, queueLen, buffer, wordOf, withRegister}
-use Rattle.machine.specs.View.{issuedOf, withIssued}
+use Rattle.machine.specs.View.{registerIn, issuedOf, withIssued}
 use Rattle.machine.specs.Parts.{partsOf}
 use Rattle.machine.specs.Look.{newestWrite, newestStore, queuedWord, loadOf}
-use Rattle.machine.specs.Rules.{instructionAt, issueRule, entryOf, loaded, exchanged, performed, issueOf}
+use Rattle.machine.specs.Rules.{instructionAt, issueRule, entryOf, loaded, fetched, exchanged, matches}
+use Rattle.machine.specs.Rules.{compared, fails, performed, issueOf, enqueue}
 use Rattle.machine.specs.Fit.{Fits, Named}
 use Rattle.machine.specs.Work.{unissuedWeight, waitingWeight, work}
 use Rattle.machine.proofs.OperationLaws.{each-operation, of}
@@ -38,44 +44,67 @@ module _ (p : Program) (s : State) (t : ℕ) (o : Spare p s t) (low : t < p .thr
 
   performed-fits : (op : ℕ) → firstOperation ≤ op → op ≤ lastOperation
       → Fits p (performed p s t (of op l r w))
-  unfolding performed pick entryOf Named loaded exchanged
+  unfolding performed pick entryOf Named loaded fetched exchanged compared
   performed-fits =
+      let swapped = enqueue-fits p _ t (register-spare p s t o (r .0) (queuedWord p s (l .0))) (lineOf p (l .0)) to
+      (writeSlot (l .0) w) (inl (there, refl)) in
       each-operation (λ op. Fits p (performed p s t (of op l r w)))
       (await-fits p s t o low _ there)
       (await-fits p s t o low _ there)
       (fits-register p s (o .fit) t _ _)
-      (enqueue-fits p _ t (register-spare p s t o _ _) (lineOf p (l .0)) to (writeSlot (l .0) w)
-      (inl (there, refl)))
+      swapped
       (await-fits p s t o low (Flush l) there)
       (await-fits p s t o low (FlushOpt l) there)
       (await-fits p s t o low Sfence tt)
       (o .fit)
+      (pick-cases (Fits p) (matches p s t (of compare l r w)) (exchanged p s t (of exchange l r w))
+      (fetched p s t (of exchange l r w)) (λ e. swapped) (λ e. fits-register p s (o .fit) t _ _))
 
-  performed-work : (op : ℕ) → firstOperation ≤ op → op ≤ lastOperation
-      → work p (performed p s t (of op l r w)) + 1 ≡ work p s + unissuedWeight op
-  unfolding performed pick entryOf loaded exchanged unissuedWeight waitingWeight
-  performed-work =
-      let z = thread-low (o .fit .program) low in
+  -- the register takes the word read: as much is left; and the write goes to the queue's end: one more
+  abbrev fetch : State
+  fetch = fetched p s t (of exchange l r w)
+
+  fetched-work : work p fetch ≡ work p s
+  unfolding fetched
+  fetched-work = work-register p s (o .fit) t (r .0) (queuedWord p s (l .0))
+
+  exchanged-work : work p (exchanged p s t (of exchange l r w)) ≡ suc (work p s)
+  unfolding exchanged fetched
+  exchanged-work =
       let y = few-lines p (o .fit .program) in
       let at = to in
-      let b = o .space in
       let q = o .queues (lineOf p (l .0)) (omega arith) in
-      let v = queuedWord p s (l .0) in
-      let x = work-register p s (o .fit) t (r .0) v in
-      let f = register-spare p s t o (r .0) v in
-      let n : queueLen (withRegister s t (r .0) v) (lineOf p (l .0)) < room
-      = unfold withRegister in omega arith in
-      let e = work-enqueue p (withRegister s t (r .0) v) (f .fit) (lineOf p (l .0)) (omega arith) n
-      (writeSlot (l .0) w) in
-      each-operation (λ op. work p (performed p s t (of op l r w)) + 1 ≡ work p s + unissuedWeight op)
+      let f = register-spare p s t o (r .0) (queuedWord p s (l .0)) in
+      let n : queueLen fetch (lineOf p (l .0)) < room = unfold withRegister in omega arith in
+      work-enqueue p fetch (f .fit) (lineOf p (l .0)) (omega arith) n (writeSlot (l .0) w)
+      ∙ ap suc fetched-work
+
+  -- a compare leaves one where it succeeds, nothing where it fails
+  compared-work : (b : Bool)
+      → work p (pick b (exchanged p s t (of exchange l r w)) fetch) + pick (not b) 2 1 ≡ work p s + 2
+  unfolding pick
+  compared-work true = rw exchanged-work (omega arith)
+  compared-work false = rw fetched-work refl
+
+  performed-work : (op : ℕ) → firstOperation ≤ op → op ≤ lastOperation
+      → work p (performed p s t (of op l r w)) + pick (fails p s t (of op l r w)) 2 1
+      ≡ work p s + unissuedWeight op
+  unfolding performed pick both entryOf loaded fetched exchanged compared fails unissuedWeight waitingWeight
+  performed-work =
+      let z = thread-low (o .fit .program) low in
+      let b = o .space in
+      each-operation
+      (λ op. work p (performed p s t (of op l r w)) + pick (fails p s t (of op l r w)) 2 1
+      ≡ work p s + unissuedWeight op)
       (rw (work-await p s (o .fit) t (omega arith) (omega arith)) (omega arith))
       (rw (work-await p s (o .fit) t (omega arith) (omega arith)) (omega arith))
       (rw (work-register p s (o .fit) t (r .0)) (omega arith))
-      (omega arith)
+      (rw exchanged-work (omega arith))
       (rw (work-await p s (o .fit) t (omega arith) (omega arith)) (omega arith))
       (rw (work-await p s (o .fit) t (omega arith) (omega arith)) (omega arith))
       (rw (work-await p s (o .fit) t (omega arith) (omega arith)) (omega arith))
       refl
+      (compared-work (matches p s t (of compare l r w)))
 
 -- Issue
 module _ (p : Program) (s : State) (f : Fits p s) (t : ℕ) (legal : issueRule p (partsOf s) t ≡ 0) where
@@ -96,8 +125,8 @@ module _ (p : Program) (s : State) (f : Fits p s) (t : ℕ) (legal : issueRule p
       (there .0) (next .location) (next .register) (next .word) (there .1 .low-location) (next .operation)
       (there .1 .some-operation) (there .1 .low-operation)
 
-  pub issue-work : work p (issueOf p s t) + 1 ≡ work p s
-  unfolding issueOf
+  pub issue-work : work p (issueOf p s t) + pick (fails p s t next) 2 1 ≡ work p s
+  unfolding issueOf fails matches queuedWord withIssued
   issue-work =
       performed-work p (withIssued s t (issuedOf s t + 1)) t (counted-spare p s f t (there .0) issue-left)
       (there .0) (next .location) (next .register) (next .word) (there .1 .low-location) (next .operation)
@@ -112,3 +141,25 @@ pub load-is : (p : Program) (s : State) (t : ℕ) (x : Instruction) (q queued fo
     → withRegister s t (x .register .0) found ≡ loaded p s t x
 unfolding loaded loadOf queuedWord
 load-is p s t x q queued found g e f = rw (f, e, g)
+
+-- a compare, by what its register holds before and behind the look: where that is the same word it is written,
+-- else nothing is
+module _ (p : Program) (s : State) (t : ℕ) (x : Instruction) (long : length (s .registers) ≡ allRegisters)
+    (low : t < mostThreads) (few : x .register .0 < mostRegisters) (u : State) (e : u ≡ fetched p s t x) where
+  read : registerIn (u .registers) t (x .register .0) ≡ queuedWord p s (x .location .0)
+  unfolding fetched withRegister
+  read = rw e (getD-set-same (s .registers) (t * mostRegisters + x .register .0) _ 0 (omega arith))
+
+  pub compare-some : registerIn (u .registers) t (x .register .0) ≡ registerIn (s .registers) t (x .register .0)
+      → (q : ℕ) (v : State)
+      → q ≡ lineOf p (x .location .0)
+      → v ≡ enqueue u q (writeSlot (x .location .0) (x .word))
+      → v ≡ compared p s t x
+  unfolding compared matches exchanged pick
+  compare-some same q v to is =
+      rw (is, to, e, eq-eqb _ _ (sym read ∙ same)) refl
+
+  pub compare-none : registerIn (u .registers) t (x .register .0) ≢ registerIn (s .registers) t (x .register .0)
+      → u ≡ compared p s t x
+  unfolding compared matches pick
+  compare-none other = rw (e, ne-eqb _ _ (λ same. other (read ∙ same))) refl

@@ -30,6 +30,7 @@ use Rattle.machine.proofs.view.LineOfLaws.{few-lines, line-there}
 use Rattle.machine.proofs.fit.FitLaws.{fits-queue-within, fits-queue-long, fits-buffer-long, fits-queue}
 use Rattle.machine.proofs.fit.FitLaws.{fits-word}
 use Rattle.machine.proofs.fit.SpareLaws.{Spare, marks-borne, taken-spare, enqueue-fits}
+use Rattle.machine.proofs.work.CostLaws.{cost-issue, cost-other}
 use Rattle.machine.proofs.work.WorkLaws.{work-queue, work-enqueue, work-without, work-word}
 use Rattle.machine.proofs.steps.StepFaultLaws.{InRange}
 use Rattle.machine.proofs.steps.IssueLaws.{issue-fits, issue-work}
@@ -180,9 +181,10 @@ module _ (p : Program) (s : State) (f : Fits p s) (k : Step) where
       (λ c. persist-fits p s f (k .location .0))
 
   pub step-work : InRange p k → ruleOf p s k ≡ 0 → work p (nextOf p s k) + cost p s k ≡ work p s
-  unfolding cost
   step-work =
-      step-cases p s k (λ u. work p u + 1 ≡ work p s)
-      (λ c. issue-work p s f (k .thread .0))
-      (λ c. move-work p s f (k .thread .0) (k .position))
-      (λ c. persist-work p s f (k .location .0))
+      step-cases p s k (λ u. work p u + cost p s k ≡ work p s)
+      (λ c legal. rw (cost-issue p s k c) (issue-work p s f (k .thread .0) legal))
+      (λ c low legal.
+      rw (cost-other p s k (λ e. omega arith)) (move-work p s f (k .thread .0) (k .position) low legal))
+      (λ c low legal.
+      rw (cost-other p s k (λ e. omega arith)) (persist-work p s f (k .location .0) low legal))

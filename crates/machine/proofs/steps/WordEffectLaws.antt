@@ -13,7 +13,6 @@ use lib.Dec.{eqb}
 use Rattle.cases.specs.declared.case.Instruction.{Instruction}
 use Rattle.cases.specs.declared.case.Program.{Program}
 use Rattle.cases.specs.Choice.{pick, both}
-use Rattle.cases.specs.Operations.{exchange}
 use Rattle.cases.proofs.ChoiceLaws.{pick-false, pick-cases}
 use Rattle.cases.specs.Sizes.{mostLocations}
 use Rattle.cases.specs.Checks.{linesOf}
@@ -24,7 +23,7 @@ use Rattle.machine.specs.View.{Slot, markOf, lineOf, writeSlot, markerSl
 use Rattle.machine.specs.Sizes.{firstMarker}
 use Rattle.machine.specs.Look.{wordOr}
 use Rattle.machine.specs.Rules.{instructionAt, entryAt, ruleOf, nextOf, startOf}
-use Rattle.machine.specs.Joins.{exchanges, enters, onlyIf, writesOf, storeOf, swapOf, onWay, lastOr}
+use Rattle.machine.specs.Joins.{swaps, exchanges, enters, onlyIf, writesOf, storeOf, swapOf, onWay, lastOr}
 use Rattle.machine.specs.Next.{issueStep, moveStep, persistStep}
 use Rattle.machine.specs.Fit.{Fits, Borne}
 use Rattle.machine.proofs.view.LineOfLaws.{few-lines, line-low}
@@ -68,10 +67,10 @@ marker-words l h false t = refl
 
 -- what an instruction and an entry put into the queue of a location's line are, of that location, the words that
 -- they bring there
-exchanges-writes : (p : Program) (l : ℕ) (x : Instruction)
-    → writesOf l (exchanges p (lineOf p l) x) ≡ swapOf l x
+exchanges-writes : (p : Program) (s : State) (t l : ℕ) (x : Instruction)
+    → writesOf l (exchanges p s t (lineOf p l) x) ≡ swapOf p s t l x
 unfolding exchanges swapOf
-exchanges-writes p l x = go (eqb (x .operation) exchange)
+exchanges-writes p s t l x = go (swaps p s t x)
   where
     go : (b : Bool)
         → writesOf l
@@ -110,9 +109,9 @@ module _ (p : Program) (s : State) (f : Fits p s) where
 
   pub issue-words : (t : ℕ) → t < p .threads → ruleOf p s (issueStep t) ≡ 0
       → (l : ℕ) → l < p .locations
-      → onWay p (nextOf p s (issueStep t)) l ≡ onWay p s l ++ swapOf l (instructionAt p t (issuedOf s t))
+      → onWay p (nextOf p s (issueStep t)) l ≡ onWay p s l ++ swapOf p s t l (instructionAt p t (issuedOf s t))
   issue-words t there legal l h =
-      on-way _ l _ _ (issue-queue p s f t there legal (lineOf p l) (low l h)) (exchanges-writes p l _)
+      on-way _ l _ _ (issue-queue p s f t there legal (lineOf p l) (low l h)) (exchanges-writes p s t l _)
 
   pub move-words : (t i : ℕ) → t < p .threads → ruleOf p s (moveStep t i) ≡ 0
       → (l : ℕ) → l < p .locations

@@ -57,7 +57,8 @@ weight-most op =
     pick-cases (λ n. n ≤ 3) _ _ _ (λ h. omega arith) (λ h.
     pick-cases (λ n. n ≤ 3) _ _ _ (λ h. omega arith) (λ h.
     pick-cases (λ n. n ≤ 3) _ _ _ (λ h. omega arith) (λ h.
-    pick-cases (λ n. n ≤ 3) _ _ _ (λ h. omega arith) (λ h. omega arith)))))))
+    pick-cases (λ n. n ≤ 3) _ _ _ (λ h. omega arith) (λ h.
+    pick-cases (λ n. n ≤ 3) _ _ _ (λ h. omega arith) (λ h. omega arith))))))))
 
 -- a loop has weighed the first i of the n from base on, each at most `most`: with those still to weigh it is
 -- all

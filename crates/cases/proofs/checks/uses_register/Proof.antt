@@ -12,5 +12,9 @@ returns-2 : tie.Need-returns-2
 unfolding usesRegister
 returns-2 c = search choices
 
+returns-3 : tie.Need-returns-3
+unfolding usesRegister
+returns-3 c = search choices
+
 pub uses-register-spec : {M : Type 1} → statement M
-uses-register-spec = tie.close (tie.spec returns returns-2)
+uses-register-spec = tie.close (tie.spec returns returns-2 returns-3)

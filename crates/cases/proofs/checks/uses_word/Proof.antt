@@ -12,5 +12,9 @@ returns-2 : tie.Need-returns-2
 unfolding usesWord
 returns-2 c = search choices
 
+returns-3 : tie.Need-returns-3
+unfolding usesWord
+returns-3 c = search choices
+
 pub uses-word-spec : {M : Type 1} → statement M
-uses-word-spec = tie.close (tie.spec returns returns-2)
+uses-word-spec = tie.close (tie.spec returns returns-2 returns-3)

@@ -12,5 +12,9 @@ returns-2 : tie.Need-returns-2
 unfolding isBarrier
 returns-2 c = search choices
 
+returns-3 : tie.Need-returns-3
+unfolding isBarrier
+returns-3 c = search choices
+
 pub is-barrier-spec : {M : Type 1} → statement M
-is-barrier-spec = tie.close (tie.spec returns returns-2)
+is-barrier-spec = tie.close (tie.spec returns returns-2 returns-3)

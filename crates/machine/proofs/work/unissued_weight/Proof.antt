@@ -60,7 +60,19 @@ returns-8 c = (
   omega arith,
 )
 
+returns-9 : tie.Need-returns-9
+unfolding unissuedWeight
+returns-9 c = (
+  pick-next _ _ _ _ (search choices)
+      (pick-next _ _ _ _ (search choices)
+      (pick-next _ _ _ _ (search choices)
+      (pick-next _ _ _ _ (search choices)
+      (pick-next _ _ _ _ (search choices)
+      (search choices))))),
+  omega arith,
+)
+
 pub unissued-weight-spec : {M : Type 1} → statement M
 unissued-weight-spec =
     tie.close
-    (tie.spec returns returns-2 returns-3 returns-4 returns-5 returns-6 returns-7 returns-8)
+    (tie.spec returns returns-2 returns-3 returns-4 returns-5 returns-6 returns-7 returns-8 returns-9)
