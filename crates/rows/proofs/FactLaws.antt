@@ -17,7 +17,7 @@ use Rattle.search.specs.Question.{reaches, Decided, reached, unreachable, undec
 use Rattle.search.specs.Question.{questionOf, shownBy, shownOf}
 use Rattle.search.proofs.Promises.{question-reached, question-unreachable, question-undecided, shown-run}
 use Rattle.search.proofs.Promises.{only-reached-stores}
-use Rattle.rows.specs.Row.{Row, asked, ruled, opened, rowNumber, rowProgram, rowAsk, said, due, Fact}
+use Rattle.rows.specs.Row.{Row, asked, ruled, ended, opened, rowNumber, rowProgram, rowAsk, said, due, Fact}
 
 -- two definitions that say the same of a whole list say the same of each that is on it
 pub listed-same : {A B : Type 0} (f g : A → B) (x : A) (xs : List A) → map f xs ≡ map g xs → Listed x xs
@@ -62,4 +62,5 @@ said-fact (asked rs full b d) e =
           )),
     )
 said-fact (ruled rs v) e = cc
+said-fact (ended rs full n hs r w) e = (cc, cc, cc, cc, cc)
 said-fact (opened rs n at) e = (cc, cc)

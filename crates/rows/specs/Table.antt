@@ -1,7 +1,7 @@
 -- Document 01, "Rows proved of the rules (marked *) and rows run": all of them, a list for each line of 01.
--- Above each stands 01's line, with a * where 01 has one. Behind them the rows of the requests P3 and P4 of document
--- 02. A run, an index, a full length or a place that they do not name is as the second judge tells it.
---   table         the rows, in 01's order, then P3's and P4's
+-- Above each stands 01's line, with a * where 01 has one. Behind them the rows of the requests P3, P4 and P5 of
+-- document 02. A run, an index, a full length or a place that they do not name is as the second judge tells it.
+--   table         the rows, in 01's order, then P3's, P4's and P5's
 --   outage        the records of its second row; outageBytes: the 50 bytes that 01 has for it
 -- "In the rows below "store x" means x=500, and a budget not named is 1,000,000."
 -- Assumes nothing.
@@ -14,8 +14,9 @@ use Rattle.machine.specs.declared.runs.Verdict.the-variants.{Legal, Illegal}
 use Rattle.search.specs.Question.{reached, unreachable, undecided}
 use Rattle.rows.specs.Words.{x, y, z, header, lined, program, threads, first, store, storeRegister, load, exchange, flush}
 use Rattle.rows.specs.Words.{flushOpt, sfence, mfence, want, passed, taking, issue, move, persist, inBuffer}
-use Rattle.rows.specs.Words.{inQueue}
-use Rattle.rows.specs.Row.{Row, asked, ruled, opened}
+use Rattle.rows.specs.Words.{compare, inQueue}
+use Rattle.machine.specs.View.{writeSlot}
+use Rattle.rows.specs.Row.{Row, asked, ruled, ended, opened}
 
 -- "a budget not named is 1,000,000"
 abbrev usual : ℕ
@@ -214,9 +215,48 @@ lowestQueue =
     (Illegal 28 5 (inQueue 0 0))
     ∷ []
 
+-- P5: "Load y into register 0; compare x, register 0, word 7; both issued: x's queue holds 7, register 0 is 0, work
+-- left 1. Full length 3."
+abbrev lockTaken : List Row
+lockTaken =
+    ended (threads 1 ∷ load 0 y ∷ compare 0 x 7 ∷ taking (issue 0 ∷ issue 0 ∷ [])) 3 2 (writeSlot x 7 ∷ []) 0 1
+    ∷ []
+
+-- "The same with first content x=5: nothing written, register 0 is 5, work left 0; finished after two steps, one less
+-- than the full length."
+abbrev lockHeld : List Row
+lockHeld =
+    ended (threads 1 ∷ first x 5 ∷ load 0 y ∷ compare 0 x 7 ∷ taking (issue 0 ∷ issue 0 ∷ [])) 3 2 [] 5 0
+    ∷ []
+
+-- "Load x into register 0; store y=1; compare x, register 0, word 7, all issued in turn: index 2, rule 22. First
+-- content x=5; load y into register 0; flush-opt y, moved; a compare of x that would fail: rule 23."
+abbrev compareWaits : List Row
+compareWaits =
+    ruled (threads 1 ∷ load 0 x ∷ store 0 y 1 ∷ compare 0 x 7 ∷ taking (issue 0 ∷ issue 0 ∷ issue 0 ∷ []))
+    (Illegal 22 2 (inBuffer 0 0))
+    ∷ ruled
+    (threads 1 ∷ first x 5 ∷ load 0 y ∷ flushOpt 0 y ∷ compare 0 x 7
+    ∷ taking (issue 0 ∷ issue 0 ∷ move 0 0 ∷ issue 0 ∷ []))
+    (Illegal 23 3 (inQueue 1 0))
+    ∷ []
+
+-- "Two threads, each: load y into register 0; compare x, register 0, word 1 (thread 1: 2); passed 2 and 2."
+abbrev rivals : ℕ → List Record
+rivals w =
+    threads 2 ∷ load 0 y ∷ compare 0 x 1 ∷ load 1 y ∷ compare 1 x 2 ∷ want x w ∷ passed 0 2 ∷ passed 1 2 ∷ []
+
+-- "Want x=1: reached, `I0 I0 I1 I1 P0`; want x=2: reached, `I0 I1 I1 I0 P0`."
+abbrev eitherTakes : List Row
+eitherTakes =
+    asked (rivals 1) 6 usual (reached (issue 0 ∷ issue 0 ∷ issue 1 ∷ issue 1 ∷ persist x ∷ []))
+    ∷ asked (rivals 2) 6 usual (reached (issue 0 ∷ issue 1 ∷ issue 1 ∷ issue 0 ∷ persist x ∷ []))
+    ∷ []
+
 unfoldable pub table : List Row
 table =
     noInstructions ++ tornRow ++ flushed ++ flushedOpt ++ fenceIssued
     ++ passing ++ barriers ++ othersMarker ++ bothLoadZero ++ mostOfEach
     ++ oneLine ++ twoLines ++ neighbourFlushed ++ neighboursWait ++ headers
     ++ barBehind ++ markerBehind ++ lowestQueue
+    ++ lockTaken ++ lockHeld ++ compareWaits ++ eitherTakes

@@ -4,7 +4,7 @@
 --   header n m ls     kind 1 of version 2, of m locations, with the line bytes ls
 --   lined ls          the same of one thread and as many locations as lines
 --   first l w         kind 2
---   store, storeRegister, load, exchange, flush, flushOpt, sfence, mfence
+--   store, storeRegister, load, exchange, flush, flushOpt, sfence, mfence, compare
 --                     kind 3: an instruction of thread t, at location l, with the word w
 --   want l w          kind 4
 --   passed t n        kind 5
@@ -86,6 +86,9 @@ sfence t = instruction t operation.sfence 0 0
 
 abbrev pub mfence : ℕ → Record
 mfence t = instruction t operation.mfence 0 0
+
+abbrev pub compare : ℕ → ℕ → ℕ → Record
+compare t l w = instruction t operation.compare l w
 
 abbrev pub want : ℕ → ℕ → Record
 want l w = Want (record { location = record { 0 = l }; word = w })
