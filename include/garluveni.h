@@ -33,7 +33,8 @@ enum {
     /* A step as it is stored: a record of kind 6, that is 4, 0, 6, 0, thread, code, position, location. A
      * persist names a cache line there; in a case of version 1 that is the location's number. */
     GARLUVENI_STEP_BYTES = 8,
-    /* No run is longer than its program's full length, and no full length is above this. */
+    /* No run is longer than its program's full length, one with a failed compare is shorter, and no full length
+     * is above this. */
     GARLUVENI_STEPS = 96,
     /* With so many bytes lent no question is refused with 31. */
     GARLUVENI_STEPS_BYTES = GARLUVENI_STEP_BYTES * GARLUVENI_STEPS
@@ -54,8 +55,8 @@ enum garluveni_answers {
 
     /* Rules of the machine, from the judge; the place is the index of the first illegal step, from 0. */
     GARLUVENI_NONE_LEFT = 21,         /* issue: the thread has no instruction left */
-    GARLUVENI_BUFFER_NOT_EMPTY = 22,  /* issue of an exchange or mfence: the own buffer is not empty */
-    GARLUVENI_MARKER_QUEUED = 23,     /* issue of an exchange or mfence: a marker of the thread is in a queue */
+    GARLUVENI_BUFFER_NOT_EMPTY = 22,  /* issue of an exchange, compare or mfence: the own buffer is not empty */
+    GARLUVENI_MARKER_QUEUED = 23,     /* issue of one of these: a marker of the thread is in a queue */
     GARLUVENI_NO_ENTRY = 24,          /* move: no entry at the position */
     GARLUVENI_NOT_FIRST = 25,         /* move: behind position 0, and not a flush-opt */
     GARLUVENI_BARRED = 26,            /* move: a flush-opt behind an entry that it may not pass */

@@ -6,7 +6,7 @@
 #include "garluveni.h"
 
 enum { X, Y, Z, W };
-enum { STORE = 1, STORE_REGISTER, LOAD, EXCHANGE, FLUSH, FLUSH_OPT, SFENCE, MFENCE };
+enum { STORE = 1, STORE_REGISTER, LOAD, EXCHANGE, FLUSH, FLUSH_OPT, SFENCE, MFENCE, COMPARE };
 enum { MILLION = 1000000, GUARD = 64, ROOM = MILLION + 2 * GUARD, UNTOUCHED = 0xEE };
 
 /* The budget of the question program. */
@@ -318,6 +318,74 @@ static void blockers(void)
     CHECK(garluveni_blocker_position(third) == 2);
 }
 
+/* The start of a program whose compares are of X with 0, which X holds at first or not. */
+static void compared(uint8_t first)
+{
+    program(&f, 1, 2);
+    if (first != 0)
+        first_content(&f, X, first);
+    instruction(&f, 0, LOAD, Y, 0);
+}
+
+/* A compare waits as an exchange does, whether it would succeed or fail. */
+static void compare_rules(uint8_t first)
+{
+    compared(first);
+    instruction(&f, 0, STORE, Y, 1);
+    instruction(&f, 0, COMPARE, X, 5);
+    run(&f, "I0 I0 I0");
+    BLOCKED(&f, GARLUVENI_BUFFER_NOT_EMPTY, 2, GARLUVENI_IN_BUFFER, 0, 0);
+    compared(first);
+    instruction(&f, 0, FLUSH_OPT, Y, 0);
+    instruction(&f, 0, COMPARE, X, 5);
+    run(&f, "I0 I0 M0.0 I0");
+    BLOCKED(&f, GARLUVENI_MARKER_QUEUED, 3, GARLUVENI_IN_QUEUE, Y, 0);
+}
+
+/* A success leaves one write, a failure none; then the register holds the word that was read. */
+static void compare_runs(void)
+{
+    compared(0);
+    instruction(&f, 0, COMPARE, X, 5);
+    run(&f, "I0 I0 P0");
+    JUDGES(&f, GARLUVENI_LEGAL, 3);
+    run(&f, "P0");
+    JUDGES(&f, GARLUVENI_QUEUE_EMPTY, 3);
+    compared(7);
+    instruction(&f, 0, COMPARE, X, 5);
+    run(&f, "I0 I0");
+    JUDGES(&f, GARLUVENI_LEGAL, 2);
+    run(&f, "P0");
+    JUDGES(&f, GARLUVENI_QUEUE_EMPTY, 2);
+    compared(7);
+    instruction(&f, 0, COMPARE, X, 5);
+    instruction(&f, 0, COMPARE, X, 6);
+    run(&f, "I0 I0 I0 P0");
+    JUDGES(&f, GARLUVENI_LEGAL, 4);
+    /* the newest write of X, with a neighbour's behind it in their line's queue */
+    LINED(&f, 1, 0, 0);
+    instruction(&f, 0, STORE, X, 5);
+    instruction(&f, 0, STORE, Y, 1);
+    instruction(&f, 0, LOAD, X, 0);
+    instruction(&f, 0, COMPARE, X, 6);
+    run(&f, "I0 I0 I0 M0.0 M0.0 I0 P0 P0 P0");
+    JUDGES(&f, GARLUVENI_LEGAL, 9);
+}
+
+/* The last operation, of a location and a register that there are; there is no tenth. */
+static void compare_refusals(void)
+{
+    program(&f, 1, 1);
+    instruction(&f, 0, COMPARE, Y, 5);
+    REFUSED(&f, GARLUVENI_RANGE, 8);
+    program(&f, 1, 1);
+    ADD(&f, 8, 0, 3, 0, 0, COMPARE, X, 4, 5, 0, 0, 0);
+    REFUSED(&f, GARLUVENI_RANGE, 8);
+    compared(0);
+    instruction(&f, 0, COMPARE + 1, X, 5);
+    REFUSED(&f, GARLUVENI_RANGE, 20);
+}
+
 static void persist_rule(void)
 {
     program(&f, 1, 1);
@@ -439,6 +507,24 @@ static void lengths(size_t least, uint32_t budget)
         ASKS(&f, length, budget, GARLUVENI_REACHED, &steps);
 }
 
+/* The same room is asked for where the compare fails, and no run is that long. */
+static void compare_questions(void)
+{
+    compared(0);
+    instruction(&f, 0, COMPARE, X, 5);
+    want(&f, X, 5);
+    steps.length = 0;
+    run(&steps, "I0 I0 P0");
+    ASKS(&f, 24, 3, GARLUVENI_UNDECIDED, &none);
+    lengths(24, 4);
+    compared(7);
+    instruction(&f, 0, COMPARE, X, 5);
+    want(&f, X, 5);
+    ASKS(&f, 23, 3, GARLUVENI_SHORT, &none);
+    ASKS(&f, 24, 2, GARLUVENI_UNDECIDED, &none);
+    ASKS(&f, 24, 3, GARLUVENI_UNREACHABLE, &none);
+}
+
 /* Full length 96, and the only run that reaches the question among the first is the first of that length. */
 static void deepest(void)
 {
@@ -505,6 +591,10 @@ int main(void)
     issue_rules();
     move_rules();
     blockers();
+    compare_rules(0);
+    compare_rules(7);
+    compare_runs();
+    compare_refusals();
     persist_rule();
     legal_runs();
     longest_file();
@@ -513,6 +603,7 @@ int main(void)
     budgets();
     outage();
     lengths(48, BUDGET);
+    compare_questions();
     depth();
     empty_buffers();
     million_bytes();
