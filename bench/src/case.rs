@@ -13,6 +13,7 @@ pub enum Operation {
     FlushOpt(u8),
     Sfence,
     Mfence,
+    Compare(u8, u8, u32),
 }
 
 pub struct Case {
@@ -59,14 +60,15 @@ impl Operation {
             FlushOpt(location) => (6, location, 0, 0),
             Sfence => (7, 0, 0, 0),
             Mfence => (8, 0, 0, 0),
+            Compare(location, register, word) => (9, location, register, word),
         }
     }
 
-    /// How many steps the operation takes from issued to done (document 01, "Work left and the walk").
+    /// How many steps the operation takes at most from issued to done (document 01, "Work left and the walk").
     fn weight(self) -> usize {
         match self {
             StoreWord(..) | StoreRegister(..) | FlushOpt(_) => 3,
-            Flush(_) | Sfence | Exchange(..) => 2,
+            Flush(_) | Sfence | Exchange(..) | Compare(..) => 2,
             Load(..) | Mfence => 1,
         }
     }

@@ -32,7 +32,15 @@ pub const NOW: Library = library!(garluveni_judge, garluveni_question);
 /// The build to compare with, whose functions bench/build has given these names.
 pub const BEFORE: Library = library!(before_judge, before_question);
 
+/// The rules' numbers, and those of the answers, are above those of reading's refusals.
+const FIRST_RULE: u32 = 21;
+
 impl Library {
+    /// Does reading refuse the case's file?
+    pub fn refuses(&self, file: &[u8]) -> bool {
+        self.judge(file) % 256 < FIRST_RULE
+    }
+
     /// The packed number for the run in the case's file.
     pub fn judge(&self, file: &[u8]) -> u32 {
         // A whole slice of this program, alive during the call.

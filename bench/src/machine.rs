@@ -95,7 +95,7 @@ impl<S: Shape> State<S> {
     fn may_issue(&self, case: &Case, thread: u8) -> bool {
         match self.next_operation(case, thread) {
             None => false,
-            Some(Exchange(..) | Mfence) => self.waiting(thread) == 0 && !self.has_marker(thread),
+            Some(Exchange(..) | Compare(..) | Mfence) => self.waiting(thread) == 0 && !self.has_marker(thread),
             Some(_) => true,
         }
     }
@@ -121,19 +121,30 @@ impl<S: Shape> State<S> {
                 local.buffer.add(Entry::Store(location, word));
             }
             Load(location, register) => {
-                let word = self.newest(thread, location);
-                self.threads[thread as usize].registers[register as usize] = word;
+                self.load(thread, location, register);
             }
             Exchange(location, register, word) => {
-                let old = self.newest(thread, location);
-                self.threads[thread as usize].registers[register as usize] = old;
+                self.load(thread, location, register);
                 self.locations[location as usize].queue.add(Slot::Write(word));
+            }
+            Compare(location, register, word) => {
+                let expected = local.registers[register as usize];
+                if self.load(thread, location, register) == expected {
+                    self.locations[location as usize].queue.add(Slot::Write(word));
+                }
             }
             Flush(location) => local.buffer.add(Entry::Flush(location)),
             FlushOpt(location) => local.buffer.add(Entry::FlushOpt(location)),
             Sfence => local.buffer.add(Entry::Sfence),
             Mfence => {}
         }
+    }
+
+    /// The register takes the newest word, which is given back.
+    fn load(&mut self, thread: u8, location: u8, register: u8) -> u32 {
+        let word = self.newest(thread, location);
+        self.threads[thread as usize].registers[register as usize] = word;
+        word
     }
 
     /// The word that a load of the thread takes.

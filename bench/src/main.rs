@@ -2,7 +2,8 @@
 //! process. All sides must agree on the answers, the steps and the number of runs, else nothing is measured.
 //!
 //! Without arguments it prints the tables. For a counter of instructions `names` lists the questions and the judged
-//! runs, and `question I` and `judge I` have each build answer the Ith once.
+//! runs by number, and `question I` and `judge I` have each build answer the Ith once. A case that the earlier build
+//! refuses, as one from before operation 9 does a compare, is left out.
 
 mod agree;
 mod case;
@@ -16,7 +17,9 @@ mod table;
 mod walk;
 
 use case::Case;
+use library::BEFORE;
 use measure::Times;
+use pairs::Pair;
 use rows::Arrays;
 use walk::Answer;
 
@@ -47,7 +50,7 @@ pub extern "C" fn main() -> i32 {
 }
 
 fn questions() -> Result<(), String> {
-    let mut cases: Vec<(Case, Answer)> = table::cases().into_iter().map(answered).collect();
+    let mut cases: Vec<(Case, Answer)> = table::cases().into_iter().filter(in_both).map(answered).collect();
     cases.sort_by_key(|(_, answer)| answer.runs);
     for (case, answer) in &cases {
         agree::all_agree(case, answer).map_err(|difference| format!("{}: {}", case.name, difference))?;
@@ -70,8 +73,17 @@ fn answered(case: Case) -> (Case, Answer) {
     (case, answer)
 }
 
+/// The earlier build is called for it: not where its instructions are counted.
+fn in_both(case: &Case) -> bool {
+    let refused = BEFORE.refuses(&case.bytes());
+    if refused {
+        println!("bench: left out, since the earlier build refuses it: {}", case.name);
+    }
+    !refused
+}
+
 fn judged() -> Result<(), String> {
-    let pairs = pairs::pairs();
+    let pairs: Vec<Pair> = pairs::pairs().into_iter().filter(|pair| in_both(&pair.run)).collect();
     for case in pairs.iter().flat_map(|pair| [&pair.run, &pair.beside]) {
         agree::all_pass(case).map_err(|difference| format!("{}: {}", case.name, difference))?;
     }
@@ -84,13 +96,15 @@ fn judged() -> Result<(), String> {
     Ok(())
 }
 
-/// A line for each: of a question how many runs of the walk decide it, of a judged run how many of its steps count.
+/// A line for each: its number, and of a question how many runs of the walk decide it, of a judged run how many of its
+/// steps count.
 fn names() -> Result<(), String> {
-    for (case, answer) in table::cases().into_iter().map(answered) {
-        println!("question {} {}", answer.runs, case.name);
+    for (which, case) in table::cases().into_iter().enumerate().filter(|(_, case)| in_both(case)) {
+        let (case, answer) = answered(case);
+        println!("question {} {} {}", which, answer.runs, case.name);
     }
-    for pair in pairs::pairs() {
-        println!("judge {} {}", pair.counted, pair.run.name);
+    for (which, pair) in pairs::pairs().iter().enumerate().filter(|(_, pair)| in_both(&pair.run)) {
+        println!("judge {} {} {}", 2 * which, pair.counted, pair.run.name);
     }
     Ok(())
 }

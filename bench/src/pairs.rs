@@ -1,5 +1,5 @@
 //! Pairs of judged runs that differ in what some of their steps do, so that the difference is what it costs. The looks
-//! are loads and exchanges that go through full buffers and queues, beside as many that find nothing to go through.
+//! are loads, exchanges and compares that go through full buffers and queues, beside as many that find nothing to go through.
 //! A load is an instruction too: the fullest buffer that one can look through has seven entries, the fullest queue
 //! thirty-one.
 
@@ -76,6 +76,10 @@ pub fn pairs() -> Vec<Pair> {
     let write = StoreWord(X, 1);
     let loads = |count| [X, Y].map(|location| vec![Load(location, 0); count]);
     let swap = |location| Exchange(location, 0, 1);
+    // the exchange gives the register the word that the compares find
+    let compares = |first, others: [u8; 6]| {
+        [vec![swap(first)], others.map(|location| Compare(location, 0, 1)).to_vec()].concat()
+    };
     vec![
         stores("move", queued, issued),
         stores("persist", persisted, queued),
@@ -85,5 +89,6 @@ pub fn pairs() -> Vec<Pair> {
         behind_queue("load behind 31 writes", write, 7, loads(1)),
         behind_queue("load past 24 markers", FlushOpt(X), 0, loads(8)),
         behind_queue("swap behind 24 writes", write, 0, [vec![swap(X); 7], (1..8).map(swap).collect()]),
+        behind_queue("compare, 24 writes", write, 0, [compares(X, [X; 6]), compares(Y, [2, 3, 4, 5, 6, 7])]),
     ]
 }

@@ -1,4 +1,4 @@
-//! The ten cases that are measured, from eight runs to a million.
+//! The eleven cases that are measured, from eight runs to a million.
 
 use crate::case::{Case, Operation, Operation::*};
 
@@ -41,12 +41,15 @@ fn of_more_threads() -> Vec<Case> {
     let copied_to_y = [Load(X, 1), StoreRegister(Y, 1)];
     let swap = [StoreWord(X, 1), Exchange(Y, 0, 2), StoreRegister(X, 0)];
     let swap_between = [FlushOpt(X), Exchange(Y, 1, 5), Mfence, Flush(X)];
+    let compare = [StoreWord(X, 1), Load(Z, 0), Compare(Y, 0, 2), StoreRegister(X, 0)];
+    let compare_flushed = [Load(Z, 1), Compare(Y, 1, 5), Flush(X)];
     let writers: [&[Operation]; 2] = [&[StoreWord(X, 1)], &[StoreWord(Y, 1)]];
     let readers: [&[Operation]; 2] = [&[Load(X, 0), Load(Y, 1)], &[Load(Y, 0), Load(X, 1)]];
     vec![
         case("read while waiting", 3, &[&own_store_read, &copied_to_z], &[(X, 0), (Y, 0), (Z, 1)]),
         case("flushed, handed on", 3, &[&flushed, &copied_to_z], &[(X, 0), (Z, 1)]),
         case("swaps", 2, &[&swap, &swap_between], &[(X, 5), (Y, 5)]),
+        case("compares, one fails", 3, &[&compare, &compare_flushed], &[(X, 5), (Y, 2)]),
         case("writers and readers", 2, &[writers, readers].concat(), &[(X, 2)]),
         case("three threads", 3, &[&flushed_later, &copied_to_y, &[StoreWord(Z, 1)]], &[(Y, 2)]),
     ]
