@@ -1,5 +1,5 @@
 -- How runs end.
--- run, stuck, finished, done, full, none, one, every, step, work, working: while there is something to do
+-- run, stuck, finished, done, none, spent, work, working: while there is something to do
 pub mod EndLaws
--- memory: what stands there at the end; in, written, unissued
+-- memory: what stands there at the end; in, written, unissued, plain
 pub mod MemoryLaws

@@ -67,10 +67,11 @@ blocked =
       run = runWith (issueStep 0 ∷ issueStep 0 ∷ []);
     }
 
--- load location l into register 0; compare location l with register 0, word w
+-- load location l into register 0
 abbrev loading : ℕ → Instruction
 loading l = record { operation = load; location = record { 0 = l }; register = record { 0 = 0 }; word = 0 }
 
+-- compare location l with register 0, word w
 abbrev comparing : ℕ → ℕ → Instruction
 comparing l w =
     record { operation = compare; location = record { 0 = l }; register = record { 0 = 0 }; word = w }

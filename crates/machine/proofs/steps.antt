@@ -1,7 +1,7 @@
 -- A step (specs/Rules, Model): what it names, what a legal one keeps, lowers and changes, and that there is one.
 -- fault, issue-fault, move-fault, persist-fault, step-kinds: the checks 5 and 8; InRange, StepKinds
 pub mod StepFaultLaws
--- issue-fits, issue-work and issue-left; load
+-- issue-fits, issue-work and issue-left; load, compare
 pub mod IssueLaws
 -- move-fits, persist-work, step-fits and their like
 pub mod StepLaws
