@@ -20,12 +20,12 @@ use Rattle.cases.specs.Writing.{sameRun, sameCase, readsAs, readsBack}
 
 -- readOf, and what it takes to know a record's fault
 unfoldable pub reading-computes : ℕ
-unfolding pick both either refuse half wordAt listedOf table ownLines newAfter unordered linesIn payloadOf spareOf
-    mislong asRow lineBytes asHeader asWrite asInstruction asStep recordOf openNo sizeOf kindRank misplaced
-    disordered outside beyond leftOver headerOut mislisted usesLocation usesRegister usesWord instructionOut instructionLeft
-    passedOut linesOf stepOut stepLeft faultOf emptyCase lineTable lineCount withSizes withHeader withFirst
-    withInstruction withWant withPassed withStep withProgram withAsk withRun blankDraft addOf refusedOf endedOf
-    readFrom readOf
+unfolding pick both either refuse half wordAt listedOf table ownLines newAfter unordered linesIn payloadOf
+    spareOf mislong asRow lineBytes asHeader asWrite asInstruction asStep recordOf openNo sizeOf kindRank
+    misplaced disordered outside beyond leftOver headerOut mislisted usesLocation usesRegister usesWord
+    instructionOut instructionLeft passedOut linesOf stepOut stepLeft faultOf emptyCase lineTable lineCount
+    withSizes withHeader withFirst withInstruction withWant withPassed withStep withProgram withAsk withRun
+    blankDraft addOf refusedOf endedOf readFrom readOf
 reading-computes = 0
 
 -- the bytes of records

@@ -1,5 +1,5 @@
-// Document 01, "Operations" and "Step codes", and 02's ninth operation: their numbers, here and nowhere else of the code;
-// specs/Operations.antt has the same for the definitions.
+// Document 01, "Operations" and "Step codes", and 02's ninth operation: their numbers, here and nowhere else of the
+// code; specs/Operations.antt has the same for the definitions.
 
 pub const STORE_WORD: u8 = 1;
 

@@ -90,7 +90,8 @@ module _ (c : Case) (readable : readsBack c ≡ true) where
         CannotGoOn (ptso (c .program)) u
         → length ks + failuresOf (c .program) ks ≡ fullLength (ptso (c .program))
     finished-length stuck =
-        sym (spent-is ks) ∙ EndLaws.finished-spends (ptso (c .program)) (case-lawful c readable) working ks u run stuck
+        sym (spent-is ks)
+        ∙ EndLaws.finished-spends (ptso (c .program)) (case-lawful c readable) working ks u run stuck
 
     -- Where it cannot go on, every instruction is issued and no entry waits.
     pub nothing-left : CannotGoOn (ptso (c .program)) u → Unfinished (c .program) u → ⊥

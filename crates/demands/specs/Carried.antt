@@ -1,6 +1,6 @@
--- Demand 3, "any of those threads can be the one", of a program without operation 9: the run in which a thread comes last, written out. Every
--- other thread in turn, then that one; each instruction is carried through, from its issue to the memory,
--- before the next.
+-- Demand 3, "any of those threads can be the one", of a program without operation 9: the run in which a thread
+-- comes last, written out. Every other thread in turn, then that one; each instruction is carried through, from
+-- its issue to the memory, before the next.
 --   carried p t x         the steps that carry instruction x of thread t through
 --   carriedFrom p t i n   those of the n instructions of thread t from the i-th on
 --   carriedAll p t        those of all its instructions

@@ -22,7 +22,8 @@ use Rattle.cases.specs.Lines.{ownVersion, ownLines}
 use Rattle.cases.specs.Draft.{noInstruction, emptyCase, runWith}
 use Rattle.machine.specs.Next.{issueStep}
 
--- a case of version 1: n threads with so many instructions each, m locations, the code, and the run; it asks for nothing
+-- a case of version 1: n threads with so many instructions each, m locations, the code, and the run; it asks for
+-- nothing
 abbrev caseOf : ℕ → ℕ → List ℕ → List Instruction → Run → Case
 caseOf n m counts code run =
     record {

@@ -21,11 +21,11 @@ use Rattle.machine.specs.Next.{stepsFrom, movesFrom, candidates}
 
 -- ruleOf and nextOf
 unfoldable pub steps-compute : ℕ
-unfolding part put without slots wordsOf marksOf lineOf marksIn queueIn withQueue bufferIn withBuffer
-    withWord withRegister withIssued wordOr newestWrite storedOr newestStore queuedWord loadOf markerAmong
-    markerFrom markerOf marked bars firstBar enqueue await barrierRule isBarrier operationRule issueRule
-    entryOf loaded fetched exchanged matches compared performed issueOf effectRule effectOf passRule moveRule moveOf persistRule
-    settled persistFirst persistOf ruleIn ruleOf nextOf startOf
+unfolding part put without slots wordsOf marksOf lineOf marksIn queueIn withQueue bufferIn withBuffer withWord
+    withRegister withIssued wordOr newestWrite storedOr newestStore queuedWord loadOf markerAmong markerFrom
+    markerOf marked bars firstBar enqueue await barrierRule isBarrier operationRule issueRule entryOf loaded
+    fetched exchanged matches compared performed issueOf effectRule effectOf passRule moveRule moveOf
+    persistRule settled persistFirst persistOf ruleIn ruleOf nextOf startOf
 steps-compute = 0
 
 -- work and fullLength

@@ -2,8 +2,9 @@
 --   asked rs full b d   a program of the full length `full`, asked with the budget b: the answer d, with the
 --                       walk's first run where it is reached
 --   ruled rs v          a run, judged: legal with its number of steps, or the rule and the index
---   ended rs full n hs r w   a program of the full length `full` and a run, judged: legal, with its n steps; behind it
---                       line 0's queue holds hs, register 0 of thread 0 the word r, and the work left is w
+--   ended rs full n hs r w   a program of the full length `full` and a run, judged: legal, with its n steps;
+--                       behind it line 0's queue holds hs, register 0 of thread 0 the word r, and w is the work
+--                       left
 --   opened rs n at      bytes, read: the number and the offset
 --   rowNumber, rowOffset, rowProgram, rowAsk   what reading the records' bytes answers, and what it hands out
 --   rowEnd rs           the state behind the run, as it is judged

@@ -22,8 +22,8 @@ use Rattle.machine.proofs.Effects.{start-buffer, start-words, start-issued, sta
 use Rattle.machine.specs.Model.{LegalRun, FinishedRun}
 use Rattle.machine.specs.Ptso.{ptso}
 use Rattle.machine.specs.Work.{Uncompared}
-use Rattle.demands.specs.Writes.{writes, writesAt, fixedFrom, fixedOf, madeFrom, madeOf, LastOf, LastWrite}
-use Rattle.demands.specs.Writes.{LastMade, Unwritten, NoneMade, Alone}
+use Rattle.demands.specs.Writes.{writes, writesAt, fixedFrom, fixedOf, madeFrom, madeOf, LastWrite, LastMade}
+use Rattle.demands.specs.Writes.{Unwritten, NoneMade, Alone}
 use Rattle.demands.proofs.writes.LastLaws.{Settles}
 use Rattle.machine.specs.Joins.{lastOr}
 use Rattle.demands.proofs.writes.StoresLaws.{gathered, fixesFrom}
@@ -128,53 +128,48 @@ module _ (p : Program) (fits : ProgramFits p) where
       let low = fits .instructions t i (o .there) .1 .low-location in
       omega arith
 
+  -- what is no write to a location is never made there
+  never-made : (ks : List Step) (t l i : ℕ) → writesAt p t l i ≡ false → madeOf p ks t l i ≡ false
+  unfolding madeOf
+  never-made = made-never p (startOf p)
+
   -- A location that one thread alone writes, and whose last write there is surely made, with its word in the
   -- program
   pub memory-alone : (t l i : ℕ) → LastWrite p t l i → Alone p t l
       → instructionAt p t i .operation ≢ storeRegister
       → instructionAt p t i .operation ≢ compare
       → (ks : List Step) (u : State) → FinishedRun (ptso p) ks u → wordOf u l ≡ instructionAt p t i .word
-  unfolding Alone NoneMade madeOf
+  unfolding Alone NoneMade
   memory-alone t l i last alone word plain ks u run = go (memory-made ks u run l (written-low t l i last))
     where
-      made : madeFrom p (startOf p) ks t l i ≡ true
-      made = memory-surely ks u run t i (last .there) l plain ∙ last .writing
-
-      last-made : LastOf (madeFrom p (startOf p) ks t l) (countAt p t) i
-      last-made =
+      made : LastMade p ks t l i
+      made =
           record {
             there = last .there;
-            writing = made;
-            last = λ j h k. made-never p (startOf p) ks t l j (last .last j h k);
+            writing = memory-surely ks u run t i (last .there) l plain ∙ last .writing;
+            last = λ j h k. never-made ks t l j (last .last j h k);
           }
 
-      own : (k j : ℕ) → LastOf (madeFrom p (startOf p) ks k l) (countAt p k) j → wordOf u l ≡ fixedOf p ks k j
-          → Dec (k ≡ t)
+      own : (k j : ℕ) → LastMade p ks k l j → wordOf u l ≡ fixedOf p ks k j → Dec (k ≡ t)
           → wordOf u l ≡ instructionAt p t i .word
-      own k j o e (no d) =
-          absurd (never-both (o .writing) (made-never p (startOf p) ks k l j (alone k j d (o .there))))
+      own k j o e (no d) = absurd (never-both (o .writing) (never-made ks k l j (alone k j d (o .there))))
       own k j o e (yes d) =
           e
           ∙ ap (λ (m : ℕ). fixedOf p ks m j) d
-          ∙ ap (fixedOf p ks t)
-          (last-one (madeFrom p (startOf p) ks t l) (countAt p t) j i
-          (subst (λ m. LastOf (madeFrom p (startOf p) ks m l) (countAt p m) j) d o) last-made)
+          ∙ ap (fixedOf p ks t) (last-one _ _ j i (subst (λ m. LastMade p ks m l j) d o) made)
           ∙ memory-own-word ks u run t i (last .there) word
 
-      go : ((k : ℕ) × (j : ℕ) × LastOf (madeFrom p (startOf p) ks k l) (countAt p k) j × (wordOf u l ≡ fixedOf p ks k j))
-          ⊎ (((k j : ℕ) → j < countAt p k → madeFrom p (startOf p) ks k l j ≡ false)
-          × (wordOf u l ≡ getD (p .first) l 0))
+      go : ((k : ℕ) × (j : ℕ) × LastMade p ks k l j × (wordOf u l ≡ fixedOf p ks k j))
+          ⊎ (((k j : ℕ) → j < countAt p k → madeOf p ks k l j ≡ false) × (wordOf u l ≡ getD (p .first) l 0))
           → wordOf u l ≡ instructionAt p t i .word
       go (inl x) = own (x .0) (x .1) (x .2) (x .3) (ℕ-discrete (x .0) t)
-      go (inr x) = absurd (never-both made (x .0 t i (last .there)))
+      go (inr x) = absurd (never-both (made .writing) (x .0 t i (last .there)))
 
   -- A location that no thread writes
   pub memory-unwritten : (l : ℕ) → l < p .locations → Unwritten p l
       → (ks : List Step) (u : State) → LegalRun (ptso p) ks u → wordOf u l ≡ getD (p .first) l 0
-  unfolding Unwritten madeOf
+  unfolding Unwritten
   memory-unwritten l low none ks u run =
       run-keeps p l low (startOf p) ks u (start-fits p fits) (run .faultless) (run .leads) (start-words p l)
-      (λ t h.
-      start-coming ks l t
-      ∙ none-fixes _ (fixedOf p ks t) (countAt p t) (λ i k. made-never p (startOf p) ks t l i (none t i k)))
+      (λ t h. start-coming ks l t ∙ none-fixes _ _ _ (λ i k. never-made ks t l i (none t i k)))
       ∙ start-word p l

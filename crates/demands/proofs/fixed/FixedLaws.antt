@@ -93,9 +93,9 @@ module _ (p : Program) (s : State) (t : ℕ) (x : Instruction) where
   unfolding isWrite really swaps both either
   really-never h =
       let op = x .operation in
-      let a = either-false (eqb op storeWord) (either (eqb op storeRegister) (either (eqb op exchange) (eqb op compare)))
-      h in
-      let b = either-false (eqb op storeRegister) (either (eqb op exchange) (eqb op compare)) (a .1) in
+      let last = either (eqb op exchange) (eqb op compare) in
+      let a = either-false (eqb op storeWord) (either (eqb op storeRegister) last) h in
+      let b = either-false (eqb op storeRegister) last (a .1) in
       let c = either-false (eqb op exchange) (eqb op compare) (b .1) in
       rw (a .0, b .0, c .0, c .1) refl
 

@@ -99,7 +99,8 @@ module _ (p : Program) (s : State) (t l : ℕ) (m : Location) (r : Register) (w 
 
   -- a barrier puts nothing into the buffer; another instruction writes nothing at once
   abbrev Apart : ℕ → Type 0
-  Apart op = ((isBarrier op ≡ true) × (joins (s .registers) t (of op m r w) ≡ [])) ⊎ (swaps p s t (of op m r w) ≡ false)
+  Apart op =
+      ((isBarrier op ≡ true) × (joins (s .registers) t (of op m r w) ≡ [])) ⊎ (swaps p s t (of op m r w) ≡ false)
 
   stores-apart : (op : ℕ) → firstOperation ≤ op → op ≤ lastOperation → Apart op
   unfolding joins isBarrier swaps both either pick

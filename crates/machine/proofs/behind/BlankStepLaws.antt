@@ -26,9 +26,9 @@ use Rattle.machine.specs.View.{withWord, blankWaiting, buffer, issuedOf}
 use Rattle.machine.specs.Parts.{partsOf}
 use Rattle.machine.specs.Behind.{BlankBehind}
 use Rattle.machine.specs.Look.{queuedWord}
-use Rattle.machine.specs.Rules.{enqueue, await, instructionAt, issueRule, entryOf, loaded, fetched, exchanged}
-use Rattle.machine.specs.Rules.{matches, compared, performed, issueOf, effectOf, moveRule, moveOf, settled, persistFirst, persistOf}
-use Rattle.machine.specs.Rules.{ruleOf, nextOf, startOf}
+use Rattle.machine.specs.Rules.{enqueue, await, instructionAt, issueRule, entryOf, loaded, fetched}
+use Rattle.machine.specs.Rules.{exchanged, matches, compared, performed, issueOf, effectOf, moveRule}
+use Rattle.machine.specs.Rules.{moveOf, settled, persistFirst, persistOf, ruleOf, nextOf, startOf}
 use Rattle.cases.specs.Ranges.{ProgramFits}
 use Rattle.machine.specs.Fit.{Fits, Named}
 use Rattle.machine.specs.Model.{Leads, Faultless}
