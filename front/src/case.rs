@@ -24,6 +24,7 @@ pub enum Instruction {
     StoreRegister { at: u8, register: u8 },
     Load { at: u8, register: u8 },
     Exchange { at: u8, register: u8, word: u32 },
+    Compare { at: u8, register: u8, word: u32 },
     Flush { at: u8 },
     FlushOpt { at: u8 },
     Sfence,
@@ -35,6 +36,16 @@ pub enum Step {
     Issue { thread: u8 },
     Move { thread: u8, position: u8 },
     Persist { line: u8 },
+}
+
+impl Step {
+    /// The thread that it issues an instruction of.
+    pub fn issuer(&self) -> Option<usize> {
+        match self {
+            Step::Issue { thread } => Some(*thread as usize),
+            _ => None,
+        }
+    }
 }
 
 impl Case {

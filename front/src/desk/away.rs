@@ -32,7 +32,7 @@ fn first(index: usize, story: &Story) -> Option<Trial> {
     let lives = lives::lives(story);
     let found = blocker::find(story, &lives)?;
     let life = &lives[found.life];
-    // an xchg or mfence that waits for a flush-opt waits for its marker next
+    // an xchg, cmpxchg or mfence that waits for a flush-opt waits for its marker next
     let marker = match (found.place, found.step, life.kind) {
         (Place::Buffer { .. }, Step::Issue { .. }, Kind::FlushOpt { .. }) => life.queue,
         _ => None,

@@ -9,7 +9,7 @@ use crate::case::{Case, Step};
 use crate::files::File;
 use crate::messages::{Mistake, Trouble};
 use crate::output;
-use crate::story::{blocker, lives, Answer, Refusal, Story};
+use crate::story::{blocker, compares, lives, Answer, Refusal, Story};
 use crate::text::parse;
 use frames::{Asked, Judged, Verdict};
 use programs::Programs;
@@ -206,7 +206,8 @@ pub fn stories(
         take_state(&mut stories[owners[at]], frames::judged(line)?, line)
     })?;
     // what is told of the entries must be what the judge's states say, or nothing is told
-    let agrees = |story: &Story| lives::agree(story) && blocker::agrees(story);
+    let agrees =
+        |story: &Story| lives::agree(story) && compares::agree(story) && blocker::agrees(story);
     if let Some(story) = stories.iter().find(|story| !agrees(story)) {
         return Err(Trouble::Astray(story.file.clone()));
     }

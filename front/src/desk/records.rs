@@ -73,6 +73,7 @@ fn instruction_bytes(thread: u8, one: &Instruction) -> Vec<u8> {
         Instruction::FlushOpt { at } => (6, at, 0, 0),
         Instruction::Sfence => (7, 0, 0, 0),
         Instruction::Mfence => (8, 0, 0, 0),
+        Instruction::Compare { at, register, word } => (9, at, register, word),
     };
     with_word(&[thread, operation, at, register], word)
 }
@@ -172,6 +173,7 @@ fn instruction_in(operation: u8, at: u8, register: u8, word: u32) -> Instruction
         6 => Instruction::FlushOpt { at },
         7 => Instruction::Sfence,
         8 => Instruction::Mfence,
+        9 => Instruction::Compare { at, register, word },
         other => unreachable!("operation {other} was read, and has no instruction"),
     }
 }

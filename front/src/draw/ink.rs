@@ -94,6 +94,8 @@ pub fn chip_width(text: &str) -> i32 {
 /// How far a chip reaches to the right of its lane.
 pub const CHIP_OVER: i32 = 7;
 pub const CHIP_HEIGHT: i32 = 20;
+/// How wide a cross is, and how high.
+pub const CROSS: i32 = 10;
 
 #[derive(Default)]
 pub struct Ink {
@@ -158,7 +160,11 @@ impl Ink {
     }
 
     pub fn cross(&mut self, class: &str, x: i32, y: i32) {
-        self.path(class, &format!("M{} {}l10 10m0 -10l-10 10", x - 5, y - 5));
+        let (left, top) = (x - CROSS / 2, y - CROSS / 2);
+        self.path(
+            class,
+            &format!("M{left} {top}l{CROSS} {CROSS}m0 -{CROSS}l-{CROSS} {CROSS}"),
+        );
     }
 }
 

@@ -1,8 +1,9 @@
 //! The way of each entry as a line: down while it waits, to the right as a step moves it or lets it persist.
 
-use super::ink::{chip_width, Ink, CHIP_OVER};
+use super::ink::{chip_width, Ink, CHIP_OVER, CROSS};
 use super::plan::{Column, Plan, ROW};
 use super::words;
+use crate::story::compares::Compared;
 use crate::story::lives::{self, Kind, Life};
 use std::ops::Range;
 
@@ -113,6 +114,28 @@ pub fn arrows(ink: &mut Ink, plan: &Plan) {
     }
 }
 
+/// A compare that fails goes as far as an exchange and leaves nothing: its line is dotted, and a cross stands where its write would.
+pub fn misses(ink: &mut Ink, plan: &Plan) {
+    for (row, one) in &plan.failed {
+        let line = plan.story.case.line_of(one.at);
+        let waits = plan.story.states[*row].queues[line].len();
+        let (lane, y) = (plan.queues[line].lane_of(waits), plan.middle(*row));
+        let way = format!(
+            "M{} {y}H{}",
+            plan.buffers[one.thread].lane + CHIP_OVER,
+            lane - CROSS / 2 - 2
+        );
+        ink.path("halo", &way);
+        ink.path(&format!("line past {}", missed(one)), &way);
+        ink.cross("cross", lane, y);
+    }
+}
+
+/// The look of a compare that fails: its location's colour.
+fn missed(one: &Compared) -> String {
+    format!("c{}", one.at)
+}
+
 /// From the buffer to the entry's chip in the queue; an exchange comes from what it shows in its thread's column.
 fn move_arrow(ink: &mut Ink, plan: &Plan, one: usize, row: usize, look: &str) {
     let life = &plan.lives[one];
@@ -140,6 +163,10 @@ fn move_arrow(ink: &mut Ink, plan: &Plan, one: usize, row: usize, look: &str) {
 
 /// Where an arrow crosses the bands of other locations it is dotted: it goes past them.
 pub fn past(ink: &mut Ink, plan: &Plan) {
+    for (row, one) in &plan.failed {
+        let queue = &plan.queues[plan.story.case.line_of(one.at)];
+        cross(ink, plan, &missed(one), *row, 0..queue.left);
+    }
     for (one, life) in plan.lives.iter().enumerate() {
         let (Some(line), Some(row)) = (life.queue, life.moved) else {
             continue;

@@ -28,6 +28,7 @@ pub fn svg(story: &Story) -> String {
     rows::heads(&mut ink, &plan);
     lines::draw(&mut ink, &plan);
     lines::arrows(&mut ink, &plan);
+    lines::misses(&mut ink, &plan);
     bands::draw(&mut ink, &plan);
     lines::past(&mut ink, &plan);
     rows::heads_again(&mut ink, &plan);
@@ -143,6 +144,7 @@ pub fn lost(story: &Story, lives: &[Life]) -> String {
 mod tests {
     use super::*;
     use crate::story::blocker::tests::blocked_line;
+    use crate::story::compares::tests::contended;
     use crate::story::lives::tests::{one_line, outage};
 
     #[test]
@@ -167,6 +169,23 @@ mod tests {
         // only the second location's write goes past a band, that of the first
         assert_eq!(drawn.matches("line past c1 w0").count(), 1);
         assert_eq!(drawn.matches("line past").count(), 1);
+    }
+
+    #[test]
+    fn a_compare_that_fails_has_a_dotted_line_and_a_cross_and_no_chip_in_the_queue() {
+        let story = contended();
+        let (drawn, plan) = (svg(&story), Plan::new(&story));
+        assert!(drawn.contains(r#""deed">cmpxchg limit r2 1<"#));
+        assert!(drawn.contains(r#""deed">cmpxchg limit r2 2 fails<"#));
+        assert!(drawn.contains("Step 2, I1: cmpxchg limit r2 2 fails."));
+        assert_eq!(drawn.matches(" fails<").count(), 2);
+        // behind the first one's write, which waits there
+        let (lane, y) = (plan.queues[0].lane_of(1), plan.middle(1));
+        let cross = format!("M{} {}l10 10m0 -10l-10 10", lane - 5, y - 5);
+        assert_eq!(drawn.matches(&cross).count(), 1);
+        assert_eq!(drawn.matches(r#"class="line past c0""#).count(), 1);
+        assert_eq!(drawn.matches(r#"class="chip c0 w0""#).count(), 1);
+        assert!(lane - 5 > plan.queues[0].left);
     }
 
     #[test]

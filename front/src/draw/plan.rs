@@ -1,8 +1,9 @@
 //! Where everything stands in the picture: a column for each buffer and each cache line, a row for each step.
 
-use super::ink::{chip_width, columns, small_width, wrap, CHIP_OVER};
+use super::ink::{chip_width, columns, small_width, wrap, CHIP_OVER, CROSS};
 use super::words;
 use crate::case::{Instruction, Step};
+use crate::story::compares::{self, Compared};
 use crate::story::lives::{self, Life};
 use crate::story::Story;
 
@@ -77,6 +78,8 @@ impl Column {
 pub struct Plan<'a> {
     pub story: &'a Story,
     pub lives: Vec<Life>,
+    /// The compares that fail, each with its row.
+    pub failed: Vec<(usize, Compared)>,
     /// The number of legal steps.
     pub legal: usize,
     /// The width of the steps' labels.
@@ -97,6 +100,7 @@ impl<'a> Plan<'a> {
         let mut plan = Plan {
             story,
             lives: lives::lives(story),
+            failed: compares::failed(story).collect(),
             legal: story.states.len().saturating_sub(1).min(story.run.len()),
             labels: 0,
             buffers: Vec::new(),
@@ -208,7 +212,12 @@ impl<'a> Plan<'a> {
             [at] => self.head_width(*at) - self.band_width(*at),
             _ => columns(&words::line(line)) * 8 + 10,
         };
-        (moved.map(room).max().unwrap_or(0) + 2 * STUB)
+        // a compare that fails has a cross there and no chip
+        let missed = self.failed.iter().filter_map(|(row, one)| {
+            let before = self.story.states[*row].queues[line].len() as i32;
+            (self.story.case.line_of(one.at) == line).then_some(before * PITCH + CROSS)
+        });
+        (moved.map(room).chain(missed).max().unwrap_or(0) + 2 * STUB)
             .max(42)
             .max(least)
     }
@@ -240,7 +249,7 @@ impl<'a> Plan<'a> {
         (words.max().unwrap_or(0) * 8 + 8).max(44).max(least)
     }
 
-    /// What an issue shows in its thread's buffer: the entry, or what a load or an exchange brings, or the mfence.
+    /// What an issue shows in its thread's buffer: the entry, or what a load, an exchange or a compare brings, or the mfence.
     pub fn issue_chip(&self, index: usize) -> String {
         let Step::Issue { thread } = self.story.run[index] else {
             return String::new();
@@ -248,7 +257,9 @@ impl<'a> Plan<'a> {
         let own = thread as usize;
         let behind = &self.story.states[index + 1];
         match self.story.case.threads[own][behind.issued[own] - 1] {
-            Instruction::Load { register, .. } | Instruction::Exchange { register, .. } => {
+            Instruction::Load { register, .. }
+            | Instruction::Exchange { register, .. }
+            | Instruction::Compare { register, .. } => {
                 format!("r{register} = {}", behind.registers[own][register as usize])
             }
             Instruction::Mfence => "mfence".to_string(),

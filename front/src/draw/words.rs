@@ -3,7 +3,7 @@
 use super::ink::shorten;
 use crate::case::{Case, Step};
 use crate::story::lives::{Kind, Life};
-use crate::story::{Answer, Story};
+use crate::story::{compares, Answer, Story};
 use crate::tell::report;
 use crate::text::layout;
 
@@ -57,7 +57,9 @@ pub fn deed(story: &Story, index: usize, life: Option<&Life>, most: i32) -> Stri
         (Step::Issue { thread }, _) => {
             let issued = story.states[index].issued[thread as usize];
             let one = &case.threads[thread as usize][issued];
-            layout::instruction_by(&|at| name(case, at, most), one)
+            let words = layout::instruction_by(&|at| name(case, at, most), one);
+            let fails = compares::failed(story).any(|(failed, _)| failed == index);
+            words + if fails { " fails" } else { "" }
         }
         (Step::Move { .. }, Some(life)) => match life.kind {
             Kind::FlushOpt { at } if case.is_shared(case.line_of(at)) => {

@@ -3,7 +3,7 @@
 use crate::case::Instruction;
 use crate::draw::{self, ink::escape, words};
 use crate::story::lives::{self, Life};
-use crate::story::{blocker::find, state::State, Answer, Story};
+use crate::story::{blocker::find, compares, state::State, Answer, Story};
 use crate::tell::json::{list, map, text};
 use crate::tell::{blocker, rules};
 use crate::text::layout;
@@ -68,6 +68,7 @@ fn data(story: &Story, told: &[String]) -> String {
         ("names", list(case.names.iter().map(|name| text(name)))),
         ("lines", list(case.by_line().iter().map(numbers))),
         ("threads", list(case.threads.iter().map(program))),
+        ("failed", failed(story)),
         ("wants", list(wants)),
         (
             "start",
@@ -78,6 +79,19 @@ fn data(story: &Story, told: &[String]) -> String {
         ("blocker", blocker_data(story, &lives)),
         ("end", end(story, &lives)),
     ])
+}
+
+/// By thread: its compares that fail, by their instructions, and what is said of each.
+fn failed(story: &Story) -> String {
+    let words = |thread: usize| {
+        let own = compares::failed(story).filter(move |(_, one)| one.thread == thread);
+        own.map(|(_, one)| {
+            let said = format!("failed: found {}", one.found);
+            (one.instruction.to_string(), text(&said))
+        })
+    };
+    let threads = 0..story.case.threads.len();
+    list(threads.map(|thread| map(&words(thread).collect::<Vec<_>>())))
 }
 
 fn numbers(locations: &Vec<usize>) -> String {
@@ -190,7 +204,8 @@ fn register(instruction: &Instruction) -> Option<u8> {
     match *instruction {
         Instruction::StoreRegister { register, .. }
         | Instruction::Load { register, .. }
-        | Instruction::Exchange { register, .. } => Some(register),
+        | Instruction::Exchange { register, .. }
+        | Instruction::Compare { register, .. } => Some(register),
         _ => None,
     }
 }
@@ -209,6 +224,7 @@ fn end(story: &Story, lives: &[Life]) -> String {
 mod tests {
     use super::*;
     use crate::story::blocker::tests::blocked_line;
+    use crate::story::compares::tests::contended;
     use crate::story::lives::tests::{one_line, outage};
 
     fn page(story: &Story) -> String {
@@ -242,6 +258,12 @@ mod tests {
         assert!(page.contains(r#""lines":[[0,1]]"#));
         let waits = r#""queues":[[{"life":1,"look":"c1 w0","text":"valid 1"}]]"#;
         assert_eq!(page.matches(waits).count(), 1);
+    }
+
+    #[test]
+    fn a_compare_that_fails_is_named_by_its_thread_and_instruction() {
+        assert!(page(&contended()).contains(r#""failed":[{},{"0":"failed: found 1"}]"#));
+        assert!(page(&outage()).contains(r#""failed":[{}]"#));
     }
 
     #[test]

@@ -23,8 +23,12 @@
     return parent;
   };
 
+  // a compare that fails has its mark in words too; they show once it is issued
+  const markedLine = (words, failed) => under(make("li"), under(make("span", "", words), make("b", "", failed)));
+  const codeLine = (words, failed) => (failed ? markedLine(words, failed) : make("li", "", words));
   const threadCard = (program, thread) => {
-    const list = under(marked("ol", "program", "program", thread), ...program.map((words) => make("li", "", words)));
+    const code = program.map((words, index) => codeLine(words, story.failed[thread][index]));
+    const list = under(marked("ol", "program", "program", thread), ...code);
     const buffer = marked("div", "chips", "buffer", thread);
     const registers = marked("p", "registers", "registers", thread);
     const right = under(make("div"), make("h4", "waits", "store buffer"), buffer, registers);
@@ -70,6 +74,7 @@
   const fillProgram = (list, issued, before) => {
     [...list.children].forEach((line, index) => {
       line.className = index < issued ? "issued" : index === issued ? "next" : "";
+      line.classList.toggle("failed", index < issued && line.childElementCount > 0);
       line.classList.toggle("fresh", index >= before && index < issued);
     });
     if (issued !== before) touch(list);

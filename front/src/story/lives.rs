@@ -1,5 +1,6 @@
 //! The life of each entry of a run: the steps that issued it, moved it and let it persist. It follows the run and decides nothing.
 
+use super::compares::compared;
 use super::state::{Entry, Held};
 use super::Story;
 use crate::case::{Instruction, Step};
@@ -18,6 +19,7 @@ pub struct Life {
     pub persisted: Option<usize>,
 }
 
+/// The write of a compare that succeeds is an exchange's: it goes straight to its queue.
 #[derive(Clone, Copy, Debug, PartialEq, Eq)]
 pub enum Kind {
     Store { at: u8, word: u32 },
@@ -92,7 +94,7 @@ impl Life {
     }
 }
 
-/// Loads and mfences wait nowhere and have no life. The lives come in the order of their issue.
+/// Loads, mfences and compares that fail wait nowhere and have no life. The lives come in the order of their issue.
 pub fn lives(story: &Story) -> Vec<Life> {
     let mut ledger = Ledger {
         lives: Vec::new(),
@@ -201,8 +203,7 @@ impl Ledger {
         let own = thread as usize;
         let instruction = story.states[index].issued[own];
         let one = story.case.threads[own].get(instruction);
-        let Some(kind) = one.and_then(|one| kind_of(one, &story.states[index + 1].buffers[own]))
-        else {
+        let Some(kind) = one.and_then(|one| kind_of(story, index, own, one)) else {
             return;
         };
         let straight = matches!(kind, Kind::Exchange { .. });
@@ -244,16 +245,21 @@ impl Ledger {
     }
 }
 
-/// What an instruction leaves behind as it is issued, if anything; its thread's buffer is that behind the issue.
-fn kind_of(one: &Instruction, buffer: &[Entry]) -> Option<Kind> {
+/// What a thread's instruction leaves behind as the step with that index issues it, if anything.
+fn kind_of(story: &Story, index: usize, own: usize, one: &Instruction) -> Option<Kind> {
+    let (before, after) = (&story.states[index], &story.states[index + 1]);
     match *one {
         Instruction::Store { at, word } => Some(Kind::Store { at, word }),
         // the judge's state has the word that the register held
-        Instruction::StoreRegister { at, .. } => match buffer.last() {
+        Instruction::StoreRegister { at, .. } => match after.buffers[own].last() {
             Some(&Entry::Store { word, .. }) => Some(Kind::Store { at, word }),
             _ => None,
         },
         Instruction::Exchange { at, word, .. } => Some(Kind::Exchange { at, word }),
+        // the judge's states say whether it wrote
+        Instruction::Compare { at, word, .. } => compared(&story.case, own, before, after)
+            .filter(|one| one.succeeds)
+            .map(|_| Kind::Exchange { at, word }),
         Instruction::Flush { at } => Some(Kind::Flush { at }),
         Instruction::FlushOpt { at } => Some(Kind::FlushOpt { at }),
         Instruction::Sfence => Some(Kind::Sfence),

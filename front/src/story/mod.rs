@@ -1,6 +1,7 @@
 //! What there is to tell of a case: the answer of the proved programs, the run, and the state behind each of its legal steps.
 
 pub mod blocker;
+pub mod compares;
 pub mod lives;
 pub mod state;
 

@@ -64,7 +64,7 @@ fn waited(story: &Story, life: &Life) -> String {
     }
 }
 
-/// Writes to a location that were not issued by the end.
+/// Writes to a location that were not issued by the end; a compare may be none.
 fn unissued(story: &Story, at: usize) -> Vec<String> {
     let Some(end) = story.states.last() else {
         return Vec::new();
@@ -77,10 +77,12 @@ fn unissued(story: &Story, at: usize) -> Vec<String> {
     });
     let here = left.filter(|(_, one)| written(one) == Some(at));
     here.map(|(thread, one)| {
-        format!(
-            "thread {thread} had not issued '{}'",
-            layout::instruction(&story.case, one)
-        )
+        let may_fail = match one {
+            Instruction::Compare { .. } => ", which may fail",
+            _ => "",
+        };
+        let one = layout::instruction(&story.case, one);
+        format!("thread {thread} had not issued '{one}'{may_fail}")
     })
     .collect()
 }
@@ -89,7 +91,8 @@ fn written(one: &Instruction) -> Option<usize> {
     match one {
         Instruction::Store { at, .. }
         | Instruction::StoreRegister { at, .. }
-        | Instruction::Exchange { at, .. } => Some(*at as usize),
+        | Instruction::Exchange { at, .. }
+        | Instruction::Compare { at, .. } => Some(*at as usize),
         _ => None,
     }
 }

@@ -9,6 +9,7 @@ use super::run;
 use crate::case::Case;
 use crate::messages::Mistake;
 use crate::story::blocker::{find, Place};
+use crate::story::compares::{self, Compared};
 use crate::story::{lives, Answer, Refusal, Story};
 use crate::text::layout;
 
@@ -116,6 +117,7 @@ fn put_run(object: &mut Object, story: &Story) {
         "told",
         list(run::sentences(story).iter().map(|one| text(one))),
     );
+    put_compares(object, story);
     let Some(end) = story.states.last() else {
         return;
     };
@@ -129,6 +131,25 @@ fn put_run(object: &mut Object, story: &Story) {
     if let Some(torn) = cut::torn(story) {
         let (new, old) = (names(case, &torn.new), names(case, &torn.old));
         object.put("torn", map(&[("new", new), ("old", old)]));
+    }
+}
+
+/// What each compare of the run found, where there is one.
+fn put_compares(object: &mut Object, story: &Story) {
+    let compare = |(index, one): &(usize, Compared)| {
+        let own = (one.thread, one.instruction);
+        map(&[
+            ("index", index.to_string()),
+            ("thread", one.thread.to_string()),
+            ("instruction", text(&blocker::written(&story.case, own))),
+            ("expected", one.expected.to_string()),
+            ("found", one.found.to_string()),
+            ("succeeds", one.succeeds.to_string()),
+        ])
+    };
+    let all = compares::all(story);
+    if !all.is_empty() {
+        object.put("compares", list(all.iter().map(compare)));
     }
 }
 

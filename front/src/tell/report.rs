@@ -4,7 +4,7 @@ use super::blocker;
 use super::cut::{self, Place};
 use super::rules;
 use super::run;
-use crate::case::Case;
+use crate::case::{Case, Instruction};
 use crate::messages::Mistake;
 use crate::story::{Answer, Refusal, Story};
 use crate::text::layout;
@@ -151,12 +151,11 @@ fn shared(case: &Case) -> Vec<String> {
 fn headline(story: &Story) -> Vec<String> {
     let deed = deed(&story.case, " = ");
     let runs = commas(story.budget.unwrap_or(0));
-    let full = story.full_length;
     match story.answer {
         Answer::Reached => vec![format!("REACHED: a power cut can {deed}.")],
         Answer::Unreachable => vec![
             format!("UNREACHABLE: no power cut can {deed}."),
-            format!("Every run of this program was gone through; the longest have {}.", steps(full)),
+            gone_through(story),
         ],
         Answer::Undecided => vec![
             format!("UNDECIDED: none of the first {runs} runs shows that a power cut can {deed}."),
@@ -174,6 +173,16 @@ fn headline(story: &Story) -> Vec<String> {
             lines.extend(blocker::sentences(story));
             lines
         }
+    }
+}
+
+/// How long the runs are that were all gone through: one step shorter for each compare that fails.
+fn gone_through(story: &Story) -> String {
+    let full = steps(story.full_length);
+    let mut code = story.case.threads.iter().flatten();
+    match code.any(|one| matches!(one, Instruction::Compare { .. })) {
+        true => format!("Every run of this program was gone through; those that end have {full}, one less for each cmpxchg that fails."),
+        false => format!("Every run of this program was gone through; the longest have {full}."),
     }
 }
 

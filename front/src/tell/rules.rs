@@ -27,8 +27,10 @@ pub fn rule(case: &Case, number: u32) -> &'static str {
 fn rule_of_locations(number: u32) -> &'static str {
     match number {
         21 => "a thread issues only while it has an instruction left",
-        22 => "an xchg or mfence is issued only when the thread's own buffer is empty",
-        23 => "an xchg or mfence is issued only when no queue holds a marker of the thread",
+        22 => "an xchg, cmpxchg or mfence is issued only when the thread's own buffer is empty",
+        23 => {
+            "an xchg, cmpxchg or mfence is issued only when no queue holds a marker of the thread"
+        }
         24 => "a move takes an entry of the buffer, and there is none at that position",
         25 => "behind position 0 only a clflushopt may leave the buffer",
         26 => "a clflushopt may not pass a store or clflush of its own location, nor an sfence",

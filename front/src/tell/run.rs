@@ -2,6 +2,7 @@
 //! and works out none.
 
 use crate::case::{Case, Instruction, Step};
+use crate::story::compares;
 use crate::story::state::{Entry, Held, State};
 use crate::story::Story;
 use crate::text::layout;
@@ -101,6 +102,7 @@ fn issue(case: &Case, thread: usize, before: &State, after: &State) -> String {
             let queue = queue_of(case, at);
             format!("r{register} takes {old}, and {write} joins {queue}")
         }
+        Instruction::Compare { word, .. } => compare(case, thread, word, before, after),
         Instruction::Mfence => "its buffer is empty, and no marker of it waits".to_string(),
         Instruction::StoreRegister { .. } => {
             let entry = after.buffers[thread].last();
@@ -113,6 +115,25 @@ fn issue(case: &Case, thread: usize, before: &State, after: &State) -> String {
         "thread {thread} issues '{}': {does}",
         layout::instruction(case, one)
     )
+}
+
+/// What a compare found, whether that is what its register held, and what became of its word.
+fn compare(case: &Case, thread: usize, word: u32, before: &State, after: &State) -> String {
+    let Some(one) = compares::compared(case, thread, before, after) else {
+        return String::new();
+    };
+    let (at, found, expected) = (one.at, one.found, one.expected);
+    let finds = match source(case, thread, at, before) {
+        (held, place) if held == found => format!("it finds {found} in {place}"),
+        _ => format!("it finds {found}"),
+    };
+    let register = one.register;
+    if one.succeeds {
+        let write = held(case, &Held::Write { at, word });
+        let queue = queue_of(case, at);
+        return format!("{finds}, as r{register} held, and succeeds: {write} joins {queue}");
+    }
+    format!("{finds}, not {expected} as r{register} held, and fails: r{register} takes {found}, and nothing is written")
 }
 
 /// Where a load finds its word, and the word there: the newest store in the own buffer, else the newest write in the queue, else memory.

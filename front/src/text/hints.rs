@@ -1,10 +1,16 @@
 //! What may have been meant by a word that is not known.
 
 /// Other words for a statement's first word.
-const ALSO: [(&str, &str); 12] = [
+const ALSO: [(&str, &str); 18] = [
     ("clwb", "clflushopt"),
     ("exchange", "xchg"),
     ("swap", "xchg"),
+    ("compare", "cmpxchg"),
+    ("cmp", "cmpxchg"),
+    ("cmpswap", "cmpxchg"),
+    ("compare-and-swap", "cmpxchg"),
+    ("compare-exchange", "cmpxchg"),
+    ("compare_exchange", "cmpxchg"),
     ("flush", "clflush"),
     ("flushopt", "clflushopt"),
     ("flush-opt", "clflushopt"),

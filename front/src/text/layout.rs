@@ -80,6 +80,9 @@ pub fn instruction_by(name: &dyn Fn(u8) -> String, one: &Instruction) -> String 
         Instruction::Exchange { at, register, word } => {
             format!("xchg {} r{register} {word}", name(at))
         }
+        Instruction::Compare { at, register, word } => {
+            format!("cmpxchg {} r{register} {word}", name(at))
+        }
         Instruction::Flush { at } => format!("clflush {}", name(at)),
         Instruction::FlushOpt { at } => format!("clflushopt {}", name(at)),
         Instruction::Sfence => "sfence".to_string(),

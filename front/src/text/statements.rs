@@ -4,14 +4,16 @@ use super::operands::low;
 use crate::case::{Instruction, Step};
 use crate::messages::Expected;
 
-/// Each instruction's first word and what follows it.
-pub const INSTRUCTIONS: [(&str, &[Expected]); 7] = [
+/// What follows an exchange's or a compare's first word.
+const SWAP: &[Expected] = &[Expected::Location, Expected::Register, Expected::Number];
+
+/// Each instruction's first word and what follows it. A compare has two: the first is the one that a text is laid out with.
+pub const INSTRUCTIONS: [(&str, &[Expected]); 9] = [
     ("store", &[Expected::Location, Expected::NumberOrRegister]),
     ("load", &[Expected::Location, Expected::Register]),
-    (
-        "xchg",
-        &[Expected::Location, Expected::Register, Expected::Number],
-    ),
+    ("xchg", SWAP),
+    ("cmpxchg", SWAP),
+    ("cas", SWAP),
     ("clflush", &[Expected::Location]),
     ("clflushopt", &[Expected::Location]),
     ("sfence", &[]),
@@ -82,6 +84,11 @@ pub fn instruction_of(name: &str, found: &[Operand]) -> Instruction {
             register: low(found[1].value),
         },
         "xchg" => Instruction::Exchange {
+            at,
+            register: low(found[1].value),
+            word: found[2].value,
+        },
+        "cmpxchg" | "cas" => Instruction::Compare {
             at,
             register: low(found[1].value),
             word: found[2].value,
