@@ -1,6 +1,6 @@
 //! Where everything stands in the picture: a column for each buffer and each cache line, a row for each step.
 
-use super::ink::{chip_width, columns, small_width, wrap, CHIP_OVER, CROSS};
+use super::ink::{chip_width, columns, small_width, wrap, CHIP_OVER};
 use super::words;
 use crate::case::{Instruction, Step};
 use crate::story::compares::{self, Compared};
@@ -212,12 +212,7 @@ impl<'a> Plan<'a> {
             [at] => self.head_width(*at) - self.band_width(*at),
             _ => columns(&words::line(line)) * 8 + 10,
         };
-        // a compare that fails has a cross there and no chip
-        let missed = self.failed.iter().filter_map(|(row, one)| {
-            let before = self.story.states[*row].queues[line].len() as i32;
-            (self.story.case.line_of(one.at) == line).then_some(before * PITCH + CROSS)
-        });
-        (moved.map(room).chain(missed).max().unwrap_or(0) + 2 * STUB)
+        (moved.map(room).max().unwrap_or(0) + 2 * STUB)
             .max(42)
             .max(least)
     }
