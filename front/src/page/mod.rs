@@ -262,7 +262,9 @@ mod tests {
 
     #[test]
     fn a_compare_that_fails_is_named_by_its_thread_and_instruction() {
-        assert!(page(&contended()).contains(r#""failed":[{},{"0":"failed: found 1"}]"#));
+        let lost = page(&contended());
+        assert!(lost.contains(r#""failed":[{},{"0":"failed: found 1"}]"#));
+        assert!(lost.contains(r#""registers":[["r2 = 0"],["r2 = 1"]]"#));
         assert!(page(&outage()).contains(r#""failed":[{}]"#));
     }
 
