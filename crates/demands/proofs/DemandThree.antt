@@ -131,7 +131,7 @@ module _ (c : Case) (readable : readsBack c ≡ true) where
 
   -- A location that one thread alone writes, its last write there being a store of a word or an exchange: every
   -- run that cannot go on leaves that word, known from the program.
-  pub one-writer : (t l i : ℕ)
+  pub one-sure-writer : (t l i : ℕ)
       → LastWrite (c .program) t l i
       → Alone (c .program) t l
       → instructionAt (c .program) t i .operation ≢ storeRegister
@@ -139,7 +139,7 @@ module _ (c : Case) (readable : readsBack c ≡ true) where
       → (ks : List Step) (u : State)
       → FinishedRun (ptso (c .program)) ks u
       → wordOf u l ≡ instructionAt (c .program) t i .word
-  one-writer = MemoryLaws.memory-alone (c .program) (program-fits c readable)
+  one-sure-writer = MemoryLaws.memory-alone (c .program) (program-fits c readable)
 
   -- A location that no thread writes keeps its first content after every legal run.
   pub no-writer : (l : ℕ) → l < c .program .locations
@@ -212,3 +212,15 @@ module _ (c : Case) (readable : readsBack c ≡ true) where
         × FinishedRun (ptso (c .program)) (lastRun (c .program) t) u
         × (wordOf u l ≡ fixedOf (c .program) (lastRun (c .program) t) t i)
     any-thread = AnyThreadLaws.any-thread (c .program) (program-fits c readable) plain
+
+    -- A location that one thread alone writes, its last write there being a store of a word or an exchange: every
+    -- run that cannot go on leaves that word.
+    pub one-writer : (t l i : ℕ)
+        → LastWrite (c .program) t l i
+        → Alone (c .program) t l
+        → instructionAt (c .program) t i .operation ≢ storeRegister
+        → (ks : List Step) (u : State)
+        → FinishedRun (ptso (c .program)) ks u
+        → wordOf u l ≡ instructionAt (c .program) t i .word
+    unfolding Uncompared
+    one-writer t l i last alone word = one-sure-writer t l i last alone word (plain t i (last .there))
