@@ -19,7 +19,7 @@ fn instruction_uses(operation: u8) -> Option<InstructionUses> {
     let (location, register, word) = match operation {
         1 => (true, false, true),
         2 | 3 => (true, true, false),
-        4 => (true, true, true),
+        4 | 9 => (true, true, true),
         5 | 6 => (true, false, false),
         7 | 8 => (false, false, false),
         _ => return None,

@@ -24,6 +24,10 @@ pub fn exchange(location: u8, register: u8, word: u32) -> Instruction {
     Instruction::new(4, location, register, word)
 }
 
+pub fn compare(location: u8, register: u8, word: u32) -> Instruction {
+    Instruction::new(9, location, register, word)
+}
+
 pub fn flush(location: u8) -> Instruction {
     at(5, location, 0)
 }
@@ -47,6 +51,13 @@ pub const MFENCE: Instruction = Instruction {
 /// Two locations, a line each; the instructions of each thread.
 pub fn program(threads: &[&[Instruction]]) -> Case {
     laid_out(&Layout::own(2), threads)
+}
+
+/// The same, and x holds 5 at first.
+pub fn with_five(threads: &[&[Instruction]]) -> Case {
+    let mut case = program(threads);
+    case.first[usize::from(X)] = 5;
+    case
 }
 
 /// The locations on lines in any way.

@@ -1,8 +1,8 @@
 //! What a legal step does to the state.
 
-use super::rules::{ISSUE, MOVE};
+use super::rules::{COMPARE, EXCHANGE, ISSUE, MOVE};
 use super::state::{Entry, Held, State};
-use crate::judge::case::{Case, Step};
+use crate::judge::case::{Case, Instruction, Step};
 
 pub fn advance(case: &Case, state: &mut State, step: &Step) {
     match step.code {
@@ -23,9 +23,8 @@ fn issue(case: &Case, state: &mut State, thread: usize) {
             state.registers[thread][register] = loaded(case, state, thread, location);
             None
         }
-        4 => {
-            state.registers[thread][register] = shared(case, state, location);
-            state.queues[case.line_of(location)].push(Held::write(location, next.word));
+        EXCHANGE | COMPARE => {
+            swap(case, state, thread, &next);
             None
         }
         5 => Some(Entry::Flush(location)),
@@ -37,6 +36,18 @@ fn issue(case: &Case, state: &mut State, thread: usize) {
         state.buffers[thread].push(entry);
     }
     state.issued[thread] += 1;
+}
+
+/// The register takes what all threads see, and the word is written; by a compare only if the register
+/// held just that.
+fn swap(case: &Case, state: &mut State, thread: usize, next: &Instruction) {
+    let read = shared(case, state, next.location);
+    let register = &mut state.registers[thread][usize::from(next.register)];
+    let expected = std::mem::replace(register, read);
+    if next.operation == EXCHANGE || read == expected {
+        let write = Held::write(next.location, next.word);
+        state.queues[case.line_of(next.location)].push(write);
+    }
 }
 
 /// The newest store in the thread's own buffer, else what all threads see.

@@ -12,6 +12,10 @@ pub const PERSIST: u8 = 2;
 
 pub const EXCHANGE: u8 = 4;
 pub const MFENCE: u8 = 8;
+pub const COMPARE: u8 = 9;
+
+/// What is not issued before all that came before it has left; a compare whether it succeeds or fails.
+const BARRIERS: [u8; 3] = [EXCHANGE, MFENCE, COMPARE];
 
 pub const NONE_LEFT: u8 = 21;
 pub const BUFFER_NOT_EMPTY: u8 = 22;
@@ -36,7 +40,7 @@ pub fn check(case: &Case, state: &State, step: &Step) -> Result<(), Stop> {
 
 fn check_issue(case: &Case, state: &State, thread: usize) -> Result<(), Stop> {
     let next = state.unissued(case, thread).first().ok_or(NONE_LEFT)?;
-    if next.operation == EXCHANGE || next.operation == MFENCE {
+    if BARRIERS.contains(&next.operation) {
         let waiting = state.buffers[thread].used();
         clear(first_waiting(thread, waiting, |_| true), BUFFER_NOT_EMPTY)?;
         clear(first_marker(state, thread), MARKER_BEFORE_FENCE)?;

@@ -37,7 +37,7 @@ pub fn sum(case: &Case, state: &State) -> u32 {
 fn unissued(instruction: &Instruction) -> u32 {
     match instruction.operation {
         1 | 2 | 6 => 3,
-        4 | 5 | 7 => 2,
+        4 | 5 | 7 | 9 => 2,
         _ => 1,
     }
 }

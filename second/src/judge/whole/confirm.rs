@@ -1,7 +1,9 @@
 //! Demand 3 confirmed for one program, by going through all its states and counting.
 
+use super::carried::Carried;
 use super::engine::Engine;
 use super::explore::{Explorer, Visit};
+use super::outcome::Outcome;
 use super::point::Point;
 use super::program::Program;
 use super::sentences::{Sentence, OF_STATES};
@@ -44,6 +46,15 @@ pub struct Found {
     pub won_alone: BTreeSet<(usize, usize)>,
     /// What the ends leave.
     pub memories: BTreeSet<[u32; MOST_LOCATIONS]>,
+    /// Steps that issue a compare, by what comes of it.
+    pub succeeded: u64,
+    pub failed: u64,
+    /// How many compares failed before the ends.
+    pub failures: BTreeSet<u8>,
+    /// Locations in states without a legal step: a thread that would write there made no write; no thread
+    /// made one, though some would.
+    pub unmade: u64,
+    pub left_alone: u64,
     /// The first of each sentence.
     pub faults: Vec<Fault>,
 }
@@ -92,8 +103,11 @@ impl Found {
         self.steps += visit.edges.len() as u64;
         self.runs = self.runs.saturating_add(visit.runs);
         self.shared += u64::from(visit.point.state.queues.iter().any(is_shared));
+        self.succeeded += visit.compares(Outcome::Succeeds);
+        self.failed += visit.compares(Outcome::Fails);
         if visit.is_end() {
             self.ends += 1;
+            self.failures.insert(visit.point.failed);
             self.finished_runs = self.finished_runs.saturating_add(visit.runs);
             self.memories.insert(visit.point.state.words);
             for at in 0..program.writers.len() {
@@ -108,7 +122,10 @@ impl Found {
         if let [one] = winners[..] {
             self.won_alone.insert((at, one));
         }
-        let several = program.writers[at].len() > 1;
+        let (would, made) = (program.writers[at].len(), visit.writers(program, at).len());
+        self.unmade += u64::from(made < would);
+        self.left_alone += u64::from(made == 0 && would > 0);
+        let several = made > 1;
         self.contended += u64::from(several);
         self.told_apart += u64::from(several && winners.len() == 1);
         let word = visit.point.state.words[at];
@@ -120,17 +137,18 @@ impl Found {
     }
 
     /// The thread's last write for the location is there at some end, and the run written out is
-    /// such a run: the judge lets it pass, and it has the full length.
+    /// such a run: the judge lets it pass, and it has the full length less its failed compares.
     fn check_pair(&mut self, engine: &Engine, program: &Program, at: usize, thread: usize) {
         let pair = format!("thread {thread} at location {at}");
         if !self.won.contains(&(at, thread)) {
             self.blame(ANY_THREAD, program, &pair);
         }
-        let run = program.carried(thread);
+        let Carried { run, failed, .. } = program.carried(thread);
         let mut case = program.case.clone();
         case.set_run(&run);
         let verdict = (engine.judge)(&case);
-        let passes = (verdict.number, verdict.place) == (LEGAL, program.full as usize);
+        let length = program.full as usize - failed;
+        let passes = (verdict.number, verdict.place) == (LEGAL, length);
         let end = Point::behind(engine, &program.case, &run);
         let fixed = end.and_then(|end| end.fixed[thread][at]);
         if !passes || fixed != Some(verdict.state.words[at]) {

@@ -1,6 +1,7 @@
 //! All states that the runs of a program reach, breadth first, each once.
 
 use super::engine::Engine;
+use super::outcome::Outcome;
 use super::point::Point;
 use super::program::Program;
 use crate::judge::case::{Case, Step};
@@ -22,6 +23,8 @@ pub struct Edge {
     /// Behind the step: the work left, and the depth by which its state is known.
     pub work: u32,
     pub depth: u32,
+    /// Of a compare.
+    pub outcome: Option<Outcome>,
 }
 
 pub struct Visit {
@@ -39,10 +42,24 @@ impl Visit {
         self.edges.is_empty()
     }
 
-    /// The threads that write the location and whose last word for it stands there.
+    /// Its legal steps that issue a compare of that outcome.
+    pub fn compares(&self, outcome: Outcome) -> u64 {
+        let such = |edge: &&Edge| edge.outcome == Some(outcome);
+        self.edges.iter().filter(such).count() as u64
+    }
+
+    /// The threads that write the location; where there are compares, that really made a write there.
+    pub fn writers(&self, program: &Program, at: usize) -> Vec<usize> {
+        let mut threads = program.writers[at].clone();
+        let made = |&thread: &usize| self.point.fixed[thread][at].is_some();
+        threads.retain(|thread| !program.compares || made(thread));
+        threads
+    }
+
+    /// Those whose last word for the location stands there.
     pub fn winners(&self, program: &Program, at: usize) -> Vec<usize> {
         let word = Some(self.point.state.words[at]);
-        let mut threads = program.writers[at].clone();
+        let mut threads = self.writers(program, at);
         threads.retain(|&thread| self.point.fixed[thread][at] == word);
         threads
     }
@@ -120,6 +137,7 @@ impl<'a> Explorer<'a> {
         Edge {
             work,
             depth: self.nodes[at].depth,
+            outcome: Outcome::of(self.case, &point.state, step),
         }
     }
 

@@ -1,6 +1,8 @@
-//! A state on a run, with the word that each thread fixed last for each location on the way.
+//! A state on a run, with the word that each thread fixed last for each location on the way, and how many
+//! compares failed.
 
 use super::engine::Engine;
+use super::outcome::Outcome;
 use super::program::{writes, writes_word};
 use crate::judge::case::{Case, Step, MOST_LOCATIONS, MOST_THREADS};
 use crate::judge::machine::rules::ISSUE;
@@ -10,8 +12,11 @@ use crate::judge::machine::state::{Entry, State};
 pub struct Point {
     pub state: State,
     /// By thread and location. It is kept by looking at instructions and registers as they are
-    /// issued, never at buffers or queues: so it tells what the machine ought to carry.
+    /// issued, never at buffers or, but for whether a compare succeeds, at queues: so it tells what the
+    /// machine ought to carry.
     pub fixed: [[Option<u32>; MOST_LOCATIONS]; MOST_THREADS],
+    /// Failed compares: runs to one state may differ in them, and then in their length.
+    pub failed: u8,
 }
 
 impl Point {
@@ -19,14 +24,17 @@ impl Point {
         Point {
             state: State::start(case),
             fixed: [[None; MOST_LOCATIONS]; MOST_THREADS],
+            failed: 0,
         }
     }
 
     /// Behind a legal step.
     pub fn after(&self, engine: &Engine, case: &Case, step: &Step) -> Point {
         let mut next = self.clone();
-        if step.code == ISSUE {
-            next.fix(case, step.thread.into());
+        match Outcome::of(case, &self.state, step) {
+            Some(Outcome::Fails) => next.failed += 1,
+            _ if step.code == ISSUE => next.fix(case, step.thread.into()),
+            _ => {}
         }
         (engine.advance)(case, &mut next.state, step);
         next
@@ -40,6 +48,7 @@ impl Point {
         })
     }
 
+    /// What is issued next is written, if it writes.
     fn fix(&mut self, case: &Case, thread: usize) {
         let next = match self.state.unissued(case, thread).first() {
             Some(next) if writes(next) => next,
@@ -69,6 +78,7 @@ impl Point {
         let state = &self.state;
         let mut key = Vec::with_capacity(160);
         key.extend_from_slice(&state.issued);
+        key.push(self.failed);
         put(&mut key, &state.words[..locations]);
         for queue in &state.queues[..usize::from(case.lines)] {
             key.push(queue.count);

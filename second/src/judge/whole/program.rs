@@ -1,19 +1,22 @@
 //! What is known of a program from its instructions alone.
 
-use crate::judge::case::{Case, Instruction, Step};
-use crate::judge::machine::steps::{issue, persist, shift};
+use super::carried::Carried;
+use crate::judge::case::{Case, Instruction};
+use crate::judge::machine::rules::{COMPARE, EXCHANGE};
 
-/// Steps of operations 1 to 8 from the issue to the end: document 01's weights, written down once
-/// more so that the full length does not rest on the machine's own sum.
-const LENGTHS: [u32; 8] = [3, 3, 1, 2, 2, 3, 2, 1];
+/// The most steps of operations 1 to 9 from the issue to the end: the weights of documents 01 and 02,
+/// written down once more so that the full length does not rest on the machine's own sum.
+const LENGTHS: [u32; 9] = [3, 3, 1, 2, 2, 3, 2, 1, 2];
 
 #[derive(Clone)]
 pub struct Program {
     /// Without wants, passed counts and steps.
     pub case: Case,
     pub full: u32,
-    /// By location: the threads that write it, rising.
+    /// By location: the threads that write it, or would with a compare that succeeds, rising.
     pub writers: Vec<Vec<usize>>,
+    /// Some instruction is a compare.
+    pub compares: bool,
 }
 
 impl Program {
@@ -31,6 +34,7 @@ impl Program {
         };
         let threads = 0..usize::from(case.threads);
         let all = threads.clone().flat_map(|thread| code(&case, thread));
+        let compares = all.clone().any(is_compare);
         let full = all.map(|one| LENGTHS[usize::from(one.operation) - 1]).sum();
         let writes_there = |thread: usize, at: u8| {
             let mut code = code(&case, thread).iter();
@@ -42,16 +46,25 @@ impl Program {
             case,
             full,
             writers,
+            compares,
         }
     }
 
-    /// Every location with each thread that writes it.
+    /// Every location with each thread that writes it in the run in which that thread comes last.
     pub fn pairs(&self) -> Vec<(usize, usize)> {
         let of = |(at, threads): (usize, &Vec<usize>)| {
-            let pairs = threads.iter().map(move |&thread| (at, thread));
+            let made = threads
+                .iter()
+                .filter(|&&thread| self.makes_last(thread, at));
+            let pairs = made.map(|&thread| (at, thread));
             pairs.collect::<Vec<(usize, usize)>>()
         };
         self.writers.iter().enumerate().flat_map(of).collect()
+    }
+
+    /// Of a writer of the location; where nothing is a compare, each writes whatever comes before.
+    fn makes_last(&self, thread: usize, at: usize) -> bool {
+        !self.compares || self.carried(thread).made[at] == Some(thread)
     }
 
     /// Where one thread alone writes the location, and a word last: that word.
@@ -62,7 +75,7 @@ impl Program {
         };
         let mut code = code(&self.case, thread).iter().rev();
         let last = code.find(|one| writes(one) && usize::from(one.location) == at)?;
-        writes_word(last).then_some(last.word)
+        (writes_word(last) && !is_compare(last)).then_some(last.word)
     }
 
     /// The words that the thread's instructions hold.
@@ -86,41 +99,33 @@ impl Program {
 
     /// The run written out: every thread's instructions one after the other, each carried through
     /// to its end before the next, the given thread behind all others.
-    pub fn carried(&self, last: usize) -> Vec<Step> {
+    pub fn carried(&self, last: usize) -> Carried {
         let threads = 0..usize::from(self.case.threads);
         let others = threads.filter(|&thread| thread != last);
-        let mut run = Vec::new();
+        let mut carried = Carried::start(&self.case);
         for thread in others.chain([last]) {
             for one in code(&self.case, thread) {
-                run.extend(carry_through(&self.case, thread as u8, one));
+                carried.carry_through(&self.case, thread, one);
             }
         }
-        run
+        carried
     }
-}
-
-/// With every buffer and queue empty.
-fn carry_through(case: &Case, thread: u8, one: &Instruction) -> Vec<Step> {
-    let mut steps = vec![issue(thread)];
-    if [1, 2, 5, 6, 7].contains(&one.operation) {
-        steps.push(shift(thread, 0));
-    }
-    if [1, 2, 4, 6].contains(&one.operation) {
-        steps.push(persist(case.line_of(one.location) as u8));
-    }
-    steps
 }
 
 pub fn code(case: &Case, thread: usize) -> &[Instruction] {
     &case.code[Case::places(thread)][..usize::from(case.counts[thread])]
 }
 
-/// Stores and exchanges.
+/// Stores and exchanges, and compares, which write if they succeed.
 pub fn writes(one: &Instruction) -> bool {
     one.operation == 2 || writes_word(one)
 }
 
-/// What is written stands in the instruction.
+/// What is written, if anything is, stands in the instruction.
 pub fn writes_word(one: &Instruction) -> bool {
-    one.operation == 1 || one.operation == 4
+    [1, EXCHANGE, COMPARE].contains(&one.operation)
+}
+
+pub fn is_compare(one: &Instruction) -> bool {
+    one.operation == COMPARE
 }

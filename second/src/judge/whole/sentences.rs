@@ -2,6 +2,7 @@
 //! speak of the whole program are in `confirm`.
 
 use super::explore::Visit;
+use super::outcome::Outcome;
 use super::program::Program;
 
 pub struct Sentence {
@@ -15,10 +16,10 @@ const fn sentence(name: &'static str, broken: fn(&Program, &Visit) -> bool) -> S
 
 pub const WEDGED: &str = "never wedged";
 pub const GOES_ON: &str = "nothing left, no step";
-pub const STEP: &str = "each step lowers the work left by one";
-pub const DEPTH: &str = "all runs to a state have one length";
-pub const LENGTH: &str = "a run that cannot go on has the full length";
-pub const LAST_WRITE: &str = "at the end a last write of a thread that writes there";
+pub const STEP: &str = "each step lowers the work left by one, a failed compare by two";
+pub const DEPTH: &str = "all runs to a state with as many failed compares have one length";
+pub const LENGTH: &str = "a run that cannot go on has the full length less its failed compares";
+pub const LAST_WRITE: &str = "at the end a last write that a thread really made there";
 pub const ONE_WRITER: &str = "one writer, whose last word is there at the end";
 pub const NO_WRITER: &str = "no writer, the first content in every state";
 
@@ -30,14 +31,15 @@ pub const OF_STATES: [Sentence; 8] = [
         !visit.point.has_more(&program.case) && !visit.is_end()
     }),
     sentence(STEP, |_, visit| {
-        visit.edges.iter().any(|edge| edge.work + 1 != visit.work)
+        let mut edges = visit.edges.iter();
+        edges.any(|edge| edge.work + Outcome::cost(edge.outcome) != visit.work)
     }),
     sentence(DEPTH, |_, visit| {
         let mut edges = visit.edges.iter();
         edges.any(|edge| edge.depth != visit.depth + 1)
     }),
     sentence(LENGTH, |program, visit| {
-        visit.is_end() && visit.depth != program.full
+        visit.is_end() && visit.depth + u32::from(visit.point.failed) != program.full
     }),
     sentence(LAST_WRITE, |program, visit| {
         visit.is_end() && locations(program).any(|at| !holds_last_write(program, visit, at))
@@ -64,7 +66,7 @@ fn holds_first(program: &Program, visit: &Visit, at: usize) -> bool {
 }
 
 fn holds_last_write(program: &Program, visit: &Visit, at: usize) -> bool {
-    if program.writers[at].is_empty() {
+    if visit.writers(program, at).is_empty() {
         holds_first(program, visit, at)
     } else {
         !visit.winners(program, at).is_empty()

@@ -28,6 +28,7 @@ fn instruction(one: &Instruction) -> String {
         5 => format!("flush x{at}"),
         6 => format!("flush-opt x{at}"),
         7 => "sfence".to_string(),
+        9 => format!("compare x{at} r{register} {word}"),
         _ => "mfence".to_string(),
     }
 }

@@ -4,6 +4,7 @@ use super::answer::Answer;
 use super::frame::{Frame, FIELDS_END};
 use crate::judge::case::{OWN_LINES, TOLD_LINES};
 use crate::judge::form::fits;
+use crate::judge::machine::rules::COMPARE;
 use crate::streams::tally::{sort, Sort};
 
 /// Accepted and written again as it was read.
@@ -25,7 +26,7 @@ fn shows_its_place(input: &[u8], offset: usize) -> bool {
     within && input[offset - 1..input.len() - 1] != input[offset..]
 }
 
-pub const SORTS: [Sort<fn(&Frame, &Answer) -> bool>; 54] = [
+pub const SORTS: [Sort<fn(&Frame, &Answer) -> bool>; 61] = [
     sort("written: 0", 500, |_, a| a.number == 0),
     sort("written: 31", 500, |_, a| a.number == 31),
     sort("written: 32", 500, |_, a| a.number == 32),
@@ -76,6 +77,26 @@ pub const SORTS: [Sort<fn(&Frame, &Answer) -> bool>; 54] = [
     }),
     sort("line behind the locations: 32", 30, |f, a| {
         of_line(f, a, false) && a.changed != a.reading.case && a.number == 32
+    }),
+    sort("operation changed to 9, readable", 20, |f, a| {
+        operation_of(f, a).map_or(false, |new| new == COMPARE) && fits(&a.changed)
+    }),
+    sort("operation changed to 10: 32", 20, |f, a| {
+        operation_of(f, a).map_or(false, |new| new > COMPARE) && a.number == 32
+    }),
+    sort("operation changed from 9, readable", 5, |f, a| {
+        operation_of(f, a).is_some() && was_compare(f, a) && fits(&a.changed)
+    }),
+    sort("operation changed from 9: 32", 20, |f, a| {
+        operation_of(f, a).is_some() && was_compare(f, a) && a.number == 32
+    }),
+    sort("accepted, a compare", 200, |f, a| {
+        let mut code = a.reading.case.code.iter();
+        rewritten(f, a) && code.any(|one| one.operation == COMPARE)
+    }),
+    sort("5 for operation 10", 20, |_, a| out_of_range(a, 10)),
+    sort("5 for a field of a compare", 40, |_, a| {
+        out_of_range(a, COMPARE)
     }),
     sort("accepted, 8 bytes", 5, |f, a| length_in(f, a, 8, 8)),
     sort("accepted, 9 to 99 bytes", 100, |f, a| {
@@ -159,6 +180,31 @@ pub const SORTS: [Sort<fn(&Frame, &Answer) -> bool>; 54] = [
         a.reading.number == 5 && names_no_line(f, a)
     }),
 ];
+
+/// The operation that the frame sets in place of another one.
+fn operation_of(frame: &Frame, answer: &Answer) -> Option<u8> {
+    let place = place_of(frame)?;
+    let [was, new] = [&answer.reading.case, &answer.changed].map(|case| case.code[place].operation);
+    (new != was).then_some(new)
+}
+
+fn was_compare(frame: &Frame, answer: &Answer) -> bool {
+    let code = &answer.reading.case.code;
+    place_of(frame).map_or(false, |place| code[place].operation == COMPARE)
+}
+
+/// Of the instruction whose operation the frame sets.
+fn place_of(frame: &Frame) -> Option<usize> {
+    let of_code = (15..143).contains(&frame.field) && (frame.field - 15) % 4 == 0;
+    of_code.then(|| (frame.field as usize - 15) / 4)
+}
+
+/// Refused with 5 is an instruction of that operation.
+fn out_of_range(answer: &Answer, operation: u8) -> bool {
+    let record = answer.unread.get(..12);
+    let is_such = |bytes: &[u8]| bytes[..4] == [8, 0, 3, 0] && bytes[5] == operation;
+    answer.reading.number == 5 && record.map_or(false, is_such)
+}
 
 /// The frame sets the version of a case that was read in that version.
 fn of_version(frame: &Frame, answer: &Answer, version: u16) -> bool {

@@ -4,6 +4,7 @@ use super::answer::{answer, Answer};
 use super::blocked::{Blocked, BLOCKED};
 use super::frame::{Job, Trial};
 use super::marks::{mark_of, FAMILIES};
+use super::outcomes::CompareCounts;
 use super::raw;
 use super::sharing::SHARING;
 use super::sorts::SORTS;
@@ -52,6 +53,7 @@ pub struct TrialCounts {
     sharing: [u64; SHARING.len()],
     blocked: [u64; BLOCKED.len()],
     spots: SpotCounts,
+    compares: CompareCounts,
     /// Of the cases whose run or step was judged.
     layouts: LayoutCounts,
     families: [u64; FAMILIES.len()],
@@ -71,6 +73,7 @@ impl TrialCounts {
             sharing: [0; SHARING.len()],
             blocked: [0; BLOCKED.len()],
             spots: SpotCounts::new(),
+            compares: CompareCounts::default(),
             layouts: LayoutCounts::default(),
             families: [0; FAMILIES.len()],
             lengths: [false; MOST_STEPS + 1],
@@ -110,8 +113,9 @@ impl TrialCounts {
     }
 
     /// A marked frame has one right answer, or must fit. A refusal leaves the state as it was; a
-    /// legal step uses up one of the work left, and a legal run its length; a start has it all.
-    fn check(&mut self, trial: &Trial, answer: &Answer) {
+    /// legal step uses up one of the work left, a failed compare two, and a legal run as much as its
+    /// steps; a start has it all.
+    fn check(&mut self, trial: &Trial, answer: &Answer, used: u32) {
         let (frame, verdict) = (self.frames, &answer.verdict);
         let legal = verdict.number == LEGAL;
         if let Some(mark) = mark_of(trial) {
@@ -132,10 +136,10 @@ impl TrialCounts {
         if legal {
             let after = crate::judge::machine::work::work_left(&answer.case, &verdict.state);
             let before = match trial.job {
-                Job::Step(..) => answer.work.map(|work| work - 1),
-                _ => answer.full.map(|full| full - verdict.place as u32),
+                Job::Step(..) => answer.work,
+                _ => answer.full,
             };
-            if after != before {
+            if after.map(|after| after + used) != before {
                 self.faults.push(format!("frame {frame}: the work left"));
             }
         }
@@ -174,7 +178,8 @@ impl Counts<Trial> for TrialCounts {
         if trial.job != Job::Start && (number == LEGAL || RULES.contains(&number)) {
             self.layouts.take(&answer.case);
         }
-        self.check(trial, &answer);
+        let used = self.compares.take(trial, &answer);
+        self.check(trial, &answer, used);
     }
 
     fn rows(&self) -> Vec<Row> {
@@ -201,6 +206,7 @@ impl Counts<Trial> for TrialCounts {
             rows.push(row(sort.name, count, sort.least));
         }
         rows.extend(self.spots.rows());
+        rows.extend(self.compares.rows());
         rows.extend(self.layouts.rows(150, 1..=8));
         for (family, &count) in FAMILIES.iter().zip(&self.families) {
             rows.push(row(family.name, count, family.least));

@@ -6,6 +6,7 @@ pub mod counts;
 pub mod frame;
 pub mod generate;
 mod marks;
+mod outcomes;
 pub mod raw;
 mod sharing;
 mod sorts;

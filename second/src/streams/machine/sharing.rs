@@ -13,7 +13,7 @@ use crate::streams::cases::frame::FIELDS_END;
 use crate::streams::layouts;
 use crate::streams::tally::{sort, Sort};
 
-pub const SHARING: [Sort<fn(&Trial, &Answer) -> bool>; 15] = [
+pub const SHARING: [Sort<fn(&Trial, &Answer) -> bool>; 17] = [
     sort("run to a queue of two locations", 200, |_, a| {
         a.given.is_none() && a.verdict.state.queues.iter().any(is_shared)
     }),
@@ -28,6 +28,12 @@ pub const SHARING: [Sort<fn(&Trial, &Answer) -> bool>; 15] = [
     }),
     sort("exchange, neighbours' alone", 30, |t, a| {
         neighbours_alone(t, a, 4)
+    }),
+    sort("compare past a neighbour's newer", 30, |t, a| {
+        past_newer(t, a, 9)
+    }),
+    sort("compare, neighbours' alone", 30, |t, a| {
+        neighbours_alone(t, a, 9)
     }),
     sort("26 for a neighbour's entry", 50, |t, a| {
         stepped(t, a, BARRED).map_or(false, |(step, state)| barred_by_line(a, step, state))

@@ -12,6 +12,7 @@ use crate::judge::machine::state::State;
 use crate::judge::machine::work::full_length;
 use crate::judge::reading::read;
 use crate::judge::refusal::BUFFER_TOO_SHORT;
+use crate::judge::whole::outcome::Outcome;
 use crate::streams::tally::{row, Counts, Row};
 use crate::streams::wire::UNTOUCHED;
 
@@ -44,6 +45,8 @@ pub struct Sight<'a> {
     pub need: usize,
     /// Behind the run that is shown.
     pub end: Option<State>,
+    /// Of the compares of that run.
+    pub outcomes: Vec<Outcome>,
 }
 
 #[derive(Default)]
@@ -132,6 +135,15 @@ fn end_of(case: &Case, answer: &Answer) -> Option<State> {
     passes.then_some(verdict.state)
 }
 
+/// None where no run is shown.
+fn outcomes_of(case: &Case, answer: &Answer) -> Vec<Outcome> {
+    if answer.reply.number != REACHED {
+        return Vec::new();
+    }
+    let shown = read(&with_run(case, answer)).case;
+    Outcome::along(&shown, &shown.steps[..answer.reply.place])
+}
+
 impl Counts<Query> for QueryCounts {
     fn take(&mut self, query: &Query) {
         let answer = answer(query);
@@ -141,6 +153,7 @@ impl Counts<Query> for QueryCounts {
             refusal: reading.number,
             need: RECORD * full_length(&reading.case).unwrap_or(0) as usize,
             end: end_of(&reading.case, &answer),
+            outcomes: outcomes_of(&reading.case, &answer),
             case: reading.case,
             answer: &answer,
         };

@@ -2,12 +2,14 @@
 
 use super::counts::Sight;
 use crate::judge::ask::{REACHED, RECORD, UNDECIDED, UNREACHABLE};
+use crate::judge::machine::rules::COMPARE;
 use crate::judge::machine::work::full_length;
 use crate::judge::reading::read;
 use crate::judge::refusal::BUFFER_TOO_SHORT;
+use crate::judge::whole::outcome::Outcome::{Fails, Succeeds};
 use crate::streams::tally::{sort, Sort};
 
-pub const SORTS: [Sort<fn(&Sight) -> bool>; 54] = [
+pub const SORTS: [Sort<fn(&Sight) -> bool>; 60] = [
     sort("100, room just enough", 200, |s| {
         reached(s) && room(s) == s.need
     }),
@@ -112,6 +114,21 @@ pub const SORTS: [Sort<fn(&Sight) -> bool>; 54] = [
     sort("decided, flush-opt", 200, |s| decided(s) && has(s, 6)),
     sort("decided, sfence", 200, |s| decided(s) && has(s, 7)),
     sort("decided, mfence", 200, |s| decided(s) && has(s, 8)),
+    sort("decided, compare", 200, |s| decided(s) && has(s, COMPARE)),
+    sort("101, compare", 100, |s| {
+        is(s, UNREACHABLE) && has(s, COMPARE)
+    }),
+    sort("100, a compare succeeds", 200, |s| {
+        s.outcomes.contains(&Succeeds)
+    }),
+    sort("100, a compare fails", 200, |s| s.outcomes.contains(&Fails)),
+    sort("100, one fails, one succeeds", 100, |s| {
+        s.outcomes.contains(&Fails) && s.outcomes.contains(&Succeeds)
+    }),
+    sort("100 at the end, a compare failed", 50, |s| {
+        let failed = s.outcomes.iter().filter(|&&one| one == Fails).count();
+        reached(s) && failed > 0 && (place(s) + failed) * RECORD == s.need
+    }),
     sort("steps in the input", 200, |s| asked(s) && s.case.count > 0),
     sort("96 steps in the input", 20, |s| {
         asked(s) && s.case.count == 96

@@ -7,7 +7,7 @@ use crate::judge::reading::read;
 use crate::streams::cases::generate::sketch::Sketch;
 use crate::streams::cases::generate::valid::ROW;
 use crate::streams::machine::frame::Trial;
-use crate::streams::machine::generate::programs::{any, dress, program, EVERY};
+use crate::streams::machine::generate::programs::{add, any, dress, instruction, program, EVERY};
 use crate::streams::machine::generate::runs::{self, walk};
 use crate::streams::parts::{hand_out, Part, Take};
 use crate::streams::random::Random;
@@ -17,10 +17,11 @@ use std::io;
 pub const BUDGET: u32 = 300;
 
 /// Made once, whatever the number of cases asked for.
-const ONCE: [Part<Written>; 3] = [
+const ONCE: [Part<Written>; 4] = [
     |random| written(random, |_| vec![read(&ROW).case]),
     |random| written(random, empty),
     |random| written(random, longest),
+    |random| written(random, every_operation),
 ];
 
 /// Made in turn until there are enough cases.
@@ -53,6 +54,23 @@ fn empty(random: &mut Random) -> Vec<Case> {
 fn longest(random: &mut Random) -> Vec<Case> {
     let files = (0..12).map(|_| Sketch::longest(random).bytes());
     files.map(|file| read(&file).case).collect()
+}
+
+/// Each operation once, in any order, by two threads.
+fn every_operation(random: &mut Random) -> Vec<Case> {
+    let case = |_| {
+        let locations = random.between(1, 8);
+        let mut case = program(random, locations, &[0, 0], &EVERY);
+        let mut left = EVERY.to_vec();
+        while !left.is_empty() {
+            let operation = left.swap_remove(random.below(left.len()));
+            let made = instruction(random, operation, locations);
+            add(&mut case, left.len() % 2, made);
+        }
+        dress(random, &mut case);
+        case
+    };
+    (0..60).map(case).collect()
 }
 
 pub fn sketched(random: &mut Random, count: usize) -> Vec<Case> {

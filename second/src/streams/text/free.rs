@@ -45,6 +45,7 @@ struct Habits {
     letters: usize,
     unsaid: usize,
     beside: usize,
+    spelling: usize,
 }
 
 impl Habits {
@@ -62,6 +63,7 @@ impl Habits {
             // Seven eighths at most: it is asked for until it is not taken.
             unsaid: often().min(7),
             beside: often(),
+            spelling: often(),
         }
     }
 }
@@ -252,6 +254,10 @@ impl<'a> Pen<'a> {
     fn word(&mut self, word: &Word) -> String {
         match word {
             Word::Key(key) => key.to_string(),
+            Word::Either(keys) => {
+                let second = self.taken(self.habits.spelling);
+                keys[usize::from(second)].to_string()
+            }
             Word::Location(at) => self.names[usize::from(*at)].clone(),
             Word::Register(register) => format!("r{register}"),
             Word::Number(number) => self.number(*number),

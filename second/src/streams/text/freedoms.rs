@@ -5,7 +5,7 @@ use super::sight::Sight;
 use crate::streams::layouts::on_line;
 use crate::streams::tally::{sort, Sort};
 
-pub const FREEDOMS: [Sort<fn(&Sight) -> bool>; 58] = [
+pub const FREEDOMS: [Sort<fn(&Sight) -> bool>; 61] = [
     sort("name: a word of the grammar", 100, |s| named(s, &KEYS)),
     sort("name: like a step", 100, |s| named(s, &LIKE_STEPS)),
     sort("name: nearly a register", 100, |s| {
@@ -123,9 +123,18 @@ pub const FREEDOMS: [Sort<fn(&Sight) -> bool>; 58] = [
         hexadecimal(s, zeros_before)
     }),
     sort("a decimal number, zeros before", 200, |s| {
-        ["first", "store", "xchg", "want"]
+        ["first", "store", "xchg", "cmpxchg", "cas", "want"]
             .iter()
             .any(|key| zeros_behind(s, key))
+    }),
+    sort("a compare as cmpxchg", 200, |s| {
+        !s.places("cmpxchg").is_empty()
+    }),
+    sort("a compare as cas", 200, |s| !s.places("cas").is_empty()),
+    sort("a compare as either in one text", 50, |s| {
+        ["cmpxchg", "cas"]
+            .iter()
+            .all(|key| !s.places(key).is_empty())
     }),
     sort("a thread, zeros before", 200, |s| zeros_behind(s, "thread")),
     sort("a passed line, zeros before", 100, |s| {

@@ -9,7 +9,7 @@ pub const REGISTERS: [&str; 4] = ["r0", "r1", "r2", "r3"];
 pub const MOST_CHARACTERS: usize = 24;
 
 /// The words that statements begin with.
-pub const KEYS: [&str; 17] = [
+pub const KEYS: [&str; 19] = [
     "locations",
     "line",
     "first",
@@ -17,6 +17,8 @@ pub const KEYS: [&str; 17] = [
     "store",
     "load",
     "xchg",
+    "cmpxchg",
+    "cas",
     "clflush",
     "clflushopt",
     "sfence",

@@ -39,7 +39,7 @@ fn written(indent: &str, line: &[Word]) -> String {
 
 fn word(one: &Word) -> String {
     match one {
-        Word::Key(key) => key.to_string(),
+        Word::Key(key) | Word::Either([key, _]) => key.to_string(),
         Word::Location(at) => PLAIN[usize::from(*at)].to_string(),
         Word::Register(register) => format!("r{register}"),
         Word::Number(number) => number.to_string(),

@@ -4,10 +4,10 @@ use super::sight::Sight;
 use super::statements::steps;
 use crate::judge::ask::{REACHED, UNDECIDED, UNREACHABLE};
 use crate::judge::machine::judge::LEGAL;
-use crate::judge::machine::rules::{ISSUE, MOVE, PERSIST};
+use crate::judge::machine::rules::{COMPARE, ISSUE, MOVE, PERSIST};
 use crate::streams::tally::{sort, Sort};
 
-pub const SORTS: [Sort<fn(&Sight) -> bool>; 49] = [
+pub const SORTS: [Sort<fn(&Sight) -> bool>; 50] = [
     sort("store word", 500, |s| has(s, 1)),
     sort("store register", 500, |s| has(s, 2)),
     sort("load", 500, |s| has(s, 3)),
@@ -16,7 +16,8 @@ pub const SORTS: [Sort<fn(&Sight) -> bool>; 49] = [
     sort("flush-opt", 500, |s| has(s, 6)),
     sort("sfence", 500, |s| has(s, 7)),
     sort("mfence", 500, |s| has(s, 8)),
-    sort("every operation", 100, |s| (1..=8).all(|one| has(s, one))),
+    sort("compare", 500, |s| has(s, COMPARE)),
+    sort("every operation", 100, |s| (1..=9).all(|one| has(s, one))),
     sort("1 thread", 100, |s| s.case.threads == 1),
     sort("2 threads", 100, |s| s.case.threads == 2),
     sort("3 threads", 100, |s| s.case.threads == 3),

@@ -9,6 +9,8 @@ use crate::streams::layouts::on_line;
 pub enum Word {
     /// A word of the grammar.
     Key(&'static str),
+    /// Two words of the grammar that say the same; the one text has the first.
+    Either([&'static str; 2]),
     Location(u8),
     Register(u8),
     /// Decimal or hexadecimal.
@@ -73,6 +75,7 @@ fn line(one: &Instruction) -> Line {
         5 => vec![Key("clflush"), at],
         6 => vec![Key("clflushopt"), at],
         7 => vec![Key("sfence")],
+        9 => vec![Either(["cmpxchg", "cas"]), at, register, word],
         _ => vec![Key("mfence")],
     }
 }

@@ -5,6 +5,7 @@ use super::ledger::Known;
 use super::sorts::{Sight, SORTS};
 use super::sums::SUMS;
 use crate::judge::reading::read;
+use crate::judge::whole::outcome::Outcome;
 use crate::judge::whole::program::Program;
 use crate::judge::writing::encode;
 use crate::streams::layouts::LayoutCounts;
@@ -60,9 +61,11 @@ impl Counts<Trial> for WholeCounts {
         if trial.job != Job::Bytes || reading.number != 0 {
             return self.blame("no case whose run is judged");
         }
+        let run = &reading.case.steps[..usize::from(reading.case.count)];
         let sight = Sight {
             case: &reading.case,
             program: &Program::of(&reading.case),
+            failed: Outcome::failed(&reading.case, run),
         };
         for (sort, count) in SORTS.iter().zip(&mut self.sorts) {
             *count += u64::from((sort.told)(&sight));
@@ -85,6 +88,9 @@ impl Counts<Trial> for WholeCounts {
         rows.extend(layouts.rows(15, 2..=3));
         let most = self.greatest(|known| known.found.states);
         rows.push(row("most states of a program", most, 5000));
+        let failed =
+            self.greatest(|known| known.found.failures.last().map_or(0, |&most| most.into()));
+        rows.push(row("most failed compares of a run", failed, 3));
         let longest = self.greatest(|known| known.program.full.into());
         rows.push(row("greatest full length", longest, 19));
         for (sort, &count) in SORTS.iter().zip(&self.sorts) {

@@ -29,13 +29,13 @@ impl Known {
     /// Takes a frame of the program; what is wrong with it, if anything is.
     pub fn take(&mut self, sight: &Sight, answer: &Answer) -> Option<&'static str> {
         let verdict = &answer.verdict;
-        if sight.run().len() > sight.full() + 1 {
+        if sight.run().len() > sight.longest() + 1 {
             return Some("more than one step too many");
         }
         if (verdict.number, verdict.place) != sight.right() {
             return Some("not the number or not the place that its run has");
         }
-        let left = sight.full().saturating_sub(sight.run().len()) as u32;
+        let left = sight.longest().saturating_sub(sight.run().len()) as u32;
         if (answer.work, answer.full) != (Ok(left), Ok(self.program.full)) {
             return Some("the work left or the full length");
         }
@@ -59,7 +59,7 @@ impl Known {
             _ => return Some("no location with one that writes it"),
         };
         self.open.remove(&(at, thread));
-        if sight.run() != self.program.carried(thread) {
+        if sight.run() != self.program.carried(thread).run {
             return Some("not the run written out");
         }
         if answer.verdict.state.words[at] != case.want[at] {

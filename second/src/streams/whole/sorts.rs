@@ -10,14 +10,28 @@ use crate::streams::tally::{sort, Sort};
 pub struct Sight<'a> {
     pub case: &'a Case,
     pub program: &'a Program,
+    /// Failed compares of the run.
+    pub failed: usize,
 }
 
-pub const SORTS: [Sort<fn(&Sight) -> bool>; 6] = [
+pub const SORTS: [Sort<fn(&Sight) -> bool>; 10] = [
     sort("run written out", 500, |s| s.wanted()),
     sort("run that cannot go on", 500, |s| {
-        !s.wanted() && s.run().len() == s.full()
+        !s.wanted() && s.run().len() == s.longest()
     }),
-    sort("run cut off", 500, |s| s.run().len() < s.full()),
+    sort("run cut off", 500, |s| s.run().len() < s.longest()),
+    sort("cannot go on, a compare failed", 200, |s| {
+        s.failed > 0 && s.run().len() == s.longest()
+    }),
+    sort("cannot go on, several failed", 50, |s| {
+        s.failed > 1 && s.run().len() == s.longest()
+    }),
+    sort("cut off, a compare failed", 100, |s| {
+        s.failed > 0 && s.run().len() < s.longest()
+    }),
+    sort("written out, a compare failed", 100, |s| {
+        s.failed > 0 && s.wanted()
+    }),
     sort("a step too many: issue", 50, |s| s.beyond() == Some(ISSUE)),
     sort("a step too many: move", 50, |s| s.beyond() == Some(MOVE)),
     sort("a step too many: persist", 50, |s| {
@@ -30,22 +44,23 @@ impl Sight<'_> {
         &self.case.steps[..usize::from(self.case.count)]
     }
 
-    pub fn full(&self) -> usize {
-        self.program.full as usize
+    /// How long the run is if it cannot go on.
+    pub fn longest(&self) -> usize {
+        self.program.full as usize - self.failed
     }
 
     pub fn wanted(&self) -> bool {
         self.case.wanted.contains(&true)
     }
 
-    /// Where one step stands behind a run of full length: its code.
+    /// Where one step stands behind a run that cannot go on: its code.
     fn beyond(&self) -> Option<u8> {
         let (last, before) = self.run().split_last()?;
-        (before.len() == self.full()).then_some(last.code)
+        (before.len() == self.longest()).then_some(last.code)
     }
 
-    /// The number and the place that the frame must be answered: all is empty behind a run of
-    /// full length, so the step's code tells the rule.
+    /// The number and the place that the frame must be answered: all is empty behind a run that cannot
+    /// go on, so the step's code tells the rule.
     pub fn right(&self) -> (u8, usize) {
         let number = match self.beyond() {
             None => return (LEGAL, self.run().len()),
@@ -53,6 +68,6 @@ impl Sight<'_> {
             Some(MOVE) => NO_ENTRY,
             Some(_) => QUEUE_EMPTY,
         };
-        (number, self.full())
+        (number, self.longest())
     }
 }

@@ -1,10 +1,11 @@
 //! What is counted of the programs: sums over all that were gone through.
 
 use super::ledger::Known;
+use crate::judge::machine::rules::COMPARE;
 use crate::judge::whole::program::code;
 use crate::streams::tally::{sort as sum, Sort as Sum};
 
-pub const SUMS: [Sum<fn(&Known) -> u128>; 37] = [
+pub const SUMS: [Sum<fn(&Known) -> u128>; 48] = [
     sum("different programs", 300, |_| 1),
     sum("threads 1, locations 3", 50, |k| sized(k, 1, 3)),
     sum("threads 2, locations 2", 50, |k| sized(k, 2, 2)),
@@ -26,6 +27,31 @@ pub const SUMS: [Sum<fn(&Known) -> u128>; 37] = [
     sum("instructions: flush-opt", 100, |k| instructions(k, 6)),
     sum("instructions: sfence", 25, |k| instructions(k, 7)),
     sum("instructions: mfence", 25, |k| instructions(k, 8)),
+    sum("instructions: compare", 700, |k| instructions(k, COMPARE)),
+    sum("programs with a compare", 500, compares),
+    sum("programs with both outcomes", 200, |k| {
+        u128::from(k.found.succeeded > 0 && k.found.failed > 0)
+    }),
+    sum("programs, no compare ever succeeds", 10, |k| {
+        u128::from(k.found.succeeded == 0) * compares(k)
+    }),
+    sum("programs, no compare ever fails", 10, |k| {
+        u128::from(k.found.failed == 0) * compares(k)
+    }),
+    sum("programs with ends of two lengths", 100, |k| {
+        u128::from(k.found.failures.len() > 1)
+    }),
+    sum("steps: compare succeeds", 10_000, |k| {
+        k.found.succeeded.into()
+    }),
+    sum("steps: compare fails", 10_000, |k| k.found.failed.into()),
+    sum("ends, a thread made no write", 200, |k| {
+        k.found.unmade.into()
+    }),
+    sum("ends, no thread made a write", 50, |k| {
+        k.found.left_alone.into()
+    }),
+    sum("programs without a compare", 250, |k| 1 - compares(k)),
     sum("states", 80_000, |k| k.found.states.into()),
     sum("steps", 200_000, |k| k.found.steps.into()),
     sum("states without a step", 500, |k| k.found.ends.into()),
@@ -52,7 +78,9 @@ pub const SUMS: [Sum<fn(&Known) -> u128>; 37] = [
         k.program.pairs().len() as u128
     }),
     sum("pairs with an end of their own", 450, |k| {
-        k.found.won_alone.len() as u128
+        let pairs = k.program.pairs();
+        let own = pairs.iter().filter(|pair| k.found.won_alone.contains(pair));
+        own.count() as u128
     }),
     sum("ends of several writers", 400, |k| k.found.contended.into()),
     sum("ends told apart by whose write", 400, |k| {
@@ -71,6 +99,10 @@ pub const SUMS: [Sum<fn(&Known) -> u128>; 37] = [
         u128::from(k.found.memories.len() > 1)
     }),
 ];
+
+fn compares(known: &Known) -> u128 {
+    known.program.compares.into()
+}
 
 fn sized(known: &Known, threads: u8, locations: u8) -> u128 {
     let case = &known.program.case;

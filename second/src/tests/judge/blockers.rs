@@ -38,8 +38,12 @@ fn four(next: Instruction) -> (Case, State) {
 
 #[test]
 fn a_fence_waits_for_its_own_buffers_oldest() {
-    for fence in [MFENCE, exchange(Y, 0, 7)] {
-        let (case, mut state) = four(fence);
+    // x holds 0, as all registers do, and y holds 5.
+    let compares = [compare(X, 0, 7), compare(Y, 0, 7)];
+    for fence in [MFENCE, exchange(Y, 0, 7), compares[0], compares[1]] {
+        let (mut case, _) = four(fence);
+        case.first[1] = 5;
+        let mut state = State::start(&case);
         state.buffers[0].push(Entry::Flush(X));
         for entry in [Entry::FlushOpt(X), Entry::Sfence, Entry::Flush(Y)] {
             state.buffers[2].push(entry);
@@ -72,6 +76,9 @@ fn behind_markers(thread: u8, queues: &[(usize, &[Held])]) -> String {
     let moved = moved.strip_prefix("28 ").map(str::to_string);
     assert_eq!(place(MFENCE, "23 "), moved);
     assert_eq!(place(exchange(Y, 0, 7), "23 "), moved);
+    // Writes in these queues are 9; location 5 has none.
+    assert_eq!(place(compare(3, 0, 7), "23 "), moved);
+    assert_eq!(place(compare(5, 0, 7), "23 "), moved);
     moved.unwrap_or_default()
 }
 
@@ -242,7 +249,7 @@ fn in_the_way(case: &Case, state: &State, step: &Step, rule: u8) -> Vec<Blocker>
 #[test]
 fn of_all_that_is_in_the_way_the_first() {
     let mut named = [0; 30];
-    for (case, steps) in runs_for_tests(&mut Random::new(23), 200) {
+    for (case, steps) in runs_for_tests(&mut Random::new(23), 500) {
         let mut state = State::start(&case);
         for step in steps {
             for other in all_steps(&case) {

@@ -146,6 +146,7 @@ fn full_lengths_of_the_rows() {
     assert_eq!(length(&[flush_opt(X)]), Ok(9));
     assert_eq!(length(&[flush_opt(X), SFENCE]), Ok(11));
     assert_eq!(length(&[exchange(X, 0, 1), load(X, 0), MFENCE]), Ok(10));
+    assert_eq!(length(&[compare(X, 0, 1)]), Ok(8));
     let most = [store(X, 1); 8];
     assert_eq!(full_length(&program(&[&most, &most, &most, &most])), Ok(96));
 }
@@ -165,20 +166,31 @@ fn reading_and_32_stop_the_judge() {
     assert_eq!(full_length(&case), Err(32));
 }
 
-/// Every step of a legal run lowers the work left by one, and it ends with none left.
+/// Every step of a legal run lowers the work left by one, a failed compare by two, and it ends with none
+/// left. A compare fails where it leaves its line's queue as long as it was.
 #[test]
-fn steps_lower_the_work_left_by_one() {
+fn steps_lower_the_work_left_by_their_cost() {
+    let mut compares = [0; 2];
     for (case, steps) in runs_for_tests(&mut Random::new(11), 300) {
         let mut state = State::start(&case);
         let mut left = full_length(&case).unwrap_or(0);
-        assert!(left <= 96 && steps.len() == left as usize);
+        assert!(left <= 96 && steps.len() <= left as usize);
         for step in steps {
+            let is_compare = |one: &Instruction| step.code == 0 && one.operation == 9;
+            let next = state.unissued(&case, step.thread.into()).first().copied();
+            let compare = next.filter(is_compare);
+            let queued =
+                |state: &State| compare.map(|one| state.queues[case.line_of(one.location)].count);
+            let before = queued(&state);
             let next = single_step(&case, state, &step);
             assert_eq!(next.number, LEGAL);
             state = next.state;
-            left -= 1;
+            let fails = compare.is_some() && before == queued(&state);
+            left -= 1 + u32::from(fails);
             assert_eq!(work_left(&case, &state), Ok(left));
+            compares[usize::from(fails)] += usize::from(compare.is_some());
         }
         assert_eq!(left, 0);
     }
+    assert!(compares.iter().all(|&count| count > 40), "{compares:?}");
 }

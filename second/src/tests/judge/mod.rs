@@ -1,6 +1,7 @@
 //! Tests of the judge.
 
 mod blockers;
+mod compares;
 mod lines;
 mod machine;
 mod question;

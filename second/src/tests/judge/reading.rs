@@ -86,7 +86,22 @@ fn instructions() {
     assert_eq!(after_program(&[8, 0, 3, 0, 1, 5, 3, 0, 0, 0, 0, 0]), (5, 8));
     assert_eq!(after_program(&[8, 0, 3, 0, 1, 5, 2, 0, 0, 0, 0, 1]), (8, 8));
     assert_eq!(after_program(&[8, 0, 3, 0, 1, 3, 2, 4, 0, 0, 0, 1]), (5, 8));
-    assert_eq!(after_program(&[8, 0, 3, 0, 1, 9, 9, 9, 9, 9, 9, 9]), (5, 8));
+    assert_eq!(
+        after_program(&[8, 0, 3, 0, 1, 9, 2, 3, 9, 9, 9, 9]),
+        (0, 20)
+    );
+    assert_eq!(
+        after_program(&[8, 0, 3, 0, 1, 9, 0, 0, 0, 0, 0, 0]),
+        (0, 20)
+    );
+    assert_eq!(after_program(&[8, 0, 3, 0, 1, 9, 3, 3, 9, 9, 9, 9]), (5, 8));
+    assert_eq!(after_program(&[8, 0, 3, 0, 1, 9, 2, 4, 9, 9, 9, 9]), (5, 8));
+    assert_eq!(after_program(&[8, 0, 3, 0, 2, 9, 2, 3, 9, 9, 9, 9]), (5, 8));
+    assert_eq!(
+        after_program(&[8, 0, 3, 0, 1, 10, 0, 0, 0, 0, 0, 0]),
+        (5, 8)
+    );
+    assert_eq!(after_program(&[8, 0, 3, 0, 1, 0, 0, 0, 0, 0, 0, 0]), (5, 8));
 }
 
 #[test]

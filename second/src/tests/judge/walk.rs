@@ -21,7 +21,7 @@ fn walked(case: &Case) -> Vec<Vec<Step>> {
     runs
 }
 
-fn check_order(case: &Case, runs: &[&str]) {
+pub fn check_order(case: &Case, runs: &[&str]) {
     let walked: Vec<String> = walked(case).iter().map(|run| printed(run)).collect();
     assert_eq!(walked, runs);
 }

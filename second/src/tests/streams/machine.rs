@@ -221,16 +221,16 @@ fn wrong(trials: &[Trial]) -> Vec<String> {
 #[test]
 fn rows_by_hand_are_met() {
     let mut trials = rows::all(&mut Random::new(1));
-    assert_eq!((trials.len(), wrong(&trials)), (46, Vec::new()));
+    assert_eq!((trials.len(), wrong(&trials)), (54, Vec::new()));
     // With another blocker in its mark, or the index of another step, each is found.
     for trial in &mut trials {
         trial.value += 1 << 20;
     }
-    assert_eq!(wrong(&trials).len(), 46);
+    assert_eq!(wrong(&trials).len(), 54);
     for trial in &mut trials {
         trial.value -= (1 << 20) - (1 << 8);
     }
-    assert_eq!(wrong(&trials).len(), 46);
+    assert_eq!(wrong(&trials).len(), 54);
 }
 
 /// Frames are left out by how their `machine-judged` line begins and ends.

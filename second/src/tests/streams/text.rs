@@ -14,7 +14,7 @@ use crate::streams::text::files;
 use crate::streams::text::mistakes;
 use crate::streams::text::written::Written;
 use crate::tests::by_hand::{
-    exchange, flush, flush_opt, laid_out, load, store, MFENCE, SFENCE, X, Y,
+    compare, exchange, flush, flush_opt, laid_out, load, store, MFENCE, SFENCE, X, Y,
 };
 use std::collections::BTreeMap;
 use std::fs;
@@ -50,6 +50,7 @@ thread 0
 thread 1
 
 thread 2
+  cmpxchg d r3 4294967295
   store d 9
 
 want x 0
@@ -79,7 +80,10 @@ fn everything() -> Case {
         SFENCE,
         MFENCE,
     ];
-    let mut case = laid_out(&Layout::own(8), &[&first, &[], &[store(7, 9)]]);
+    let mut case = laid_out(
+        &Layout::own(8),
+        &[&first, &[], &[compare(7, 3, u32::MAX), store(7, 9)]],
+    );
     (case.first[1], case.first[7]) = (u32::MAX, 7);
     (case.wanted[0], case.wanted[7], case.want[7]) = (true, true, 12);
     (case.passed[0], case.passed[2]) = (8, 1);
@@ -132,8 +136,8 @@ fn lines_said(names: &[&str], statements: &[Vec<&str>]) -> Vec<usize> {
     names.iter().filter_map(|name| first(name)).collect()
 }
 
-/// A statement in one way of writing it: steps in words, locations and lines by the number of the first
-/// location, decimal numbers.
+/// A statement in one way of writing it: steps in words, a compare by its first spelling, locations and
+/// lines by the number of the first location, decimal numbers.
 fn told_one_way(names: &[&str], lines: &[usize], words: &[&str]) -> String {
     let mut firsts = lines.to_vec();
     firsts.sort_unstable();
@@ -150,6 +154,7 @@ fn told_one_way(names: &[&str], lines: &[usize], words: &[&str]) -> String {
             let first = number_of(words[1]).map(|at| lines[at]);
             vec!["persist", first.map_or("", |first| names[first])]
         }
+        _ if words[0] == "cas" => [&["cmpxchg"], &words[1..]].concat(),
         _ => words.to_vec(),
     };
     let behind = words[1..]
@@ -296,6 +301,28 @@ fn freedoms_are_told() {
     let at = told.iter().position(|name| name == "no run").unwrap_or(0);
     assert_eq!(told[at + 1..], TAKEN);
     assert_eq!(says(FREE), says(&written(&case).plain));
+}
+
+#[test]
+fn spellings_are_told() {
+    let case = laid_out(&Layout::own(1), &[&[compare(X, 1, 7), compare(X, 0, 2)]]);
+    let text = |first: &str, second: &str| {
+        format!("locations x\n\nthread 0\n  {first} x r1 7\n  {second} x r0 2\n")
+    };
+    assert_eq!(written(&case).plain, text("cmpxchg", "cmpxchg"));
+    let spelled = |first: &str, second: &str| {
+        let text = text(first, second);
+        assert_eq!(says(&text), says(&written(&case).plain));
+        let mut all = told(&case, &text);
+        all.retain(|name| name.contains("compare"));
+        all
+    };
+    let [long, short] = ["a compare as cmpxchg", "a compare as cas"];
+    assert_eq!(spelled("cmpxchg", "cmpxchg"), ["compare", long]);
+    assert_eq!(spelled("cas", "cas"), ["compare", short]);
+    let both = "a compare as either in one text";
+    assert_eq!(spelled("cas", "cmpxchg"), ["compare", long, short, both]);
+    assert_ne!(says(&text("xchg", "cas")), says(&text("cas", "cas")));
 }
 
 /// x and z on one line, y and w alone: each line is told, and named by its first location.

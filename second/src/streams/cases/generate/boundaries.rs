@@ -165,7 +165,7 @@ fn words(locations: u8) -> Vec<(Record, u8)> {
 
 fn operations(threads: u8, locations: u8) -> Vec<(Record, u8)> {
     let mut tried = Vec::new();
-    for operation in [0, 9, 10, 255] {
+    for operation in [0, 10, 11, 255] {
         tried.push((instruction([0, operation, 0, 0], 0), 5));
     }
     for (operation, uses) in (1..).zip(OPERATION_USES) {

@@ -4,6 +4,7 @@ use super::records::program;
 use super::sketch::{any_layout, Fill, Sketch};
 use super::valid::ROW;
 use crate::judge::form::fits;
+use crate::judge::machine::rules::COMPARE;
 use crate::judge::reading::read;
 use crate::streams::cases::answer::answer;
 use crate::streams::cases::frame::{slot, Frame, FIELDS_END};
@@ -86,6 +87,27 @@ pub fn versions(random: &mut Random) -> Vec<Frame> {
     (0..150).map(change).collect()
 }
 
+/// The operation of an instruction that there is: changed to a compare, from one, or to none at all.
+pub fn operations(random: &mut Random) -> Vec<Frame> {
+    let mut frames = Vec::new();
+    while frames.len() < 200 {
+        let file = base(random);
+        let code = read(&file).case.code;
+        let mut places: Vec<usize> = (0..code.len()).collect();
+        let is_compare = |place: &usize| code[*place].operation == COMPARE;
+        let only_compares = frames.len() % 2 == 0 && places.iter().any(is_compare);
+        places.retain(|place| code[*place].operation > 0 && (is_compare(place) || !only_compares));
+        if let Some(place) = random.pick_some(&places) {
+            let other = random.pick(&[1, 4, 4, 7, COMPARE + 1]);
+            let new = random.pick(&[COMPARE, COMPARE + 1]);
+            let operation = if is_compare(&place) { other } else { new };
+            let field = 15 + 4 * place as u32;
+            frames.push(frame(random, file, field, operation.into()));
+        }
+    }
+    frames
+}
+
 /// Counts at their ends, junk behind them, wants with and without flag, versions and lines.
 pub fn telling(random: &mut Random) -> Vec<Frame> {
     let mut frames = Vec::new();
@@ -105,6 +127,9 @@ pub fn telling(random: &mut Random) -> Vec<Frame> {
     };
     try_all(1, &[0, 1, 2, 3, 4, 5, 255, 256, 257, 260, 261]);
     try_all(2, &[0, 1, 2, 7, 8, 9, 255, 256, 257, 264, 265]);
+    for place in [0, 1, 8] {
+        try_all(15 + 4 * place, &[0, 1, 4, 8, 9, 10, 11, 255, 265, 266]);
+    }
     for thread in 0..4 {
         try_all(11 + thread, &[0, 1, 2, 7, 8, 9, 255, 256, 258]);
         try_all(159 + thread, &[0, 1, 2, 3, 8, 9, 255, 256, 257]);
@@ -154,8 +179,8 @@ fn value(random: &mut Random, file: &[u8], field: u32, turn: usize) -> u32 {
         2 => held.wrapping_add(1),
         3 => held.wrapping_sub(1),
         4 => 0,
-        5 => random.below(10) as u32,
-        6 => random.pick(&[4, 5, 8, 9, 96, 97, 255, 65535, u32::MAX]),
+        5 => random.below(11) as u32,
+        6 => random.pick(&[4, 5, 8, 9, 10, 96, 97, 255, 65535, u32::MAX]),
         _ => random.word(),
     }
 }

@@ -16,7 +16,7 @@ use crate::streams::parts::{hand_out, Part, Take};
 use std::io;
 
 /// Made once, whatever the number of frames asked for.
-const ONCE: [Part<Frame>; 15] = [
+const ONCE: [Part<Frame>; 16] = [
     valid::all,
     damage::truncated,
     damage::flipped,
@@ -30,6 +30,7 @@ const ONCE: [Part<Frame>; 15] = [
     boundaries::all,
     changes::telling,
     changes::versions,
+    changes::operations,
     changes::all,
     changes::readable,
 ];

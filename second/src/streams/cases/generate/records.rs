@@ -4,8 +4,8 @@
 use crate::streams::layouts::Layout;
 use crate::streams::random::Random;
 
-/// Location, register, word: which of them operations 1 to 8 use.
-pub const OPERATION_USES: [[bool; 3]; 8] = [
+/// Location, register, word: which of them operations 1 to 9 use.
+pub const OPERATION_USES: [[bool; 3]; 9] = [
     [true, false, true],
     [true, true, false],
     [true, true, false],
@@ -14,6 +14,7 @@ pub const OPERATION_USES: [[bool; 3]; 8] = [
     [true, false, false],
     [false, false, false],
     [false, false, false],
+    [true, true, true],
 ];
 
 /// Thread, position, line: which of them step codes 0 to 2 use.
@@ -77,7 +78,7 @@ pub fn instruction(fields: [u8; 4], word: u32) -> Record {
 }
 
 pub fn random_instruction(random: &mut Random, thread: u8, locations: u8) -> Record {
-    let operation = random.between(1, 8);
+    let operation = random.between(1, 9);
     let [location, register, word] = OPERATION_USES[usize::from(operation) - 1];
     let fields = [
         thread,

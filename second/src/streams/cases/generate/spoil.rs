@@ -186,10 +186,10 @@ fn leave_program_range(random: &mut Random, payload: &mut [u8]) {
 /// The used fields of an instruction with values out of range.
 fn instruction_exits(random: &mut Random, sketch: &Sketch, record: &Record) -> Vec<(usize, u8)> {
     let [location, register, _] = OPERATION_USES[usize::from(record.payload[1]) - 1];
-    let bad_operation = random.beyond(9);
+    let bad_operation = random.beyond(10);
     let mut exits = vec![
         (0, random.beyond(sketch.threads)),
-        (1, random.pick(&[0, 9, bad_operation])),
+        (1, random.pick(&[0, 10, bad_operation])),
     ];
     if location {
         exits.push((2, random.beyond(sketch.locations)));

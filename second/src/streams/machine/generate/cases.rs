@@ -179,7 +179,7 @@ pub fn change_in(random: &mut Random, trial: &mut Trial, first: u32, end: u32) {
     trial.field = first + random.below((end - first) as usize) as u32;
     let held = slot(&mut read(&trial.input).case, trial.field).map_or(0, |slot| slot.get());
     let any = word(random);
-    let small = u32::from(random.between(0, 9));
+    let small = u32::from(random.between(0, 10));
     let (more, less) = (held.wrapping_add(1), held.wrapping_sub(1));
     let same = held.wrapping_add(1 << 24);
     trial.value = random.pick(&[held, same, more, more, less, less, 0, small, small, any]);

@@ -3,6 +3,7 @@
 mod beside;
 pub mod blocked;
 mod cases;
+mod compares;
 mod misfits;
 mod moves;
 mod near;
@@ -16,6 +17,7 @@ mod scripts;
 mod shared;
 mod starts;
 mod steps;
+mod weighed;
 
 use super::frame::Trial;
 use crate::streams::parts::{hand_out, Part, Take};

@@ -6,15 +6,19 @@ use crate::streams::cases::generate::records::OPERATION_USES;
 use crate::streams::layouts::{self, Layout};
 use crate::streams::random::Random;
 
-pub const EVERY: [u8; 8] = [1, 2, 3, 4, 5, 6, 7, 8];
+pub const EVERY: [u8; 9] = [1, 2, 3, 4, 5, 6, 7, 8, 9];
+/// Those whose steps do not hang on words: a compare writes or not.
+pub const SURE: [u8; 8] = [1, 2, 3, 4, 5, 6, 7, 8];
 /// What waits in a store buffer.
 pub const WAITING: [u8; 5] = [1, 2, 5, 6, 7];
 /// Three steps each.
 pub const LONG: [u8; 3] = [1, 2, 6];
 /// Mostly three steps each.
-const LONGISH: [u8; 12] = [1, 1, 1, 2, 2, 6, 6, 6, 4, 5, 7, 3];
+const LONGISH: [u8; 13] = [1, 1, 1, 2, 2, 6, 6, 6, 4, 5, 7, 3, 9];
 /// Markers and what they stop.
-pub const FENCED: [u8; 9] = [6, 6, 6, 7, 8, 4, 5, 1, 5];
+pub const FENCED: [u8; 10] = [6, 6, 6, 7, 8, 4, 5, 1, 5, 9];
+/// Compares, and what makes them succeed or fail.
+pub const COMPARING: [u8; 8] = [3, 3, 9, 9, 9, 1, 4, 6];
 
 pub fn word(random: &mut Random) -> u32 {
     let any = random.below(1 << 32) as u32;
@@ -79,9 +83,26 @@ pub fn any(random: &mut Random) -> Case {
     let (least, most) = random.pick(&[(8, 8), (8, 8), (4, 8), (0, 8), (1, 3)]);
     let threads = random.pick(&[1, 2, 3, 4, 4]);
     let counts: Vec<u8> = (0..threads).map(|_| random.between(least, most)).collect();
-    let operations: [&[u8]; 4] = [&EVERY, &LONG, &LONGISH, &FENCED];
+    let operations: [&[u8]; 5] = [&EVERY, &LONG, &LONGISH, &FENCED, &COMPARING];
     let operations = random.pick(&operations);
-    program(random, locations, &counts, operations)
+    let mut case = program(random, locations, &counts, operations);
+    if random.one_in(2) {
+        tame(random, &mut case);
+    }
+    case
+}
+
+/// Few registers and few words, so that a register holds what a compare reads more often.
+pub fn tame(random: &mut Random, case: &mut Case) {
+    for one in case.code.iter_mut().filter(|one| one.operation > 0) {
+        let [_, register, word] = OPERATION_USES[usize::from(one.operation) - 1];
+        if register {
+            one.register = random.pick(&[0, 0, 0, one.register]);
+        }
+        if word {
+            one.word = random.pick(&[0, 1, 2]);
+        }
+    }
 }
 
 /// A program whose full length is at least so much.

@@ -17,6 +17,12 @@ own | store x, flush-opt x | I0 I0 M0.1 | 26 | B0.0
 own | store y, store x, flush-opt x | I0 I0 I0 M0.2 | 26 | B0.1
 own | store x, exchange y | I0 I0 | 22 | B0.0
 own | flush-opt x, mfence | I0 M0.0 I0 | 23 | Q0.0
+# compares that would succeed: all is 0
+own | load x, store y, compare x | I0 I0 I0 | 22 | B0.0
+own | load y, flush-opt y, compare x | I0 I0 M0.0 I0 | 23 | Q1.0
+# and that would fail, behind any word but 0
+own | load y, store y, compare x / exchange x | I1 I0 I0 I0 | 22 | B0.0
+own | load y, flush-opt y, compare x / exchange x | I1 I0 I0 M0.0 I0 | 23 | Q1.0
 # another thread's marker, behind a write
 own | flush x / store x, flush-opt x | I1 I1 M1.0 M1.0 I0 M0.0 | 27 | Q0.0
 # the lowest queue, not the oldest marker
@@ -86,6 +92,7 @@ fn instruction(random: &mut Random, told: &str) -> Instruction {
         "flush" => 5,
         "flush-opt" => 6,
         "sfence" => 7,
+        "compare" => 9,
         _ => 8,
     };
     instruction_at(random, operation, at.as_bytes()[0] - b'x')

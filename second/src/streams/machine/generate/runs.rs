@@ -81,11 +81,16 @@ pub fn judged(random: &mut Random, name: &str, number: u8, place: usize, case: &
 }
 
 fn legal_run(random: &mut Random, length: usize) -> Trial {
-    let mut case = as_long_as(random, length as u32);
-    dress(random, &mut case);
-    let (steps, _) = walk(random, &case, length);
-    case.set_run(&steps);
-    judged(random, "legal run", LEGAL, length, &case)
+    loop {
+        let mut case = as_long_as(random, length as u32);
+        dress(random, &mut case);
+        let (steps, _) = walk(random, &case, length);
+        // A run with failed compares may end before.
+        if steps.len() == length {
+            case.set_run(&steps);
+            return judged(random, "legal run", LEGAL, length, &case);
+        }
+    }
 }
 
 /// Runs that issue all, then move all, then persist: buffers of eight, and a queue of
@@ -126,6 +131,7 @@ fn run_ended_by(random: &mut Random, rule: u8) -> Trial {
         let length = random.below(MOST_STEPS);
         let long = if random.one_in(2) { length } else { 0 };
         let mut case = as_long_as(random, long as u32);
+        dress(random, &mut case);
         let (mut steps, state) = walk(random, &case, length);
         let place = steps.len();
         let broken = steps_with(&case, &state, Err(rule));
@@ -134,7 +140,6 @@ fn run_ended_by(random: &mut Random, rule: u8) -> Trial {
             None => continue,
         }
         add_steps_behind(random, &case, &state, &mut steps);
-        dress(random, &mut case);
         case.set_run(&steps);
         let name = format!("run: rule {rule}");
         return judged(random, &name, rule, place, &case);

@@ -185,8 +185,16 @@ impl Scene {
 
     /// The thread's next instruction.
     pub fn set_next(&mut self, instruction: Instruction) {
-        let next = usize::from(self.state.issued[self.thread]);
-        self.case.code[Case::places(self.thread)][next] = instruction;
+        let place = self.next_place();
+        self.case.code[place] = instruction;
+    }
+
+    pub fn next(&self) -> Instruction {
+        self.case.code[self.next_place()]
+    }
+
+    fn next_place(&self) -> usize {
+        Case::places(self.thread).start + usize::from(self.state.issued[self.thread])
     }
 
     pub fn entries(&mut self) -> &mut [Entry] {

@@ -86,7 +86,7 @@ impl Script {
         if usize::from(self.case.counts[usize::from(thread)]) >= most {
             return;
         }
-        let operation = random.pick(&EVERY);
+        let operation = random.pick(&SURE);
         let made = instruction(random, operation, self.case.locations);
         self.issue(thread, made);
         if WAITING.contains(&operation) {

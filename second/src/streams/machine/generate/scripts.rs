@@ -2,6 +2,7 @@
 //! near to a rule; and what locations on one line do to one another.
 
 use super::beside::*;
+use super::compares::*;
 use super::near::*;
 use super::programs::WAITING;
 use super::runs::{any_step, judged};
@@ -61,9 +62,43 @@ const SHARING: [(&str, Maker, u8); 6] = [
     ("legal: fence, neighbour's gone", fence_beside_gone, LEGAL),
 ];
 
+/// Each turn has five compares that succeed and seven that fail.
+const COMPARES: [(&str, Maker, u8); 9] = [
+    ("legal: compare succeeds", succeed_twice, LEGAL),
+    ("legal: compare fails", fail_twice, LEGAL),
+    ("legal: fails, then succeeds", fail_then_succeed, LEGAL),
+    ("legal: two compare one word", race, LEGAL),
+    ("script: 29, a compare failed", fail_and_persist, 29),
+    (
+        "script: 22, would succeed",
+        |r, s| compare_waiting(r, s, false),
+        22,
+    ),
+    (
+        "script: 22, would fail",
+        |r, s| compare_waiting(r, s, true),
+        22,
+    ),
+    (
+        "script: 23, would succeed",
+        |r, s| compare_marked(r, s, false),
+        23,
+    ),
+    (
+        "script: 23, would fail",
+        |r, s| compare_marked(r, s, true),
+        23,
+    ),
+];
+
+const COMPARES_SHARING: [(&str, Maker, u8); 1] =
+    [("legal: compare past a neighbour's", past_beside, LEGAL)];
+
 pub fn all(random: &mut Random) -> Vec<Trial> {
     let mut trials = by_turns(random, &MAKERS, 110, trial);
     trials.extend(by_turns(random, &SHARING, 110, sharing));
+    trials.extend(by_turns(random, &COMPARES, 210, trial));
+    trials.extend(by_turns(random, &COMPARES_SHARING, 210, sharing));
     trials
 }
 
@@ -71,6 +106,7 @@ pub fn some(random: &mut Random) -> Vec<Trial> {
     let mut trials = by_chance(random, &MAKERS, trial);
     trials.truncate(20);
     trials.extend(by_turns(random, &SHARING, 2, sharing));
+    trials.extend(by_turns(random, &COMPARES, 1, trial));
     trials
 }
 
@@ -113,7 +149,7 @@ pub fn closed(random: &mut Random, mut script: Script, name: &str, number: u8) -
     with_blocker(trial, script.blocker)
 }
 
-pub const FENCES: [u8; 2] = [4, 8];
+pub const FENCES: [u8; 3] = [4, 8, 9];
 /// Store word, store register, flush-opt.
 const QUEUED: [u8; 3] = [1, 2, 6];
 

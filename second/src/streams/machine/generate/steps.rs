@@ -4,13 +4,16 @@ use super::moves::*;
 use super::programs::*;
 use super::runs::*;
 use super::scene::*;
+use super::scripts::FENCES;
 use super::shared::*;
+use super::weighed::{barred_compare, compare, compare_past};
 use super::{by_chance, by_turns};
 use crate::judge::case::Step;
 use crate::judge::machine::blocker::Blocker;
 use crate::judge::machine::judge::LEGAL;
 use crate::judge::machine::state::Entry;
 use crate::judge::machine::steps::{issue, persist};
+use crate::judge::whole::outcome::Outcome::{Fails, Succeeds};
 use crate::streams::machine::frame::Trial;
 use crate::streams::machine::marks::FITS;
 use crate::streams::random::Random;
@@ -18,7 +21,7 @@ use crate::streams::random::Random;
 type Maker = fn(&mut Random) -> (Scene, Step);
 
 /// Family, its maker, the number it must be answered.
-const MAKERS: [(&str, Maker, u8); 26] = [
+const MAKERS: [(&str, Maker, u8); 33] = [
     ("step: 21", none_left, 21),
     ("step: 22", |random| fence(random, (1, 7), false), 22),
     ("step: 22+23", |random| fence(random, (1, 7), true), 22),
@@ -56,6 +59,33 @@ const MAKERS: [(&str, Maker, u8); 26] = [
         "step: exchange past a neighbour's",
         |r| look_past(r, 4),
         LEGAL,
+    ),
+    (
+        "step: compare succeeds",
+        |r| compare(r, (0, 0), false, Succeeds),
+        LEGAL,
+    ),
+    (
+        "step: compare fails",
+        |r| compare(r, (0, 0), false, Fails),
+        LEGAL,
+    ),
+    ("step: compare past a neighbour's", compare_past, LEGAL),
+    (
+        "step: 22, would succeed",
+        |r| barred_compare(r, Succeeds),
+        22,
+    ),
+    ("step: 22, would fail", |r| barred_compare(r, Fails), 22),
+    (
+        "step: 23, would succeed",
+        |r| compare(r, (0, 0), true, Succeeds),
+        23,
+    ),
+    (
+        "step: 23, would fail",
+        |r| compare(r, (0, 0), true, Fails),
+        23,
     ),
 ];
 
@@ -119,7 +149,7 @@ fn some_step(random: &mut Random, scene: &Scene) -> Step {
     random.pick(&[any, good])
 }
 
-fn issue_by(scene: Scene) -> (Scene, Step) {
+pub fn issue_by(scene: Scene) -> (Scene, Step) {
     let step = issue(scene.thread as u8);
     (scene, step)
 }
@@ -132,8 +162,14 @@ fn none_left(random: &mut Random) -> (Scene, Step) {
     issue_by(Scene::new(random, &need))
 }
 
-/// Exchange or mfence comes next; with or without a marker of the thread.
+/// Exchange, mfence or compare comes next; with or without a marker of the thread.
 fn fence(random: &mut Random, waiting: (u8, u8), marker: bool) -> (Scene, Step) {
+    let scene = before_fence(random, waiting, marker);
+    issue_of_fence(random, scene)
+}
+
+/// So many entries of the thread wait, and it has a marker or none; with the blocker of a fence.
+pub fn before_fence(random: &mut Random, waiting: (u8, u8), marker: bool) -> Scene {
     let need = Need {
         unissued: (1, 8),
         waiting,
@@ -148,11 +184,11 @@ fn fence(random: &mut Random, waiting: (u8, u8), marker: bool) -> (Scene, Step) 
     if waiting.0 > 0 {
         scene.blocker = Some(Blocker::waiting(scene.thread, 0));
     }
-    issue_of_fence(random, scene)
+    scene
 }
 
 pub fn issue_of_fence(random: &mut Random, mut scene: Scene) -> (Scene, Step) {
-    let operation = random.pick(&[4, 8]);
+    let operation = random.pick(&FENCES);
     let next = instruction(random, operation, scene.case.locations);
     scene.set_next(next);
     issue_by(scene)

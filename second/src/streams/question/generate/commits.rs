@@ -9,7 +9,7 @@ use crate::streams::question::frame::Query;
 use crate::streams::random::Random;
 
 /// Between the stores: each operation and whether it is at the first store's location.
-const BETWEEN: [&[(u8, bool)]; 14] = [
+const BETWEEN: [&[(u8, bool)]; 16] = [
     &[],
     &[(5, true)],
     &[(6, true)],
@@ -17,6 +17,8 @@ const BETWEEN: [&[(u8, bool)]; 14] = [
     &[(6, true), (8, true)],
     &[(6, true), (4, true)],
     &[(6, true), (4, false)],
+    &[(6, true), (9, true)],
+    &[(6, true), (9, false)],
     &[(6, false), (7, true)],
     &[(7, true), (6, true)],
     &[(6, true), (7, true), (8, true)],
@@ -78,7 +80,7 @@ fn commit(random: &mut Random, between: &[(u8, bool)]) -> Case {
 fn beside(random: &mut Random, case: &mut Case, thread: usize) {
     for other in 0..usize::from(case.threads) {
         if other != thread && random.one_in(2) {
-            let operation = random.pick(&[3, 4, 5, 6, 7, 8]);
+            let operation = random.pick(&[3, 4, 5, 6, 7, 8, 9]);
             let made = instruction(random, operation, case.locations);
             add(case, other, made);
             case.passed[other] = random.between(0, 1);

@@ -34,7 +34,7 @@ fn handed(random: &mut Random) -> Case {
     let mut case = layouts::case(threads, &Layout::draw(random, threads));
     let last = case.threads - 1;
     for thread in 0..last {
-        let take = random.pick(&[3, 3, 4]);
+        let take = random.pick(&[3, 3, 4, 9]);
         let register = random.between(0, 3);
         add(
             &mut case,

@@ -5,16 +5,16 @@ use super::wants;
 use crate::judge::case::Case;
 use crate::judge::reading::read;
 use crate::streams::cases::generate::valid::ROW;
-use crate::streams::machine::generate::programs::{program, EVERY, FENCED, LONG};
+use crate::streams::machine::generate::programs::{program, tame, COMPARING, EVERY, FENCED, LONG};
 use crate::streams::question::frame::Query;
 use crate::streams::random::Random;
 
-/// Exchanges, fences and what they wait for.
-const HEAVY: [u8; 8] = [4, 4, 8, 8, 7, 7, 6, 1];
+/// Exchanges, compares, fences and what they wait for.
+const HEAVY: [u8; 10] = [4, 4, 8, 8, 7, 7, 6, 1, 9, 9];
 /// Values that go from location to location.
-const PASSING: [u8; 6] = [1, 2, 2, 3, 3, 4];
+const PASSING: [u8; 7] = [1, 2, 2, 3, 3, 4, 9];
 /// One step or two each.
-const SHORT: [u8; 6] = [3, 4, 5, 7, 8, 3];
+const SHORT: [u8; 7] = [3, 4, 5, 7, 8, 3, 9];
 
 /// The least and the most runs that decide.
 const EXTENTS: [(u32, u32); 6] = [
@@ -78,7 +78,11 @@ fn any(random: &mut Random) -> Case {
     let most = random.pick(&[[8, 3, 2, 2], [4, 2, 2, 1]])[usize::from(threads) - 1];
     let counts: Vec<u8> = (0..threads).map(|_| random.between(0, most)).collect();
     let locations = random.pick(&[1, 2, 2, 3, 8]);
-    let operations: [&[u8]; 6] = [&EVERY, &LONG, &FENCED, &HEAVY, &PASSING, &SHORT];
+    let operations: [&[u8]; 7] = [&EVERY, &LONG, &FENCED, &HEAVY, &PASSING, &SHORT, &COMPARING];
     let operations = random.pick(&operations);
-    program(random, locations, &counts, operations)
+    let mut case = program(random, locations, &counts, operations);
+    if operations == &COMPARING[..] || random.one_in(4) {
+        tame(random, &mut case);
+    }
+    case
 }

@@ -125,12 +125,12 @@ fn mixed(random: &mut Random, case: &mut Case) {
     }
 }
 
-/// The words that stores and exchanges have for the location.
+/// The words that stores, exchanges and compares have for the location.
 fn words_for(case: &Case, location: usize) -> Vec<u32> {
     let writes = case
         .code
         .iter()
-        .filter(|one| [1, 4].contains(&one.operation));
+        .filter(|one| [1, 4, 9].contains(&one.operation));
     let own = writes.filter(|one| usize::from(one.location) == location);
     own.map(|one| one.word).collect()
 }

@@ -37,7 +37,7 @@ pub fn all(random: &mut Random, case: &Case) -> Vec<Trial> {
 
 /// The judge looks at neither the want nor the passed count: they tell whose write must be where.
 fn written_out(program: &Program, at: usize, thread: usize) -> Trial {
-    let run = program.carried(thread);
+    let run = program.carried(thread).run;
     let end = Point::behind(&OURS, &program.case, &run);
     let word = end.and_then(|end| end.fixed[thread][at]);
     let mut case = program.case.clone();

@@ -10,9 +10,11 @@ use programs::{Size, BENTS, LARGE, SIZES};
 use std::io;
 
 /// Made once, whatever the number of programs asked for.
-const ONCE: [Part<Vec<Trial>>; 2] = [
+const ONCE: [Part<Vec<Trial>>; 4] = [
     |random| each(random, &SIZES, 12),
     |random| each(random, &LARGE, 4),
+    |random| comparing(random, &SIZES, 110),
+    |random| comparing(random, &LARGE, 20),
 ];
 
 /// Made in turn until there are enough programs.
@@ -35,10 +37,23 @@ fn each(random: &mut Random, sizes: &[Size], times: usize) -> Vec<Vec<Trial>> {
     all
 }
 
+/// Every size, so many times, with compares.
+fn comparing(random: &mut Random, sizes: &[Size], times: usize) -> Vec<Vec<Trial>> {
+    let sizes = sizes.iter().cycle().take(times * sizes.len());
+    let cases = sizes.map(|size| {
+        let case = programs::draw_comparing(random, size);
+        frames::all(random, &case)
+    });
+    cases.collect()
+}
+
 fn one(random: &mut Random) -> Vec<Vec<Trial>> {
     let sizes: &[Size] = if random.one_in(10) { &LARGE } else { &SIZES };
     let size = &sizes[random.below(sizes.len())];
     let bent = random.pick(&BENTS);
-    let case = programs::draw(random, size, bent);
+    let case = match random.below(3) {
+        0 => programs::draw_comparing(random, size),
+        _ => programs::draw(random, size, bent),
+    };
     vec![frames::all(random, &case)]
 }

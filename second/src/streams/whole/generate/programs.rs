@@ -1,6 +1,7 @@
 //! Programs that are small enough to go through all their states.
 
 use crate::judge::case::{Case, Instruction};
+use crate::judge::machine::rules::COMPARE;
 use crate::judge::whole::program::{code, writes, writes_word};
 use crate::streams::layouts::{self, Layout};
 use crate::streams::machine::generate::programs::{add, instruction, instruction_at, FENCED, LONG};
@@ -33,9 +34,13 @@ pub const SIZES: [Size; 5] = [
 pub const LARGE: [Size; 2] = [size(3, 3, 2), size(4, 2, 2)];
 
 /// All operations.
-const MIXED: [u8; 18] = [1, 1, 2, 2, 2, 3, 3, 3, 4, 4, 5, 5, 6, 6, 7, 7, 8, 8];
+const MIXED: [u8; 19] = [
+    1, 1, 2, 2, 2, 3, 3, 3, 4, 4, 5, 5, 6, 6, 7, 7, 8, 8, COMPARE,
+];
 /// Those that hand words on.
 const HANDING: [u8; 6] = [1, 2, 2, 3, 3, 4];
+/// Compares, and what makes them succeed or fail.
+const COMPARING: [u8; 9] = [3, 3, COMPARE, COMPARE, COMPARE, COMPARE, 1, 4, 6];
 
 /// What is made of a program behind its drawing.
 pub type Bent = fn(&mut Random, &mut Case);
@@ -47,6 +52,26 @@ pub fn draw(random: &mut Random, size: &Size, bent: Bent) -> Case {
     let mut case = layouts::case(size.threads, &layout);
     let operations: [&[u8]; 6] = [&MIXED, &MIXED, &HANDING, &HANDING, &LONG, &FENCED];
     let operations = random.pick(&operations);
+    fill(random, &mut case, size, operations);
+    few_registers(random, &mut case);
+    bent(random, &mut case);
+    set_words(random, &mut case);
+    case
+}
+
+/// A program with a compare at the least.
+pub fn draw_comparing(random: &mut Random, size: &Size) -> Case {
+    let layout = Layout::draw(random, size.locations);
+    let mut case = layouts::case(size.threads, &layout);
+    fill(random, &mut case, size, &COMPARING);
+    compared(random, &mut case);
+    few_registers(random, &mut case);
+    set_words(random, &mut case);
+    case
+}
+
+/// Instructions of every thread.
+fn fill(random: &mut Random, case: &mut Case, size: &Size, operations: &[u8]) {
     for thread in 0..usize::from(size.threads) {
         let any = random.between(0, size.most);
         let count = random.pick(&[size.most, size.most, any]);
@@ -54,19 +79,29 @@ pub fn draw(random: &mut Random, size: &Size, bent: Bent) -> Case {
         for _ in 0..count.max(u8::from(thread == 0)) {
             let operation = random.pick(operations);
             let made = instruction(random, operation, size.locations);
-            add(&mut case, thread, made);
+            add(case, thread, made);
         }
     }
-    few_registers(random, &mut case);
-    bent(random, &mut case);
-    set_words(random, &mut case);
-    case
 }
 
-/// A register that was loaded is stored more often.
+/// In a thread the last instruction is a compare; where there is one before it, that loads or writes the
+/// same location, more often than not.
+fn compared(random: &mut Random, case: &mut Case) {
+    let at = random.between(0, case.locations - 1);
+    let thread = thread_of(random, &case.counts, 1).unwrap_or(0);
+    let last = code(case, thread).len() - 1;
+    let before = random.pick(&[3, 3, 1, 4, COMPARE]);
+    let all = &mut case.code[Case::places(thread)];
+    all[last] = instruction_at(random, COMPARE, at);
+    if last > 0 && !random.one_in(4) {
+        all[last - 1] = instruction_at(random, before, at);
+    }
+}
+
+/// A register that was loaded is stored or compared more often.
 fn few_registers(random: &mut Random, case: &mut Case) {
     for one in &mut case.code {
-        if (2..=4).contains(&one.operation) {
+        if [2, 3, 4, COMPARE].contains(&one.operation) {
             one.register = random.pick(&[0, 0, 0, one.register]);
         }
     }
@@ -134,7 +169,7 @@ fn alone(random: &mut Random, case: &mut Case) {
     let own = thread_of(random, &case.counts, 1).unwrap_or(0);
     divert(case, at, Some(own));
     for one in &mut case.code[Case::places(own)] {
-        if one.operation == 2 && one.location == at {
+        if [2, COMPARE].contains(&one.operation) && one.location == at {
             *one = Instruction::new(1, at, 0, 0);
         }
     }

@@ -17,12 +17,12 @@ use crate::tests::by_hand::{
     exchange, flush_opt, laid_out, load, program, store, MFENCE, SFENCE, X, Y,
 };
 
-fn found(engine: Engine, code: &[&[Instruction]]) -> Found {
+pub fn found(engine: Engine, code: &[&[Instruction]]) -> Found {
     confirm(&engine, &Program::of(&program(code)), MOST)
 }
 
 /// Broken are these sentences and no others; of the machine without the fault none is.
-fn check_broken(engine: Engine, code: &[&[Instruction]], broken: &[&'static str]) {
+pub fn check_broken(engine: Engine, code: &[&[Instruction]], broken: &[&'static str]) {
     let mut broken = broken.to_vec();
     broken.sort_unstable();
     assert_eq!(sentences(&found(engine, code)), broken);

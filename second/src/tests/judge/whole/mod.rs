@@ -1,5 +1,6 @@
 //! Programs gone through whole: numbers known by hand, and the walk's own numbers.
 
+mod compares;
 mod engines;
 
 use crate::judge::case::{Case, Instruction};
@@ -14,7 +15,7 @@ use crate::streams::machine::raw;
 use crate::streams::random::Random;
 use crate::streams::whole::generate::programs::{draw, BENTS, SIZES};
 use crate::tests::by_hand::{
-    at, exchange, flush, flush_opt, laid_out, load, program, store, MFENCE, SFENCE, X, Y,
+    at, compare, exchange, flush, flush_opt, laid_out, load, program, store, MFENCE, SFENCE, X, Y,
 };
 use std::collections::BTreeSet;
 
@@ -46,6 +47,7 @@ fn one_instruction() {
     check_numbers(&[&[at(2, X, 0)]], [4, 3, 1], [1, 4]);
     check_numbers(&[&[flush_opt(X)]], [4, 3, 1], [1, 4]);
     check_numbers(&[&[exchange(X, 0, 1)]], [3, 2, 1], [1, 3]);
+    check_numbers(&[&[compare(X, 0, 1)]], [3, 2, 1], [1, 3]);
     check_numbers(&[&[flush(X)]], [3, 2, 1], [1, 3]);
     check_numbers(&[&[SFENCE]], [3, 2, 1], [1, 3]);
     check_numbers(&[&[load(X, 0)]], [2, 1, 1], [1, 2]);
@@ -80,7 +82,7 @@ fn two_stores_on_one_line() {
     // With a line each the second may persist before the first: one state and two runs to an end more.
     let apart = check_numbers(&[&code], [11, 14, 1], [7, 26]);
     assert_eq!(apart.shared, 0);
-    let run = Program::of(&shared).carried(0);
+    let run = Program::of(&shared).carried(0).run;
     assert_eq!(printed(&run), "I0 M0.0 P0 I0 M0.0 P0");
 }
 
@@ -120,7 +122,7 @@ fn what_a_program_tells() {
     let alone = Program::of(&program(&[&code[..4], &[load(X, 1)]]));
     assert_eq!((alone.only_word(0), alone.only_word(1)), (Some(1), Some(2)));
     assert_eq!(
-        printed(&known.carried(0)),
+        printed(&known.carried(0).run),
         "I1 M1.0 P1 I1 I1 I0 M0.0 P0 I0 M0.0 P1 I0 P1 I0 M0.0 I0 M0.0 P0"
     );
     assert!(known.words_differ());
@@ -138,9 +140,10 @@ fn check_walk(case: &Case) {
     while more {
         let run = walk.run();
         runs += 1;
-        finished += u128::from(run.len() == program.full as usize);
         let end = Point::behind(&OURS, case, &run);
-        states.insert(end.map(|end| (raw::encode(&end.state), end.fixed)));
+        let failed = end.as_ref().map_or(0, |end| end.failed);
+        finished += u128::from(run.len() + usize::from(failed) == program.full as usize);
+        states.insert(end.map(|end| (raw::encode(&end.state), end.fixed, failed)));
         more = walk.go_on();
     }
     assert_eq!((found.runs, found.finished_runs), (runs, finished));
