@@ -3,6 +3,7 @@
 
 use super::program::{is_compare, writes, writes_word};
 use crate::judge::case::{Case, Instruction, Step, MOST_LOCATIONS, MOST_THREADS};
+use crate::judge::machine::rules::{COMPARE, EXCHANGE};
 use crate::judge::machine::state::THREAD_REGISTERS;
 use crate::judge::machine::steps::{issue, persist, shift};
 
@@ -45,7 +46,7 @@ impl Carried {
         let held = self.words[at];
         let register = &mut self.registers[thread][usize::from(one.register)];
         let expected = *register;
-        if [3, 4, 9].contains(&one.operation) {
+        if [3, EXCHANGE, COMPARE].contains(&one.operation) {
             *register = held;
         }
         let fails = is_compare(one) && held != expected;

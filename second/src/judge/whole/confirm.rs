@@ -1,6 +1,5 @@
 //! Demand 3 confirmed for one program, by going through all its states and counting.
 
-use super::carried::Carried;
 use super::engine::Engine;
 use super::explore::{Explorer, Visit};
 use super::outcome::Outcome;
@@ -137,23 +136,26 @@ impl Found {
     }
 
     /// The thread's last write for the location is there at some end, and the run written out is
-    /// such a run: the judge lets it pass, and it has the full length less its failed compares.
+    /// such a run: the judge lets it pass, it has the full length less its failed compares, and it leaves
+    /// the words that were carried along.
     fn check_pair(&mut self, engine: &Engine, program: &Program, at: usize, thread: usize) {
         let pair = format!("thread {thread} at location {at}");
         if !self.won.contains(&(at, thread)) {
             self.blame(ANY_THREAD, program, &pair);
         }
-        let Carried { run, failed, .. } = program.carried(thread);
+        let carried = program.carried(thread);
+        let run = &carried.run;
         let mut case = program.case.clone();
-        case.set_run(&run);
+        case.set_run(run);
         let verdict = (engine.judge)(&case);
-        let length = program.full as usize - failed;
-        let passes = (verdict.number, verdict.place) == (LEGAL, length);
-        let end = Point::behind(engine, &program.case, &run);
+        let length = program.full as usize - carried.failed;
+        let passes = (verdict.number, verdict.place) == (LEGAL, length)
+            && verdict.state.words == carried.words;
+        let end = Point::behind(engine, &program.case, run);
         let fixed = end.and_then(|end| end.fixed[thread][at]);
         if !passes || fixed != Some(verdict.state.words[at]) {
             let text = format!("{pair}, {} {}", verdict.number, verdict.place);
-            let text = format!("{text} of '{}', {:?}", printed(&run), verdict.state.words);
+            let text = format!("{text} of '{}', {:?}", printed(run), verdict.state.words);
             self.blame(WRITTEN_OUT, program, &text);
         }
     }

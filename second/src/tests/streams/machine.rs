@@ -1,6 +1,6 @@
 //! Frames of the machine: the bytes of a state, their stream and their lines.
 
-use crate::judge::case::Case;
+use crate::judge::case::{Case, Step};
 use crate::judge::machine::blocker::Blocker;
 use crate::judge::machine::state::{Entry, Held, State};
 use crate::judge::machine::steps::{issue, shift};
@@ -14,8 +14,8 @@ use crate::streams::machine::generate::{blocked, rows};
 use crate::streams::machine::raw::{decode, encode, ENTRIES_AT, STATE_BYTES};
 use crate::streams::machine::spots::{spots, SpotCounts};
 use crate::streams::random::Random;
-use crate::streams::tally::{missing, Counts};
-use crate::tests::by_hand::{flush_opt, program, store, X, Y};
+use crate::streams::tally::{missing, Counts, Row};
+use crate::tests::by_hand::{compare, flush_opt, program, store, X, Y};
 
 #[test]
 fn states_come_back_from_their_bytes() {
@@ -231,6 +231,56 @@ fn rows_by_hand_are_met() {
         trial.value -= (1 << 20) - (1 << 8);
     }
     assert_eq!(wrong(&trials).len(), 54);
+}
+
+/// What is counted of compares in frames of that run, judged or with its last step alone.
+fn compared(case: &Case, steps: &[Step], alone: bool) -> Vec<(String, u128)> {
+    let mut case = case.clone();
+    let (last, before) = steps.split_last().expect("a step");
+    case.set_run(if alone { before } else { steps });
+    let mut trial = Trial {
+        job: Job::Bytes,
+        input: writing::encode(&case),
+        field: 0,
+        value: 0,
+    };
+    if alone {
+        let state = encode(&answer(&trial).verdict.state);
+        trial.job = Job::Step(*last, state);
+    }
+    let mut counts = TrialCounts::new();
+    counts.take(&trial);
+    assert_eq!(counts.wrong(), [""; 0]);
+    let is_such = |row: &Row| row.count > 0 && row.name.contains("compare ");
+    let rows = counts.rows().into_iter().filter(is_such);
+    rows.map(|row| (row.name, row.count)).collect()
+}
+
+#[test]
+fn compares_are_counted_by_their_outcome() {
+    let told = |case: &Case, steps: &[Step], name: &str, count: u128| {
+        for (alone, whose, count) in [(false, "run", count), (true, "single", 1)] {
+            let name = format!("{whose}: {name}");
+            assert_eq!(compared(case, steps, alone), [(name, count)]);
+        }
+    };
+    let twice = [issue(0), issue(1)];
+    let other = [compare(Y, 0, 8)];
+    let succeeds = program(&[&[compare(X, 0, 7)], &other]);
+    told(&succeeds, &twice, "compare succeeds", 2);
+    let mut fails = succeeds.clone();
+    fails.first[..2].copy_from_slice(&[5, 6]);
+    told(&fails, &twice, "compare fails", 2);
+    for (first, end) in [(0, "succeed"), (5, "fail")] {
+        let mut waiting = program(&[&[store(Y, 1), compare(X, 0, 7)]]);
+        waiting.first[0] = first;
+        let name = format!("22, compare would {end}");
+        told(&waiting, &[issue(0), issue(0)], &name, 1);
+        let mut marked = program(&[&[flush_opt(Y), compare(X, 0, 7)]]);
+        marked.first[0] = first;
+        let name = format!("23, compare would {end}");
+        told(&marked, &[issue(0), shift(0, 0), issue(0)], &name, 1);
+    }
 }
 
 /// Frames are left out by how their `machine-judged` line begins and ends.
