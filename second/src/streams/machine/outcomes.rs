@@ -197,7 +197,7 @@ impl CompareCounts {
 
     pub fn rows(&self) -> Vec<Row> {
         let mut rows = Vec::new();
-        for (place, whose) in ["run", "single"].into_iter().enumerate() {
+        for (place, whose) in ["in runs", "single"].into_iter().enumerate() {
             for ((.., name, leasts), counts) in ENDS.iter().zip(self.ends) {
                 let name = format!("{whose}: {name}");
                 rows.push(row(&name, counts[place], leasts[place]));

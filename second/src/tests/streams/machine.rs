@@ -259,7 +259,7 @@ fn compared(case: &Case, steps: &[Step], alone: bool) -> Vec<(String, u128)> {
 #[test]
 fn compares_are_counted_by_their_outcome() {
     let told = |case: &Case, steps: &[Step], name: &str, count: u128| {
-        for (alone, whose, count) in [(false, "run", count), (true, "single", 1)] {
+        for (alone, whose, count) in [(false, "in runs", count), (true, "single", 1)] {
             let name = format!("{whose}: {name}");
             assert_eq!(compared(case, steps, alone), [(name, count)]);
         }
