@@ -1,6 +1,6 @@
 //! Programs with compares gone through whole: numbers known by hand, and machines that get a compare wrong.
 
-use super::engines::{check_broken, found};
+use super::engines::check_broken;
 use super::{check_case, check_numbers, check_walk, sentences, MOST};
 use crate::judge::case::{Case, Instruction, Step};
 use crate::judge::machine::effects::advance;
@@ -174,7 +174,7 @@ fn a_compare_that_weighs_otherwise() {
     }
 }
 
-/// A failed compare that is issued but uses up one: something that nobody can take is left.
+/// What it leaves nobody can take.
 #[test]
 fn a_failed_compare_that_uses_up_one() {
     let engine = Engine {
@@ -185,7 +185,7 @@ fn a_failed_compare_that_uses_up_one() {
         ..OURS
     };
     let code: [&[Instruction]; 1] = [&[exchange(X, 1, 5), compare(X, 0, 7)]];
-    assert_eq!(sentences(&found(engine, &code)), [STEP]);
+    check_broken(engine, &code, &[STEP]);
 }
 
 /// Looked up as the request has it: the newest write of the location in its line's queue, else the word.

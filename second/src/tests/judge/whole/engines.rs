@@ -17,7 +17,7 @@ use crate::tests::by_hand::{
     exchange, flush_opt, laid_out, load, program, store, MFENCE, SFENCE, X, Y,
 };
 
-pub fn found(engine: Engine, code: &[&[Instruction]]) -> Found {
+fn found(engine: Engine, code: &[&[Instruction]]) -> Found {
     confirm(&engine, &Program::of(&program(code)), MOST)
 }
 
