@@ -2,8 +2,11 @@
 use Prim.Native.Nat.{ℕ, zero, suc}
 use mathlib.Core.Path.{_≡_}
 use mathlib.Core.Logic.{_⊎_, inl, inr}
+use mathlib.Core.Bool.{Bool, false}
 use mathlib.Core.List.{List, [], _∷_, _++_}
 use lib.ListN.{drop}
+use Rattle.cases.proofs.ChoiceLaws.{either-false}
+use Rattle.machine.specs.Fit.{anyOf}
 use Rattle.machine.specs.Model.{Listed}
 
 -- on the first of two lists; on the second; on one of them
@@ -34,3 +37,10 @@ unfolding Listed
 listed-drop x zero xs h = h
 listed-drop x (suc i) [] h = h
 listed-drop x (suc i) (y ∷ xs) h = inr (listed-drop x i xs h)
+
+-- a test that is true of none on a list is false of each that is on it
+pub listed-none : {A : Type 0} (f : A → Bool) (x : A) (xs : List A) → anyOf f xs ≡ false → Listed x xs → f x ≡ false
+unfolding anyOf Listed
+listed-none f x [] e h = absurd h
+listed-none f x (y ∷ ys) e (inl same) = rw same (either-false (f y) (anyOf f ys) e .0)
+listed-none f x (y ∷ ys) e (inr h) = listed-none f x ys (either-false (f y) (anyOf f ys) e .1) h

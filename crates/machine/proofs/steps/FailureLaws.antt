@@ -1,14 +1,11 @@
 -- In a program without a compare no legal step is a failed one: each costs one. Assumes nothing.
-use Prim.Native.Nat.{ℕ}
 use mathlib.Core.Path.{_≡_, refl}
 use mathlib.Core.Bool.{false}
 use mathlib.Core.List.{List, [], _∷_}
-use native.Mathlib.Omega.{arith}
 use borrow.Author.Tests.{ne-eqb}
 use Rattle.cases.specs.declared.case.Step.{Step}
 use Rattle.cases.specs.declared.case.Program.{Program}
 use Rattle.cases.specs.Choice.{pick, both}
-use Rattle.cases.specs.Operations.{issue}
 use Rattle.machine.specs.declared.cells.State.{State}
 use Rattle.machine.specs.View.{issuedOf}
 use Rattle.machine.specs.Rules.{fails, ruleOf, nextOf}

@@ -1,6 +1,6 @@
 -- What a step costs: one, but a compare that fails two. So what the steps of a run use up together is their
 -- number and that of its failures. Assumes nothing.
-use Prim.Native.Nat.{ℕ, suc, _+_, _≤_}
+use Prim.Native.Nat.{suc, _+_, _≤_}
 use mathlib.Core.Path.{_≡_, refl}
 use mathlib.Core.Logic.{_≢_}
 use mathlib.Core.Bool.{Bool, true, false}

@@ -1,5 +1,5 @@
 -- `fetch` meets its contract. Assumes nothing.
-use mathlib.Core.Path.{refl, _∙_}
+use mathlib.Core.Path.{refl}
 use Rattle.machine.specs.View.{withRegister}
 use Rattle.machine.specs.Look.{queuedWord}
 use Rattle.machine.specs.Rules.{fetched}
