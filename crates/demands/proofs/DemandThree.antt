@@ -23,7 +23,7 @@ use Rattle.machine.specs.declared.runs.Verdict.the-variants.{Legal}
 use Rattle.machine.specs.View.{wordOf}
 use Rattle.machine.specs.Rules.{instructionAt, ruleOf, nextOf, startOf}
 use Rattle.machine.specs.Fit.{sumTo, Fits}
-use Rattle.machine.specs.Work.{work, Unfinished, programWeight, Uncompared, failsAt, cost, failuresOf}
+use Rattle.machine.specs.Work.{work, Unfinished, programWeight, Uncompared, failsAt, costIf, cost, failuresOf}
 use Rattle.machine.specs.Model.{fullLength, spent, LegalRun, CannotGoOn, FinishedRun}
 use Rattle.machine.specs.Judge.{judged, judgeOf}
 use Rattle.machine.specs.Ptso.{ptso}
@@ -82,7 +82,7 @@ module _ (c : Case) (readable : readsBack c ≡ true) where
         → stepFault (limitsOf (c .program)) k ≡ 0
         → ruleOf (c .program) u k ≡ 0
         → work (c .program) (nextOf (c .program) u k) + pick (failsAt (c .program) u k) 2 1 ≡ work (c .program) u
-    unfolding cost
+    unfolding cost costIf
     each-step-its-cost = step-work (c .program) u (fit ks u run)
 
     -- "so a run that cannot go on has the full length less the number of its failures."

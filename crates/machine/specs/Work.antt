@@ -7,6 +7,7 @@
 --   programWeight p t   thread t's part of the full length, from the program alone
 --   Uncompared p        operation 9 does not occur in the program p
 --   failsAt p s k       the step k issues a compare that fails in the state s
+--   costIf failed       what a step costs that is a failed compare, or another
 --   cost p s k          what a legal step uses up of the work left
 --   failuresFrom p s ks how many compares fail in the run ks from the state s; failuresOf p ks: from the start
 -- Assumes nothing.
@@ -94,8 +95,11 @@ failsAt p s k =
     both (eqb (k .code) issue)
     (fails p s (k .thread .0) (instructionAt p (k .thread .0) (issuedOf s (k .thread .0))))
 
+unfoldable pub costIf : Bool → ℕ
+costIf failed = pick failed 2 1
+
 unfoldable pub cost : Program → State → Step → ℕ
-cost p s k = pick (failsAt p s k) 2 1
+cost p s k = costIf (failsAt p s k)
 
 -- "the number of its failures"
 unfoldable pub failuresFrom : Program → State → List Step → ℕ

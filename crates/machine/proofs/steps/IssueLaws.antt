@@ -29,7 +29,7 @@ use Rattle.machine.specs.Look.{newestWrite, newestStore, queuedWord, loa
 use Rattle.machine.specs.Rules.{instructionAt, issueRule, entryOf, loaded, fetched, exchanged, matches}
 use Rattle.machine.specs.Rules.{compared, fails, performed, issueOf, enqueue}
 use Rattle.machine.specs.Fit.{Fits, Named}
-use Rattle.machine.specs.Work.{unissuedWeight, waitingWeight, work}
+use Rattle.machine.specs.Work.{unissuedWeight, waitingWeight, work, costIf}
 use Rattle.machine.proofs.OperationLaws.{each-operation, of}
 use Rattle.machine.proofs.view.LineOfLaws.{few-lines, line-there}
 use Rattle.machine.proofs.fit.FitLaws.{fits-register}
@@ -81,21 +81,20 @@ module _ (p : Program) (s : State) (t : ℕ) (o : Spare p s t) (low : t < p .thr
 
   -- a compare leaves one where it succeeds, nothing where it fails
   compared-work : (b : Bool)
-      → work p (pick b (exchanged p s t (of exchange l r w)) fetch) + pick (not b) 2 1 ≡ work p s + 2
-  unfolding pick
+      → work p (pick b (exchanged p s t (of exchange l r w)) fetch) + costIf (not b) ≡ work p s + 2
+  unfolding costIf pick
   compared-work true = rw exchanged-work (omega arith)
   compared-work false = rw fetched-work refl
 
   performed-work : (op : ℕ) → firstOperation ≤ op → op ≤ lastOperation
-      → work p (performed p s t (of op l r w)) + pick (fails p s t (of op l r w)) 2 1
-      ≡ work p s + unissuedWeight op
-  unfolding performed pick both entryOf loaded fetched exchanged compared fails unissuedWeight waitingWeight
+      → work p (performed p s t (of op l r w)) + costIf (fails p s t (of op l r w)) ≡ work p s + unissuedWeight op
+  unfolding performed pick both entryOf loaded fetched exchanged compared fails costIf unissuedWeight waitingWeight
   performed-work =
       let z = thread-low (o .fit .program) low in
       let b = o .space in
       each-operation
-      (λ op. work p (performed p s t (of op l r w)) + pick (fails p s t (of op l r w)) 2 1
-      ≡ work p s + unissuedWeight op)
+      (λ op.
+      work p (performed p s t (of op l r w)) + costIf (fails p s t (of op l r w)) ≡ work p s + unissuedWeight op)
       (rw (work-await p s (o .fit) t (omega arith) (omega arith)) (omega arith))
       (rw (work-await p s (o .fit) t (omega arith) (omega arith)) (omega arith))
       (rw (work-register p s (o .fit) t (r .0)) (omega arith))
@@ -125,7 +124,7 @@ module _ (p : Program) (s : State) (f : Fits p s) (t : ℕ) (legal : issueRule p
       (there .0) (next .location) (next .register) (next .word) (there .1 .low-location) (next .operation)
       (there .1 .some-operation) (there .1 .low-operation)
 
-  pub issue-work : work p (issueOf p s t) + pick (fails p s t next) 2 1 ≡ work p s
+  pub issue-work : work p (issueOf p s t) + costIf (fails p s t next) ≡ work p s
   unfolding issueOf fails matches queuedWord withIssued
   issue-work =
       performed-work p (withIssued s t (issuedOf s t + 1)) t (counted-spare p s f t (there .0) issue-left)

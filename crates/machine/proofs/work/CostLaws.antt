@@ -16,22 +16,22 @@ use Rattle.machine.specs.declared.cells.State.{State}
 use Rattle.machine.specs.View.{issuedOf}
 use Rattle.machine.specs.Rules.{instructionAt, fails, nextOf}
 use Rattle.machine.specs.Model.{spent}
-use Rattle.machine.specs.Work.{failsAt, cost, failuresFrom}
+use Rattle.machine.specs.Work.{failsAt, costIf, cost, failuresFrom}
 use Rattle.machine.specs.Ptso.{ptso}
 
 module _ (p : Program) (s : State) (k : Step) where
   -- an issue by what its instruction does; another step one
   pub cost-issue : k .code ≡ issue
-      → cost p s k ≡ pick (fails p s (k .thread .0) (instructionAt p (k .thread .0) (issuedOf s (k .thread .0)))) 2 1
+      → cost p s k ≡ costIf (fails p s (k .thread .0) (instructionAt p (k .thread .0) (issuedOf s (k .thread .0))))
   unfolding cost failsAt both
   cost-issue e = rw (eq-eqb _ _ e) refl
 
   pub cost-other : k .code ≢ issue → cost p s k ≡ 1
-  unfolding cost failsAt both pick
+  unfolding cost costIf failsAt both pick
   cost-other n = rw (ne-eqb _ _ n) refl
 
   pub cost-failure : cost p s k ≡ suc (pick (failsAt p s k) 1 0)
-  unfolding cost
+  unfolding cost costIf
   cost-failure = go (failsAt p s k)
     where
       go : (b : Bool) → pick b 2 1 ≡ suc (pick b 1 0)
