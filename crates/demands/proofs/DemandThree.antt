@@ -151,15 +151,18 @@ module _ (c : Case) (readable : readsBack c ≡ true) where
 
   -- Where operation 9 does not occur
   module _ (plain : Uncompared (c .program)) where
-    -- no step of a legal run is a failed compare, and at the end of a run every write of the program is really made,
-    -- and no other
+    -- every step costs one, none of a legal run is a failed compare, and at the end of a run every write of the
+    -- program is really made, and no other: so the sentences above say those below
     pub no-compare-as-before : (ks : List Step) (u : State)
         → LegalRun (ptso (c .program)) ks u
-        → (failuresOf (c .program) ks ≡ 0)
+        → ((k : Step) → stepFault (limitsOf (c .program)) k ≡ 0 → ruleOf (c .program) u k ≡ 0
+        → cost (c .program) u k ≡ 1)
+        × (failuresOf (c .program) ks ≡ 0)
         × (CannotGoOn (ptso (c .program)) u
         → (t l i : ℕ) → i < countAt (c .program) t
         → madeOf (c .program) ks t l i ≡ writesAt (c .program) t l i)
     no-compare-as-before ks u run = (
+      (λ k faultless legal. cost-one (c .program) u (fit ks u run) k faultless legal plain),
       none-fail plain ks u run,
       (λ over. MemoryLaws.plain-made (c .program) (program-fits c readable) plain ks u
           (record { legal = run; over = over })),
