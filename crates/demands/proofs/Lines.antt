@@ -53,7 +53,7 @@ module _ (c : Case) (readable : readsBack c ≡ true) (ks : List Step) (u : Stat
 
   -- One thread's stores to one line persist in program order: of its writes to the line, in the order in which it
   -- issued them, those that entered the queue are a prefix, and so are those that persisted. An exchange's write
-  -- is one of them.
+  -- is one of them, and so is that of a compare that succeeds.
   module _ (t : ℕ) (low : t < c .program .threads) where
     pub enter-in-program-order : (rest : List Slot)
         × (writesBy t (enteredOf (c .program) ks q) ++ rest ≡ issuedBy (c .program) ks t q)

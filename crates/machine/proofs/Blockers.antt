@@ -37,7 +37,8 @@ use Rattle.machine.proofs.blocker.AwayLaws as AwayLaws
 module _ (p : Program) (s : State) (fit : Fits p s) where
   -- what each of the five rules tells of buffers and queues, and back
   module _ (t : ℕ) (low : t < p .threads) where
-    -- "Exchange and mfence need the own buffer empty (else 22), then no marker of that thread in any queue (else 23)."
+    -- "Exchange and mfence need the own buffer empty (else 22), then no marker of that thread in any queue (else
+    -- 23)." A compare too, whether it would succeed or fail.
     pub broken-22 : (ruleOf p s (issueStep t) ≡ 22)
         ↔ (((issuedOf s t < countAt p t) × (isBarrier (instructionAt p t (issuedOf s t) .operation) ≡ true))
         × (buffer s t ≢ []))

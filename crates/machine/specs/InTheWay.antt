@@ -38,8 +38,8 @@ StandsAt [] i x = ⊥
 StandsAt (y ∷ ys) zero x = y ≡ x
 StandsAt (y ∷ ys) (suc i) x = StandsAt ys i x
 
--- "Exchange and mfence need the own buffer empty (else 22)": every entry of it; a flush-opt goes "only if no entry
--- before it is a store or flush of its location or an sfence (else 26)": each of those
+-- "Exchange and mfence need the own buffer empty (else 22)", a compare too: every entry of it; a flush-opt goes
+-- "only if no entry before it is a store or flush of its location or an sfence (else 26)": each of those
 abbrev pub WaitsInWay : Program → State → Step → ℕ → Waiting → Type 0
 WaitsInWay p s k i w =
     (ruleOf p s k ≡ 22)

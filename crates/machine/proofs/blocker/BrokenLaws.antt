@@ -44,7 +44,7 @@ use Rattle.machine.proofs.rules.ToldLaws.{first-is, behind-is, effect-2
 use Rattle.machine.proofs.rules.ToldLaws.{effect-not-26, pass-26, pass-most}
 use Rattle.machine.proofs.blocker.MarkedLaws.{HasMarker, marked-has, has-marked}
 
--- the thread's next instruction is an exchange or an mfence
+-- the thread's next instruction is an exchange, a compare or an mfence
 abbrev pub Barrier : Program → State → ℕ → Type 0
 Barrier p s t =
     (issuedOf s t < countAt p t) × (isBarrier (instructionAt p t (issuedOf s t) .operation) ≡ true)
@@ -85,7 +85,7 @@ module _ (p : Program) (s : State) (fit : Fits p s) where
           (λ n z. let e = ap length z in omega arith),
         )
 
-    -- "Exchange and mfence need the own buffer empty (else 22)"
+    -- "Exchange and mfence need the own buffer empty (else 22)", a compare too
     pub broken-22 : (ruleOf p s (issueStep t) ≡ 22) ↔ (Barrier p s t × (buffer s t ≢ []))
     unfolding ruleOf ruleIn pick barrierRule
     broken-22 = (told, is)
