@@ -13,13 +13,15 @@
 --   disordered       6
 --   usesLocation, usesRegister, usesWord
 --                    which fields an operation uses
+--   noInstruction    what stands in an array where the case has nothing
 --   countAt p t      how many instructions thread t of the program p has
+--   instructionAt p t i   its instruction i
 --   linesOf p        how many lines the program p has, each with its queue
 --   Limits, limitsOf p
 --                    what a step may name, and what a step of the program p may
 --   faultOf d r      0, or the number of the first fault of record r behind the draft d
 -- Assumes nothing.
-use Prim.Native.Nat.{ℕ}
+use Prim.Native.Nat.{ℕ, _+_, _*_}
 use mathlib.Core.Bool.{Bool, not}
 use lib.ListN.{getD}
 use lib.Dec.{eqb, leb, ltb}
@@ -99,9 +101,16 @@ instructionLeft x =
     (either (leftOver (usesRegister (x .operation)) (x .register .0))
     (leftOver (usesWord (x .operation)) (x .word)))
 
+abbrev pub noInstruction : Instruction
+noInstruction = record { operation = 0; location = record { 0 = 0 }; register = record { 0 = 0 }; word = 0 }
+
 -- how many instructions thread t has
 abbrev pub countAt : Program → ℕ → ℕ
 countAt p t = getD (p .counts) t 0
+
+-- instruction i of thread t stands at t * mostInstructions + i
+abbrev pub instructionAt : Program → ℕ → ℕ → Instruction
+instructionAt p t i = getD (p .code) (t * mostInstructions + i) noInstruction
 
 unfoldable pub passedOut : Program → Thread → ℕ → Bool
 passedOut p t n = either (leb (p .threads) (t .0)) (ltb (countAt p (t .0)) n)

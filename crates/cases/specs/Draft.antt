@@ -1,7 +1,7 @@
 -- A case while it is read: the case so far, the kind of the record before (0: none), and the least number that
 -- may come next in that kind.
 --   emptyCase    "the fixed empty one: one thread, one location, no further records"
---   noInstruction, noStep   what stands in an array where the case has nothing
+--   noStep       what stands in its array where the case has no step
 --   lineTable h, lineCount h   on which line each location lies, and how many lines there are, by that record
 --   withHeader   the case with what the program's record says: its version, and withSizes
 --   withSizes, withFirst, withInstruction, withWant, withPassed, withStep
@@ -32,10 +32,7 @@ use Rattle.cases.specs.Sizes.{mostThreads, mostInstructions, mostLocatio
 use Rattle.cases.specs.Choice.{pick}
 use Rattle.cases.specs.Lines.{ownVersion, ownLines, linesIn}
 use Rattle.cases.specs.Record.{rowList, lineBytes}
-use Rattle.cases.specs.Checks.{countAt}
-
-abbrev pub noInstruction : Instruction
-noInstruction = record { operation = 0; location = record { 0 = 0 }; register = record { 0 = 0 }; word = 0 }
+use Rattle.cases.specs.Checks.{noInstruction, countAt}
 
 abbrev pub noStep : Step
 noStep = record { thread = record { 0 = 0 }; code = 0; position = 0; location = record { 0 = 0 } }
@@ -92,7 +89,7 @@ withFirst p w =
       code = p .code;
     }
 
--- instruction i of thread t stands at t * mostInstructions + i
+-- behind its thread's others (instructionAt)
 unfoldable pub withInstruction : Program → Thread → Instruction → Program
 withInstruction p t x =
     record {

@@ -6,7 +6,7 @@
 --   ProgramFits p         the program's numbers are in range: what the machine takes for granted of one
 --   Ranged c              every number of the case is in range
 -- Assumes nothing.
-use Prim.Native.Nat.{ℕ, _+_, _*_, _<_, _≤_}
+use Prim.Native.Nat.{ℕ, _<_, _≤_}
 use mathlib.Core.Path.{_≡_}
 use mathlib.Core.Bool.{true, false}
 use lib.ListN.{length, getD}
@@ -19,8 +19,8 @@ use Rattle.cases.specs.Sizes.{mostThreads, mostInstructions, mostLocatio
 use Rattle.cases.specs.Sizes.{allCode}
 use Rattle.cases.specs.Operations.{firstOperation, lastOperation}
 use Rattle.cases.specs.Lines.{ownVersion, ownLines}
-use Rattle.cases.specs.Checks.{countAt, limitsOf, stepFault}
-use Rattle.cases.specs.Draft.{noInstruction, noStep}
+use Rattle.cases.specs.Checks.{countAt, instructionAt, limitsOf, stepFault}
+use Rattle.cases.specs.Draft.{noStep}
 
 -- the arrays are as long as their types say, which a list alone doesn't
 pub record ProgramSized (p : Program) : Type 0 where
@@ -56,7 +56,7 @@ pub record ProgramFits (p : Program) : Type 0 where
   pub sized : ProgramSized p
   pub lines : (l : ℕ) → l < mostLocations → getD (p .line) l 0 < p .lines
   pub instructions : (t i : ℕ) → i < countAt p t
-      → (t < p .threads) × InstructionFits p (getD (p .code) (t * mostInstructions + i) noInstruction)
+      → (t < p .threads) × InstructionFits p (instructionAt p t i)
 
 pub record Ranged (c : Case) : Type 0 where
   pub program : ProgramFits (c .program)

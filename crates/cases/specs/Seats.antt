@@ -29,8 +29,8 @@ use Rattle.cases.specs.Sizes.{mostThreads, mostInstructions, mostLocatio
 use Rattle.cases.specs.Choice.{pick}
 use Rattle.cases.specs.Lines.{ownVersion, listedOf}
 use Rattle.cases.specs.Record.{asRow, recordBytes, bytesOf}
-use Rattle.cases.specs.Checks.{countAt}
-use Rattle.cases.specs.Draft.{noInstruction, noStep}
+use Rattle.cases.specs.Checks.{noInstruction, countAt}
+use Rattle.cases.specs.Draft.{noStep}
 
 abbrev pub fromFirsts : ℕ
 fromFirsts = 1

@@ -13,7 +13,7 @@ use Rattle.cases.specs.declared.case.Step.{Step}
 use Rattle.cases.specs.declared.case.Program.{Program}
 use Rattle.cases.specs.declared.case.Case.{Case}
 use Rattle.cases.specs.Sizes.{mostThreads}
-use Rattle.cases.specs.Checks.{limitsOf, stepFault, countAt}
+use Rattle.cases.specs.Checks.{limitsOf, stepFault, countAt, instructionAt}
 use Rattle.cases.specs.Draft.{runWith, withRun}
 use Rattle.cases.specs.Writing.{readsBack}
 use Rattle.cases.specs.Operations.{storeRegister, compare}
@@ -21,7 +21,7 @@ use Rattle.cases.specs.Choice.{pick}
 use Rattle.machine.specs.declared.cells.State.{State}
 use Rattle.machine.specs.declared.runs.Verdict.the-variants.{Legal}
 use Rattle.machine.specs.View.{wordOf}
-use Rattle.machine.specs.Rules.{instructionAt, ruleOf, nextOf, startOf}
+use Rattle.machine.specs.Rules.{ruleOf, nextOf, startOf}
 use Rattle.machine.specs.Fit.{sumTo, Fits}
 use Rattle.machine.specs.Work.{work, Unfinished, programWeight, Uncompared, failsAt, costIf, cost, failuresOf}
 use Rattle.machine.specs.Model.{fullLength, spent, LegalRun, CannotGoOn, FinishedRun}

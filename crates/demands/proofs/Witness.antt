@@ -15,7 +15,7 @@ use Rattle.cases.specs.Sizes.{mostSteps, stepSize}
 use Rattle.cases.specs.Choice.{pick, both, either, refuse}
 use Rattle.cases.specs.Bytes.{IsBytes, half}
 use Rattle.cases.specs.Record.{recordOf, openNo}
-use Rattle.cases.specs.Checks.{faultOf, countAt}
+use Rattle.cases.specs.Checks.{faultOf, countAt, instructionAt}
 use Rattle.cases.specs.Draft.{emptyCase, blankDraft, runWith}
 use Rattle.cases.specs.Reading.{numberOf, readOf}
 use Rattle.cases.specs.Seats.{encodeOf}
@@ -27,7 +27,7 @@ use Rattle.cases.specs.Operations.{storeRegister, compare}
 use Rattle.machine.specs.declared.cells.State.{State}
 use Rattle.machine.specs.declared.blocker.Blocker.the-variants.{InBuffer}
 use Rattle.machine.specs.declared.runs.Verdict.the-variants.{Illegal}
-use Rattle.machine.specs.Rules.{instructionAt, persistRule, ruleIn, ruleOf, startOf}
+use Rattle.machine.specs.Rules.{persistRule, ruleIn, ruleOf, startOf}
 use Rattle.cases.specs.Ranges.{ProgramFits}
 use Rattle.machine.specs.Fit.{anyFrom}
 use Rattle.machine.specs.Work.{Unfinished, Uncompared}

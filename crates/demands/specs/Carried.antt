@@ -15,9 +15,8 @@ use Rattle.cases.specs.declared.case.Step.{Step}
 use Rattle.cases.specs.declared.case.Program.{Program}
 use Rattle.cases.specs.Operations.{load, exchange, flush, sfence, mfence}
 use Rattle.cases.specs.Choice.{pick, either}
-use Rattle.cases.specs.Checks.{countAt}
+use Rattle.cases.specs.Checks.{countAt, instructionAt}
 use Rattle.machine.specs.View.{lineOf}
-use Rattle.machine.specs.Rules.{instructionAt}
 use Rattle.machine.specs.Next.{issueStep, moveStep, persistStep}
 
 -- load and mfence: the issue is all; exchange: its write goes straight into the queue; flush and sfence: they

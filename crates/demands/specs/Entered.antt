@@ -22,10 +22,11 @@ use Rattle.cases.specs.declared.case.Step.{Step}
 use Rattle.cases.specs.declared.case.Program.{Program}
 use Rattle.cases.specs.Operations.{issue, move, persist}
 use Rattle.cases.specs.Choice.{pick, both}
+use Rattle.cases.specs.Checks.{instructionAt}
 use Rattle.machine.specs.declared.cells.State.{State}
 use Rattle.machine.specs.Sizes.{firstMarker}
 use Rattle.machine.specs.View.{Slot, lineOf, writeSlot, buffer, issuedOf}
-use Rattle.machine.specs.Rules.{instructionAt, entryAt, nextOf, startOf}
+use Rattle.machine.specs.Rules.{entryAt, nextOf, startOf}
 use Rattle.machine.specs.Joins.{exchanges, enters}
 use Rattle.demands.specs.Writes.{really, fixedBy}
 

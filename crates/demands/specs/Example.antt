@@ -19,7 +19,8 @@ use Rattle.cases.specs.declared.case.Case.{Case}
 use Rattle.cases.specs.Sizes.{mostThreads, mostInstructions, mostLocations}
 use Rattle.cases.specs.Operations.{storeWord, load, mfence, compare}
 use Rattle.cases.specs.Lines.{ownVersion, ownLines}
-use Rattle.cases.specs.Draft.{noInstruction, emptyCase, runWith}
+use Rattle.cases.specs.Checks.{noInstruction}
+use Rattle.cases.specs.Draft.{emptyCase, runWith}
 use Rattle.machine.specs.Next.{issueStep}
 
 -- a case of version 1: n threads with so many instructions each, m locations, the code, and the run; it asks for

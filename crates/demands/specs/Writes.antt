@@ -30,10 +30,10 @@ use Rattle.cases.specs.declared.case.Step.{Step}
 use Rattle.cases.specs.declared.case.Program.{Program}
 use Rattle.cases.specs.Operations.{storeWord, storeRegister, exchange, compare, issue}
 use Rattle.cases.specs.Choice.{pick, both, either}
-use Rattle.cases.specs.Checks.{countAt}
+use Rattle.cases.specs.Checks.{countAt, instructionAt}
 use Rattle.machine.specs.declared.cells.State.{State}
 use Rattle.machine.specs.View.{registerIn, issuedOf}
-use Rattle.machine.specs.Rules.{instructionAt, nextOf, startOf}
+use Rattle.machine.specs.Rules.{nextOf, startOf}
 use Rattle.machine.specs.Joins.{swaps}
 
 -- store word, store register, exchange, compare: these have a location that they write

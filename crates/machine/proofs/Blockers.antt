@@ -11,7 +11,7 @@ use Rattle.cases.specs.declared.case.Line.{Line}
 use Rattle.cases.specs.declared.case.Thread.{Thread}
 use Rattle.cases.specs.declared.case.Step.{Step}
 use Rattle.cases.specs.declared.case.Program.{Program}
-use Rattle.cases.specs.Checks.{limitsOf, stepFault, countAt}
+use Rattle.cases.specs.Checks.{limitsOf, stepFault, countAt, instructionAt}
 use Rattle.cases.specs.Sizes.{mostThreads, mostLocations}
 use Rattle.machine.specs.declared.cells.State.{State}
 use Rattle.machine.specs.declared.cells.Waiting.{Waiting}
@@ -20,7 +20,7 @@ use Rattle.machine.specs.declared.blocker.Blocker.{Blocker}
 use Rattle.machine.specs.declared.blocker.Blocker.the-variants.{InBuffer, InQueue, NoEntry}
 use Rattle.machine.specs.View.{Slot, markOf, lineOf, queue, buffer, issuedOf}
 use Rattle.machine.specs.Look.{bars}
-use Rattle.machine.specs.Rules.{instructionAt, isBarrier, ruleOf}
+use Rattle.machine.specs.Rules.{isBarrier, ruleOf}
 use Rattle.machine.specs.Blocker.{blockerOf}
 use Rattle.machine.specs.Fit.{Fits}
 use Rattle.machine.specs.Model.{Leads, Faultless}

@@ -11,11 +11,11 @@ use Rattle.cases.specs.declared.case.Location.{Location}
 use Rattle.cases.specs.declared.case.Step.{Step}
 use Rattle.cases.specs.declared.case.Program.{Program}
 use Rattle.cases.specs.Sizes.{mostThreads, mostLocations}
-use Rattle.cases.specs.Checks.{limitsOf, linesOf, stepFault, countAt}
+use Rattle.cases.specs.Checks.{limitsOf, linesOf, stepFault, countAt, instructionAt}
 use Rattle.machine.specs.declared.cells.State.{State}
 use Rattle.machine.specs.declared.cells.Entry.the-variants.{FlushOpt}
 use Rattle.machine.specs.View.{Slot, without, queue, buffer, wordOf, issuedOf}
-use Rattle.machine.specs.Rules.{instructionAt, isBarrier, entryAt, ruleOf, nextOf, startOf}
+use Rattle.machine.specs.Rules.{isBarrier, entryAt, ruleOf, nextOf, startOf}
 use Rattle.machine.specs.Joins.{joins, exchanges, enters, storeOf, swapOf, onWay, lastOr}
 use Rattle.machine.specs.Fit.{Fits}
 use Rattle.machine.specs.Next.{issueStep, moveStep, persistStep}

@@ -2,7 +2,6 @@
 -- A rule looks at the parts of a state that rules look at (Parts) and at no other; what a legal step does is
 -- said apart.
 --   enqueue s q h, await     the state with one more at a queue's end, at a buffer's end
---   instructionAt p t i      instruction i of thread t
 --   isBarrier op             exchange, compare and mfence
 --   operationRule            the rule against issuing an operation: 22, 23
 --   issueRule, issueOf       issue: 21, 22, 23
@@ -18,7 +17,7 @@
 --   nextOf p s k             what a legal step does, by its code
 --   startOf p                where a run starts
 -- Assumes nothing.
-use Prim.Native.Nat.{ℕ, _+_, _*_}
+use Prim.Native.Nat.{ℕ, _+_}
 use mathlib.Core.Bool.{Bool, not}
 use mathlib.Core.List.{List, [], _∷_, _++_}
 use lib.ListN.{getD, take, replicate}
@@ -27,11 +26,10 @@ use Rattle.cases.specs.declared.case.Instruction.{Instruction}
 use Rattle.cases.specs.declared.case.Step.{Step}
 use Rattle.cases.specs.declared.case.Program.{Program}
 use Rattle.cases.specs.Choice.{pick, both, either, refuse}
-use Rattle.cases.specs.Sizes.{mostThreads, mostInstructions, mostLocations, allCode}
+use Rattle.cases.specs.Sizes.{mostThreads, mostLocations, allCode}
 use Rattle.cases.specs.Operations.{storeWord, storeRegister, load, exchange, flush, flushOpt, mfence, compare}
 use Rattle.cases.specs.Operations.{issue, move}
-use Rattle.cases.specs.Checks.{countAt}
-use Rattle.cases.specs.Draft.{noInstruction}
+use Rattle.cases.specs.Checks.{countAt, instructionAt}
 use Rattle.machine.specs.declared.cells.State.{State}
 use Rattle.machine.specs.declared.cells.Waiting.{Waiting}
 use Rattle.machine.specs.declared.cells.Entry.{Entry}
@@ -49,10 +47,6 @@ enqueue s q h = withQueue s q (queue s q ++ (h ∷ []))
 unfoldable pub await : State → ℕ → Entry → State
 await s t e = withBuffer s t (buffer s t ++ (record { entry = e } ∷ []))
 
--- "Issue takes the thread's next instruction"
-abbrev pub instructionAt : Program → ℕ → ℕ → Instruction
-instructionAt p t i = getD (p .code) (t * mostInstructions + i) noInstruction
-
 -- "Exchange and mfence need the own buffer empty (else 22), then no marker of that thread in any queue (else
 -- 23)." A compare too, and "Rules 22 and 23 apply to failures too": whether it succeeds is not asked.
 unfoldable pub barrierRule : Parts → ℕ → ℕ
@@ -66,7 +60,7 @@ isBarrier op = either (eqb op exchange) (either (eqb op compare) (eqb op mfence)
 unfoldable pub operationRule : ℕ → Parts → ℕ → ℕ
 operationRule op x t = pick (isBarrier op) (barrierRule x t) 0
 
--- "none left: 21"
+-- "Issue takes the thread's next instruction (none left: 21)."
 unfoldable pub issueRule : Program → Parts → ℕ → ℕ
 issueRule p x t =
     refuse (leb (countAt p t) (getD (x .issued) t 0)) 21

@@ -23,13 +23,13 @@ use Rattle.cases.specs.Choice.{pick, both}
 use Rattle.cases.specs.Sizes.{mostThreads, mostInstructions, mostLocations}
 use Rattle.cases.specs.Operations.{storeWord, storeRegister, load, exchange, flush, flushOpt, sfence, compare}
 use Rattle.cases.specs.Operations.{issue}
-use Rattle.cases.specs.Checks.{countAt, linesOf}
+use Rattle.cases.specs.Checks.{countAt, linesOf, instructionAt}
 use Rattle.machine.specs.declared.cells.State.{State}
 use Rattle.machine.specs.declared.cells.Waiting.{Waiting}
 use Rattle.machine.specs.declared.cells.Entry.{Entry}
 use Rattle.machine.specs.declared.cells.Entry.the-variants.{Store, Flush, FlushOpt, Sfence}
 use Rattle.machine.specs.View.{part, queue, queueLen, buffer, issuedOf}
-use Rattle.machine.specs.Rules.{instructionAt, fails, nextOf, startOf}
+use Rattle.machine.specs.Rules.{fails, nextOf, startOf}
 use Rattle.machine.specs.Fit.{sumTo, unissued}
 
 -- "Unissued: store or flush-opt 3; flush, sfence or exchange 2; load or mfence 1." A compare "weighs 2

@@ -16,8 +16,8 @@ use Rattle.cases.specs.declared.record.Record.the-variants.{Instruct}
 use Rattle.cases.specs.declared.seats.Seat.the-variants.{Holds}
 use Rattle.cases.specs.Sizes.{mostThreads, mostInstructions, mostLocations}
 use Rattle.cases.specs.Choice.{refuse}
-use Rattle.cases.specs.Checks.{passedOut, limitsOf, stepFault}
-use Rattle.cases.specs.Draft.{noInstruction, noStep}
+use Rattle.cases.specs.Checks.{noInstruction, instructionAt, passedOut, limitsOf, stepFault}
+use Rattle.cases.specs.Draft.{noStep}
 use Rattle.cases.specs.Seats.{fromCode, fromWants, fromPassed, fromSteps, instructionSeat, wantSeat}
 use Rattle.cases.specs.Seats.{passedSeat, stepSeat, seatOf}
 use Rattle.cases.specs.Ranges.{InstructionFits, ProgramFits, Ranged}
@@ -46,8 +46,7 @@ module _ (d : Draft) (front : ℕ) (s : Sound d front) where
 
   -- what stands in its case is in range: the instructions, the wants, the passed counts and the steps
   instruction-ranged : (t i : ℕ) → i < getD (program .counts) t 0
-      → (t < program .threads)
-      × InstructionFits program (getD (program .code) (t * mostInstructions + i) noInstruction)
+      → (t < program .threads) × InstructionFits program (instructionAt program t i)
   unfolding RecordFits instructionSeat
   instruction-ranged t i h =
       let p = s .sized .of-program in

@@ -20,8 +20,8 @@ use Rattle.cases.specs.declared.record.Record.the-variants.{First, Instr
 use Rattle.cases.specs.declared.seats.Seat.the-variants.{Holds}
 use Rattle.cases.specs.Sizes.{mostInstructions}
 use Rattle.cases.specs.Choice.{pick}
-use Rattle.cases.specs.Checks.{countAt}
-use Rattle.cases.specs.Draft.{noInstruction, noStep, withFirst, withInstruction, withWant, withPassed}
+use Rattle.cases.specs.Checks.{noInstruction, countAt}
+use Rattle.cases.specs.Draft.{noStep, withFirst, withInstruction, withWant, withPassed}
 use Rattle.cases.specs.Draft.{withStep}
 use Rattle.cases.specs.Seats.{firstSeat, instructionSeat, wantSeat, passedSeat, stepSeat}
 

@@ -11,11 +11,11 @@ use lib.ListN.{getD}
 use Rattle.cases.specs.declared.case.Step.{Step}
 use Rattle.cases.specs.declared.case.Program.{Program}
 use Rattle.cases.proofs.ChoiceLaws.{never-both, both-true}
-use Rattle.cases.specs.Checks.{countAt}
+use Rattle.cases.specs.Checks.{countAt, instructionAt}
 use Rattle.cases.specs.Operations.{storeRegister, compare}
 use Rattle.machine.specs.declared.cells.State.{State}
 use Rattle.machine.specs.View.{buffer, wordOf, issuedOf}
-use Rattle.machine.specs.Rules.{instructionAt, startOf}
+use Rattle.machine.specs.Rules.{startOf}
 use Rattle.cases.specs.Ranges.{ProgramFits}
 use Rattle.machine.proofs.Promises.{ptso-lawful, start-fits}
 use Rattle.machine.proofs.Effects.{start-buffer, start-words, start-issued, start-word}

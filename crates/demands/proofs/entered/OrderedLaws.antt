@@ -17,7 +17,7 @@ use Rattle.cases.specs.declared.case.Program.{Program}
 use Rattle.cases.specs.Choice.{pick, both, either}
 use Rattle.cases.specs.Operations.{lastOperation, firstOperation, compare, issue}
 use Rattle.cases.proofs.ChoiceLaws.{pick-false}
-use Rattle.cases.specs.Checks.{limitsOf, linesOf, stepFault}
+use Rattle.cases.specs.Checks.{limitsOf, linesOf, stepFault, instructionAt}
 use Rattle.cases.specs.Ranges.{InstructionFits}
 use Rattle.cases.proofs.Promises.{thread-low}
 use Rattle.machine.specs.declared.cells.State.{State}
@@ -26,7 +26,7 @@ use Rattle.machine.specs.declared.cells.Entry.{Entry}
 use Rattle.machine.specs.declared.cells.Entry.the-variants.{Store, Flush, FlushOpt, Sfence}
 use Rattle.machine.specs.Sizes.{firstMarker}
 use Rattle.machine.specs.View.{Slot, lineOf, writeSlot, markerSlot, markOf, buffer, issuedOf, blankWaiting}
-use Rattle.machine.specs.Rules.{instructionAt, entryAt, entryOf, isBarrier, matches, ruleOf, nextOf}
+use Rattle.machine.specs.Rules.{entryAt, entryOf, isBarrier, matches, ruleOf, nextOf}
 use Rattle.machine.specs.Joins.{joins, swaps, exchanges, enters}
 use Rattle.machine.specs.Fit.{Fits, Named, NamedBy}
 use Rattle.machine.proofs.lists.AllLaws.{all-get}

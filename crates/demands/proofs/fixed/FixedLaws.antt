@@ -11,13 +11,13 @@ use lib.Dec.{eqb}
 use Rattle.cases.specs.declared.case.Instruction.{Instruction}
 use Rattle.cases.specs.declared.case.Step.{Step}
 use Rattle.cases.specs.declared.case.Program.{Program}
-use Rattle.cases.specs.Checks.{limitsOf, linesOf, stepFault}
+use Rattle.cases.specs.Checks.{limitsOf, linesOf, stepFault, instructionAt}
 use Rattle.cases.specs.Choice.{both, either}
 use Rattle.cases.proofs.ChoiceLaws.{pick-false, pick-cases, either-false}
 use Rattle.cases.specs.Operations.{storeWord, storeRegister, exchange, compare}
 use Rattle.machine.specs.declared.cells.State.{State}
 use Rattle.machine.specs.View.{issuedOf}
-use Rattle.machine.specs.Rules.{instructionAt, ruleOf, nextOf}
+use Rattle.machine.specs.Rules.{ruleOf, nextOf}
 use Rattle.machine.specs.Fit.{Fits}
 use Rattle.machine.specs.Model.{Leads, Faultless}
 use Rattle.machine.specs.Next.{issueStep, moveStep, persistStep}

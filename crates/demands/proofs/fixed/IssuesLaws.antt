@@ -9,9 +9,10 @@ use Rattle.cases.specs.declared.case.Step.{Step}
 use Rattle.cases.specs.declared.case.Program.{Program}
 use Rattle.cases.specs.Choice.{both}
 use Rattle.cases.proofs.ChoiceLaws.{pick-true, pick-false}
+use Rattle.cases.specs.Checks.{instructionAt}
 use Rattle.machine.specs.declared.cells.State.{State}
 use Rattle.machine.specs.View.{issuedOf}
-use Rattle.machine.specs.Rules.{instructionAt, nextOf}
+use Rattle.machine.specs.Rules.{nextOf}
 use Rattle.machine.specs.Next.{issueStep, moveStep, persistStep}
 use Rattle.demands.specs.Writes.{makes, fixedBy, issuesAt, atIssue, fixedFrom, madeFrom}
 

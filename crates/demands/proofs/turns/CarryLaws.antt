@@ -9,10 +9,10 @@ use Rattle.cases.specs.declared.case.Instruction.{Instruction}
 use Rattle.cases.specs.declared.case.Step.{Step}
 use Rattle.cases.specs.declared.case.Program.{Program}
 use Rattle.cases.specs.Operations.{compare}
-use Rattle.cases.specs.Checks.{limitsOf, linesOf, stepFault, countAt}
+use Rattle.cases.specs.Checks.{limitsOf, linesOf, stepFault, countAt, instructionAt}
 use Rattle.machine.specs.declared.cells.State.{State}
 use Rattle.machine.specs.View.{queue, buffer, issuedOf}
-use Rattle.machine.specs.Rules.{instructionAt, ruleOf, nextOf}
+use Rattle.machine.specs.Rules.{ruleOf, nextOf}
 use Rattle.machine.specs.Joins.{joins, exchanges}
 use Rattle.machine.specs.Model.{Leads, Faultless}
 use Rattle.machine.specs.Next.{issueStep}

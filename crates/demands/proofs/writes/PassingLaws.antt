@@ -9,12 +9,12 @@ use native.Mathlib.Omega.{arith}
 use Rattle.cases.specs.declared.case.Instruction.{Instruction}
 use Rattle.cases.specs.declared.case.Step.{Step}
 use Rattle.cases.specs.declared.case.Program.{Program}
-use Rattle.cases.specs.Checks.{limitsOf, linesOf, stepFault, countAt}
+use Rattle.cases.specs.Checks.{limitsOf, linesOf, stepFault, countAt, instructionAt}
 use Rattle.cases.specs.Ranges.{InstructionFits}
 use Rattle.cases.specs.Choice.{pick, both}
 use Rattle.machine.specs.declared.cells.State.{State}
 use Rattle.machine.specs.View.{buffer, issuedOf}
-use Rattle.machine.specs.Rules.{instructionAt, ruleOf, nextOf}
+use Rattle.machine.specs.Rules.{ruleOf, nextOf}
 use Rattle.machine.specs.Joins.{joins, swaps, onlyIf, storeOf, swapOf, lastOr}
 use Rattle.machine.specs.Fit.{Fits}
 use Rattle.machine.specs.Next.{issueStep, moveStep, persistStep}

@@ -15,11 +15,12 @@ use Rattle.cases.specs.declared.case.Instruction.{Instruction}
 use Rattle.cases.specs.declared.case.Program.{Program}
 use Rattle.cases.specs.Choice.{pick, both, either}
 use Rattle.cases.specs.Operations.{lastOperation, firstOperation}
+use Rattle.cases.specs.Checks.{instructionAt}
 use Rattle.machine.specs.declared.cells.State.{State}
 use Rattle.machine.specs.declared.cells.Waiting.{Waiting}
 use Rattle.machine.specs.declared.cells.Entry.{Entry}
 use Rattle.machine.specs.View.{without, registerIn, buffer, issuedOf}
-use Rattle.machine.specs.Rules.{instructionAt, entryAt, entryOf, isBarrier, ruleOf}
+use Rattle.machine.specs.Rules.{entryAt, entryOf, isBarrier, ruleOf}
 use Rattle.machine.specs.Fit.{Fits}
 use Rattle.machine.specs.Next.{issueStep}
 use Rattle.machine.specs.Joins.{joins, swaps, onlyIf, storeOf, swapOf}

@@ -13,7 +13,7 @@ use Rattle.cases.specs.declared.case.Step.{Step}
 use Rattle.cases.specs.declared.case.Program.{Program}
 use Rattle.cases.specs.Choice.{pick}
 use Rattle.cases.specs.Sizes.{mostInstructions, allCode}
-use Rattle.cases.specs.Checks.{linesOf}
+use Rattle.cases.specs.Checks.{linesOf, instructionAt}
 use Rattle.cases.proofs.ArrayLaws.{getD-blank}
 use Rattle.cases.proofs.Promises.{thread-low}
 use Rattle.cases.specs.Operations.{exchange, compare, firstOperation, lastOperation}
@@ -26,7 +26,7 @@ use Rattle.machine.specs.View.{withWord, blankWaiting, buffer, issuedOf}
 use Rattle.machine.specs.Parts.{partsOf}
 use Rattle.machine.specs.Behind.{BlankBehind}
 use Rattle.machine.specs.Look.{queuedWord}
-use Rattle.machine.specs.Rules.{enqueue, await, instructionAt, issueRule, entryOf, loaded, fetched}
+use Rattle.machine.specs.Rules.{enqueue, await, issueRule, entryOf, loaded, fetched}
 use Rattle.machine.specs.Rules.{exchanged, matches, compared, performed, issueOf, effectOf, moveRule}
 use Rattle.machine.specs.Rules.{moveOf, settled, persistFirst, persistOf, ruleOf, nextOf, startOf}
 use Rattle.cases.specs.Ranges.{ProgramFits}

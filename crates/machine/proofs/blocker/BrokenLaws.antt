@@ -12,7 +12,7 @@ use Rattle.cases.specs.declared.case.Location.{Location}
 use Rattle.cases.specs.declared.case.Step.{Step}
 use Rattle.cases.specs.declared.case.Program.{Program}
 use Rattle.cases.specs.Choice.{pick, refuse}
-use Rattle.cases.specs.Checks.{limitsOf, stepFault, countAt}
+use Rattle.cases.specs.Checks.{limitsOf, stepFault, countAt, instructionAt}
 use Rattle.cases.specs.Sizes.{mostLocations}
 use Rattle.cases.proofs.ArrayLaws.{length-none}
 use Rattle.cases.proofs.ChoiceLaws.{otherwise, refuse-past, refuse-was, refuse-neither}
@@ -25,7 +25,7 @@ use Rattle.machine.specs.View.{Slot, lineOf, slots, queueIn, queue, queu
 use Rattle.machine.specs.View.{issuedOf}
 use Rattle.machine.specs.Parts.{partsOf}
 use Rattle.machine.specs.Look.{bars, firstBar}
-use Rattle.machine.specs.Rules.{instructionAt, isBarrier, barrierRule, issueRule, effectRule, passRule}
+use Rattle.machine.specs.Rules.{isBarrier, barrierRule, issueRule, effectRule, passRule}
 use Rattle.machine.specs.Rules.{entryAt, moveRule, persistRule, ruleIn, ruleOf}
 use Rattle.machine.specs.Fit.{Fits}
 use Rattle.machine.specs.Next.{issueStep, moveStep, persistStep}

@@ -11,13 +11,13 @@ use Rattle.cases.specs.declared.case.Step.{Step}
 use Rattle.cases.specs.declared.case.Program.{Program}
 use Rattle.cases.specs.Choice.{refuse}
 use Rattle.cases.specs.Sizes.{mostThreads, mostInstructions, mostLocations}
-use Rattle.cases.specs.Checks.{countAt}
+use Rattle.cases.specs.Checks.{countAt, instructionAt}
 use Rattle.machine.specs.declared.cells.Waiting.{Waiting}
 use Rattle.machine.specs.declared.next.Next.{Next}
 use Rattle.machine.specs.Sizes.{mostCandidates}
 use Rattle.machine.specs.View.{bufferIn}
 use Rattle.machine.specs.Parts.{Parts, lent}
-use Rattle.machine.specs.Rules.{instructionAt, barrierRule, operationRule, issueRule, ruleIn, entryAt}
+use Rattle.machine.specs.Rules.{barrierRule, operationRule, issueRule, ruleIn, entryAt}
 use Rattle.machine.specs.Fit.{Named}
 use Rattle.cases.specs.Ranges.{ProgramFits}
 use Rattle.machine.specs.Next.{issueStep, moveStep, stepsFrom, movesFrom, movesOf}

@@ -9,7 +9,7 @@ use mathlib.Core.List.{List, [], _∷_}
 use lib.ListN.{length, getD}
 use Rattle.cases.specs.declared.case.Step.{Step}
 use Rattle.cases.specs.declared.case.Program.{Program}
-use Rattle.cases.specs.Checks.{limitsOf, stepFault, countAt}
+use Rattle.cases.specs.Checks.{limitsOf, stepFault, countAt, instructionAt}
 use Rattle.cases.specs.Sizes.{mostThreads, mostInstructions, mostLocations, mostRegisters}
 use Rattle.cases.proofs.ChoiceLaws.{pick-true, pick-false}
 use Rattle.cases.proofs.Promises.{thread-low}
@@ -21,7 +21,7 @@ use Rattle.machine.specs.declared.cells.Entry.the-variants.{Store, Flush
 use Rattle.machine.specs.Sizes.{room, allSlots}
 use Rattle.machine.specs.View.{lineOf, queueLen, buffer, bufferIn, bufferLen, issuedOf}
 use Rattle.machine.specs.Parts.{partsOf}
-use Rattle.machine.specs.Rules.{instructionAt, issueRule, moveRule, persistRule, ruleIn, ruleOf, entryAt}
+use Rattle.machine.specs.Rules.{issueRule, moveRule, persistRule, ruleIn, ruleOf, entryAt}
 use Rattle.cases.specs.Ranges.{ProgramFits}
 use Rattle.machine.specs.Fit.{Fits, Named, Shallow, Roomy, unissued, due, AllOf, NamedBy}
 use Rattle.machine.specs.Offer.{Movable}

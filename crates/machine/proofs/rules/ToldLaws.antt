@@ -11,7 +11,7 @@ use lib.ListN.{getD, take}
 use Rattle.cases.specs.declared.case.Location.{Location}
 use Rattle.cases.specs.declared.case.Program.{Program}
 use Rattle.cases.specs.Choice.{pick, refuse}
-use Rattle.cases.specs.Checks.{countAt}
+use Rattle.cases.specs.Checks.{countAt, instructionAt}
 use Rattle.cases.proofs.ChoiceLaws.{pick-true, pick-false, pick-was, refuse-most, refuse-past, refuse-was}
 use Rattle.cases.proofs.ChoiceLaws.{refuse-neither}
 use Rattle.machine.specs.declared.cells.Waiting.{Waiting}
@@ -20,7 +20,7 @@ use Rattle.machine.specs.declared.cells.Entry.the-variants.{Store, Flush
 use Rattle.machine.specs.View.{lineOf, bufferIn}
 use Rattle.machine.specs.Parts.{Parts}
 use Rattle.machine.specs.Look.{marked, firstBar}
-use Rattle.machine.specs.Rules.{instructionAt, isBarrier, barrierRule, operationRule, issueRule, effectRule}
+use Rattle.machine.specs.Rules.{isBarrier, barrierRule, operationRule, issueRule, effectRule}
 use Rattle.machine.specs.Rules.{passRule, entryAt, moveRule}
 
 -- Issue: over the parts that its rule looks at

@@ -14,10 +14,10 @@ use Rattle.cases.specs.Choice.{pick}
 use Rattle.cases.specs.Sizes.{mostThreads, mostLocations}
 use Rattle.cases.proofs.ChoiceLaws.{refuse-none}
 use Rattle.cases.proofs.Promises.{thread-low}
-use Rattle.cases.specs.Checks.{countAt}
+use Rattle.cases.specs.Checks.{countAt, instructionAt}
 use Rattle.machine.specs.declared.cells.State.{State}
 use Rattle.machine.specs.View.{queue, bufferIn, buffer, bufferLen, wordOf, issuedOf, withIssued}
-use Rattle.machine.specs.Rules.{instructionAt, isBarrier, barrierRule, operationRule, issueRule, issueOf}
+use Rattle.machine.specs.Rules.{isBarrier, barrierRule, operationRule, issueRule, issueOf}
 use Rattle.machine.specs.Rules.{matches, ruleIn, ruleOf, nextOf}
 use Rattle.machine.specs.Look.{queuedWord}
 use Rattle.machine.specs.Joins.{joins, swaps, exchanges}

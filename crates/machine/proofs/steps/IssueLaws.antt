@@ -15,7 +15,7 @@ use Rattle.cases.specs.Choice.{pick, both}
 use Rattle.cases.specs.Ranges.{InstructionFits}
 use Rattle.cases.proofs.ChoiceLaws.{refuse-none, pick-cases}
 use Rattle.cases.proofs.Promises.{thread-low}
-use Rattle.cases.specs.Checks.{countAt, linesOf}
+use Rattle.cases.specs.Checks.{countAt, linesOf, instructionAt}
 use Rattle.cases.specs.Operations.{exchange, compare, lastOperation, firstOperation}
 use Rattle.machine.specs.declared.cells.State.{State}
 use Rattle.machine.specs.declared.cells.Entry.the-variants.{Flush, FlushOpt, Sfence}
@@ -26,7 +26,7 @@ use Rattle.machine.specs.View.{writeSlot, lineOf, queue, queueLen, buffe
 use Rattle.machine.specs.View.{registerIn, issuedOf, withIssued}
 use Rattle.machine.specs.Parts.{partsOf}
 use Rattle.machine.specs.Look.{newestWrite, newestStore, queuedWord, loadOf}
-use Rattle.machine.specs.Rules.{instructionAt, issueRule, entryOf, loaded, fetched, exchanged, matches}
+use Rattle.machine.specs.Rules.{issueRule, entryOf, loaded, fetched, exchanged, matches}
 use Rattle.machine.specs.Rules.{compared, fails, performed, issueOf, enqueue}
 use Rattle.machine.specs.Fit.{Fits, Named}
 use Rattle.machine.specs.Work.{unissuedWeight, waitingWeight, work, costIf}

@@ -15,14 +15,14 @@ use Rattle.cases.specs.declared.case.Program.{Program}
 use Rattle.cases.specs.Choice.{pick, both}
 use Rattle.cases.proofs.ChoiceLaws.{pick-false, pick-cases}
 use Rattle.cases.specs.Sizes.{mostLocations}
-use Rattle.cases.specs.Checks.{linesOf}
+use Rattle.cases.specs.Checks.{linesOf, instructionAt}
 use Rattle.machine.specs.declared.cells.State.{State}
 use Rattle.machine.specs.declared.cells.Entry.{Entry}
 use Rattle.machine.specs.declared.cells.Entry.the-variants.{Store, Flush, FlushOpt, Sfence}
 use Rattle.machine.specs.View.{Slot, markOf, lineOf, writeSlot, markerSlot, queue, buffer, wordOf, issuedOf}
 use Rattle.machine.specs.Sizes.{firstMarker}
 use Rattle.machine.specs.Look.{wordOr}
-use Rattle.machine.specs.Rules.{instructionAt, entryAt, ruleOf, nextOf, startOf}
+use Rattle.machine.specs.Rules.{entryAt, ruleOf, nextOf, startOf}
 use Rattle.machine.specs.Joins.{swaps, exchanges, enters, onlyIf, writesOf, storeOf, swapOf, onWay, lastOr}
 use Rattle.machine.specs.Next.{issueStep, moveStep, persistStep}
 use Rattle.machine.specs.Fit.{Fits, Borne}

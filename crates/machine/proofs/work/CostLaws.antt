@@ -12,9 +12,10 @@ use Rattle.cases.specs.declared.case.Step.{Step}
 use Rattle.cases.specs.declared.case.Program.{Program}
 use Rattle.cases.specs.Choice.{pick, both}
 use Rattle.cases.specs.Operations.{issue}
+use Rattle.cases.specs.Checks.{instructionAt}
 use Rattle.machine.specs.declared.cells.State.{State}
 use Rattle.machine.specs.View.{issuedOf}
-use Rattle.machine.specs.Rules.{instructionAt, fails, nextOf}
+use Rattle.machine.specs.Rules.{fails, nextOf}
 use Rattle.machine.specs.Model.{spent}
 use Rattle.machine.specs.Work.{failsAt, costIf, cost, failuresFrom}
 use Rattle.machine.specs.Ptso.{ptso}

@@ -8,15 +8,14 @@ use native.Mathlib.Nat.{add-zero}
 use lib.ListN.{length, getD, length-append}
 use Rattle.cases.specs.declared.case.Program.{Program}
 use Rattle.cases.specs.Sizes.{mostThreads, mostInstructions, mostLocations}
-use Rattle.cases.specs.Draft.{noInstruction}
-use Rattle.cases.specs.Checks.{countAt}
+use Rattle.cases.specs.Checks.{noInstruction, countAt, instructionAt}
 use Rattle.machine.specs.declared.cells.State.{State}
 use Rattle.machine.specs.declared.cells.Waiting.{Waiting}
 use Rattle.machine.specs.declared.cells.Entry.{Entry}
 use Rattle.machine.specs.Sizes.{room}
 use Rattle.machine.specs.View.{Slot, queue, queueLen, withQueue, without, buffer, bufferLen, withBuffer}
 use Rattle.machine.specs.View.{withWord, withRegister, issuedOf, withIssued}
-use Rattle.machine.specs.Rules.{instructionAt, enqueue, await}
+use Rattle.machine.specs.Rules.{enqueue, await}
 use Rattle.machine.specs.Fit.{sumTo, unissued, Fits}
 use Rattle.machine.specs.Work.{unissuedWeight, waitingWeight, unissuedCode, threadWork, work, codeWeight}
 use Rattle.machine.specs.Work.{entryWeight, weigh}

@@ -4,7 +4,7 @@ use Prim.Native.Nat.{_-_}
 use native.Mathlib.Omega.{arith}
 use Rattle.cases.specs.Sizes.{allCode}
 use Rattle.cases.specs.Writing.{sameInstruction}
-use Rattle.cases.specs.Draft.{noInstruction}
+use Rattle.cases.specs.Checks.{noInstruction}
 use Rattle.cases.proofs.ChoiceLaws.{told-true, told-false}
 use Rattle.cases.proofs.ArrayLaws.{unmapped}
 use Rattle.cases.proofs.same.SameLaws.{SameSoFar, same-start, same-next, same-here, same-end}

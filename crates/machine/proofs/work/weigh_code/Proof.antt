@@ -4,7 +4,7 @@ use mathlib.Core.Path.{_≡_}
 use native.Mathlib.Omega.{arith}
 use lib.ListN.{length}
 use Rattle.cases.specs.Sizes.{mostInstructions, allCode}
-use Rattle.cases.specs.Draft.{noInstruction}
+use Rattle.cases.specs.Checks.{noInstruction}
 use Rattle.machine.specs.Fit.{unissued}
 use Rattle.machine.specs.Work.{codeWeight, unissuedCode}
 use Rattle.cases.proofs.ArrayLaws.{unmapped}
