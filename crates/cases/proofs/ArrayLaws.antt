@@ -1,10 +1,14 @@
--- Laws of lists, for every layer: what owning an array tells of its list; an empty list and a blank one; what
--- is left of a front; values put into a list. Assumes nothing.
-use Prim.Native.Nat.{ℕ, zero, suc, _+_, _-_, _≤_}
+-- Laws of lists, for every layer: what owning an array tells of its list; an empty list and a blank one; where
+-- something stands; what is left of a front; values put into a list. Assumes nothing.
+use Prim.Native.Nat.{ℕ, zero, suc, _+_, _-_, _<_, _≤_}
 use mathlib.Core.Path.{_≡_, refl, sym, _∙_}
+use mathlib.Core.Logic.{_≢_}
+use mathlib.Core.Bool.{Bool, true, false}
 use mathlib.Core.List.{List, [], _∷_, _++_, map}
-use lib.ListN.{length, getD, set, take, drop, replicate, length-map}
+use lib.ListN.{length, getD, set, take, drop, replicate, length-map, List·getD-eq-default}
 use lib.Seq.{take-nil, sets, sets-eq}
+use lib.Dec.{ltb}
+use borrow.Author.Tests.{ltb-true, ltb-false}
 use native.Mathlib.Nat.{add-zero, add-suc, suc-add, zero-add, sub-zero, zero-sub, suc-sub-suc}
 use native.Mathlib.Omega.{arith}
 
@@ -22,6 +26,14 @@ getD-blank zero zero d = refl
 getD-blank zero (suc i) d = refl
 getD-blank (suc n) zero d = refl
 getD-blank (suc n) (suc i) d = getD-blank n i d
+
+-- an index where something stands is within its list
+pub within : {A : Type 0} (l : List A) (i : ℕ) (blank : A) → getD l i blank ≢ blank → i < length l
+within l i blank h = go (ltb i (length l)) refl
+  where
+    go : (b : Bool) → ltb i (length l) ≡ b → i < length l
+    go true e = ltb-true i (length l) e
+    go false e = absurd (h (List·getD-eq-default l blank (ltb-false i (length l) e)))
 
 -- what is left of a front
 pub drop-take {ℓ} : {A : Type ℓ} (k n : ℕ) (xs : List A) → drop k (take n xs) ≡ take (n - k) (drop k xs)

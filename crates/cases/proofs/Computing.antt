@@ -8,7 +8,8 @@ use Rattle.cases.specs.Record.{payloadOf, spareOf, mislong, asRow, lineB
 use Rattle.cases.specs.Record.{bytesOf, asHeader, asWrite, asInstruction, asStep, recordOf, openNo, sizeOf}
 use Rattle.cases.specs.Checks.{kindRank, misplaced, disordered, outside, beyond, leftOver, headerOut}
 use Rattle.cases.specs.Checks.{mislisted, usesLocation, usesRegister, usesWord, instructionOut, instructionLeft}
-use Rattle.cases.specs.Checks.{passedOut, linesOf, stepOut, stepLeft, faultOf}
+use Rattle.cases.specs.Checks.{needsRegister, setsRegister, setBy, setBefore, unset, passedOut, linesOf}
+use Rattle.cases.specs.Checks.{stepOut, stepLeft, faultOf}
 use Rattle.cases.specs.Draft.{emptyCase, lineTable, lineCount, withSizes, withHeader, withFirst}
 use Rattle.cases.specs.Draft.{withInstruction, withWant, withPassed, withStep, withProgram, withAsk}
 use Rattle.cases.specs.Draft.{withRun, blankDraft, addOf}
@@ -23,9 +24,9 @@ unfoldable pub reading-computes : ℕ
 unfolding pick both either refuse half wordAt listedOf table ownLines newAfter unordered linesIn payloadOf
     spareOf mislong asRow lineBytes asHeader asWrite asInstruction asStep recordOf openNo sizeOf kindRank
     misplaced disordered outside beyond leftOver headerOut mislisted usesLocation usesRegister usesWord
-    instructionOut instructionLeft passedOut linesOf stepOut stepLeft faultOf emptyCase lineTable lineCount
-    withSizes withHeader withFirst withInstruction withWant withPassed withStep withProgram withAsk withRun
-    blankDraft addOf refusedOf endedOf readFrom readOf
+    instructionOut instructionLeft needsRegister setsRegister setBy setBefore unset passedOut linesOf stepOut
+    stepLeft faultOf emptyCase lineTable lineCount withSizes withHeader withFirst withInstruction withWant
+    withPassed withStep withProgram withAsk withRun blankDraft addOf refusedOf endedOf readFrom readOf
 reading-computes = 0
 
 -- the bytes of records

@@ -24,7 +24,7 @@ use Rattle.cases.specs.Checks.{limitsOf, stepFault, faultOf}
 use Rattle.cases.specs.Draft.{noStep, emptyCase, runWith, withRun, withVersion, blankDraft, addOf}
 use Rattle.cases.specs.Reading.{numberOf, offsetOf, refusedOf, readFrom, readOf, unreadOf}
 use Rattle.cases.specs.Seats.{encodeOf, stepsBytes}
-use Rattle.cases.specs.Ranges.{ProgramFits, Ranged}
+use Rattle.cases.specs.Ranges.{ProgramFits, RegistersSet, Ranged}
 use Rattle.cases.specs.Writing.{readsAs, readsBack, wroteOf, writtenOf}
 use Rattle.cases.proofs.ChoiceLaws.{both-true}
 use Rattle.cases.proofs.reader.ReadLaws as ReadLaws
@@ -41,8 +41,8 @@ use Rattle.cases.proofs.same.SameLaws.{case-is, case-self}
 
 -- Reading any bytes at all
 module _ (s : List ℕ) where
-  -- a reading answers 0 or a refusal of the table, 1 to 9
-  pub number-in-table : numberOf (readOf s .answer) ≤ 9
+  -- a reading answers 0 or a refusal of the table, 1 to 10
+  pub number-in-table : numberOf (readOf s .answer) ≤ 10
   number-in-table = round-trip s .table
 
   -- a refusal hands out only the fixed empty case
@@ -164,6 +164,10 @@ module _ (c : Case) (readable : readsBack c ≡ true) where
   -- and every number of it is in range
   pub readable-ranged : Ranged c
   readable-ranged = rw file-case at (read-ranged (encodeOf c) file-number)
+
+  -- and no instruction needs a register that none before it in its thread sets
+  pub registers-set : RegistersSet (c .program)
+  registers-set = readable-ranged .registers
 
   -- its run is its steps, and nothing stands behind them
   pub run-is : c .run ≡ runWith (take (c .run .count) (c .run .steps))

@@ -11,6 +11,8 @@ pub mod DraftLaws
 pub mod RecordFitLaws
 -- Sound, SoundSized, SoundFronts, SoundStands; added, Added
 pub mod SoundLaws
+-- registers: every register that is needed is set, with an instruction more too
+pub mod RegistersLaws
 -- begun, blank: the first record
 pub mod BegunLaws
 -- add, declared: a record of the program

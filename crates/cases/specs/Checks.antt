@@ -2,7 +2,7 @@
 -- "Within a record the checks go in the order 1 (head), 2, 3, 1 (payload), 4, 5, 8, 6, 7, 9." Number 5 looks
 -- only at fields that are used; an unused field is a matter for 8. Document 02, P3, of kind 1: "then the cut
 -- test, 4, the ranges of version, threads and locations (5), 3 again for a length not that version's and
--- count's, and 8 for line numbers out of order."
+-- count's, and 8 for line numbers out of order." P8, of kind 3: 10, "checked after 7".
 --   kindRank         where a kind stands in the order of kinds
 --   misplaced        4
 --   headerOut, instructionOut, passedOut, stepOut
@@ -11,18 +11,23 @@
 --   instructionLeft, stepLeft
 --                    8: a field left over that is not used
 --   disordered       6
+--   unset            10: a store of a register, or a compare, whose register no earlier instruction sets
 --   usesLocation, usesRegister, usesWord
 --                    which fields an operation uses
+--   needsRegister, setsRegister
+--                    an operation needs a word in its register; it sets its register
 --   noInstruction    what stands in an array where the case has nothing
 --   countAt p t      how many instructions thread t of the program p has
 --   instructionAt p t i   its instruction i
+--   setBy r x        the instruction x sets register r
+--   setBefore p t r n   one of the first n instructions of thread t does
 --   linesOf p        how many lines the program p has, each with its queue
 --   Limits, limitsOf p
 --                    what a step may name, and what a step of the program p may
 --   faultOf d r      0, or the number of the first fault of record r behind the draft d
 -- Assumes nothing.
-use Prim.Native.Nat.{ℕ, _+_, _*_}
-use mathlib.Core.Bool.{Bool, not}
+use Prim.Native.Nat.{ℕ, zero, suc, _+_, _*_}
+use mathlib.Core.Bool.{Bool, false, not}
 use lib.ListN.{getD}
 use lib.Dec.{eqb, leb, ltb}
 use Rattle.cases.specs.declared.case.Thread.{Thread}
@@ -34,8 +39,8 @@ use Rattle.cases.specs.declared.record.Header.{Header}
 use Rattle.cases.specs.declared.record.Record.{Record}
 use Rattle.cases.specs.declared.record.Record.the-variants.{Declare, First, Instruct, Want, Passed, Take}
 use Rattle.cases.specs.Sizes.{mostThreads, mostInstructions, mostLocations, mostRegisters, mostSteps}
-use Rattle.cases.specs.Operations.{storeWord, storeRegister, exchange, flushOpt, compare, lastOperation}
-use Rattle.cases.specs.Operations.{move, persist, lastCode}
+use Rattle.cases.specs.Operations.{storeWord, storeRegister, load, exchange, flushOpt, compare}
+use Rattle.cases.specs.Operations.{lastOperation, move, persist, lastCode}
 use Rattle.cases.specs.Choice.{pick, both, either, refuse}
 use Rattle.cases.specs.Lines.{lastVersion, listedOf, unordered}
 use Rattle.cases.specs.Record.{lineBytes}
@@ -112,6 +117,26 @@ countAt p t = getD (p .counts) t 0
 abbrev pub instructionAt : Program → ℕ → ℕ → Instruction
 instructionAt p t i = getD (p .code) (t * mostInstructions + i) noInstruction
 
+-- Document 02, P8: "A store from a register that no earlier load, exchange or compare of that thread has written
+-- was a typing slip in every case we saw, and a compare on such a register too." What a load, an exchange or a
+-- compare writes, it sets.
+unfoldable pub needsRegister : ℕ → Bool
+needsRegister op = either (eqb op storeRegister) (eqb op compare)
+
+unfoldable pub setsRegister : ℕ → Bool
+setsRegister op = either (eqb op load) (either (eqb op exchange) (eqb op compare))
+
+unfoldable pub setBy : ℕ → Instruction → Bool
+setBy r x = both (setsRegister (x .operation)) (eqb (x .register .0) r)
+
+unfoldable pub setBefore : Program → ℕ → ℕ → ℕ → Bool
+setBefore p t r zero = false
+setBefore p t r (suc n) = either (setBy r (instructionAt p t n)) (setBefore p t r n)
+
+-- the instructions so far are the earlier ones: a compare's own write comes too late for its own test
+unfoldable pub unset : Program → Thread → Instruction → Bool
+unset p t x = both (needsRegister (x .operation)) (not (setBefore p (t .0) (x .register .0) (countAt p (t .0))))
+
 unfoldable pub passedOut : Program → Thread → ℕ → Bool
 passedOut p t n = either (leb (p .threads) (t .0)) (ltb (countAt p (t .0)) n)
 
@@ -162,7 +187,8 @@ faultOf d (Instruct t x) =
     (refuse (instructionOut (d .case .program) t x) 5
     (refuse (instructionLeft x) 8
     (refuse (disordered d 3 (t .0)) 6
-    (refuse (leb mostInstructions (countAt (d .case .program) (t .0))) 7 0))))
+    (refuse (leb mostInstructions (countAt (d .case .program) (t .0))) 7
+    (refuse (unset (d .case .program) t x) 10 0)))))
 faultOf d (Want w) =
     refuse (misplaced (d .kind) 4) 4
     (refuse (leb (d .case .program .locations) (w .location .0)) 5

@@ -4,7 +4,8 @@
 --   InstructionFits p x   the instruction's numbers are there, used or not
 --   HasOwnLines p         every location has a line of its own
 --   ProgramFits p         the program's numbers are in range: what the machine takes for granted of one
---   Ranged c              every number of the case is in range
+--   RegistersSet p        no instruction needs a register that nothing before it sets
+--   Ranged c              every number of the case is in range, and every register that it needs is set
 -- Assumes nothing.
 use Prim.Native.Nat.{ℕ, _<_, _≤_}
 use mathlib.Core.Path.{_≡_}
@@ -19,7 +20,7 @@ use Rattle.cases.specs.Sizes.{mostThreads, mostInstructions, mostLocatio
 use Rattle.cases.specs.Sizes.{allCode}
 use Rattle.cases.specs.Operations.{firstOperation, lastOperation}
 use Rattle.cases.specs.Lines.{ownVersion, ownLines}
-use Rattle.cases.specs.Checks.{countAt, instructionAt, limitsOf, stepFault}
+use Rattle.cases.specs.Checks.{countAt, instructionAt, needsRegister, setBefore, limitsOf, stepFault}
 use Rattle.cases.specs.Draft.{noStep}
 
 -- the arrays are as long as their types say, which a list alone doesn't
@@ -58,8 +59,14 @@ pub record ProgramFits (p : Program) : Type 0 where
   pub instructions : (t i : ℕ) → i < countAt p t
       → (t < p .threads) × InstructionFits p (instructionAt p t i)
 
+-- every register that an instruction needs is set by one before it in its thread
+unfoldable pub RegistersSet : Program → Type 0
+RegistersSet p = (t i : ℕ) → i < countAt p t → needsRegister (instructionAt p t i .operation) ≡ true
+    → setBefore p t (instructionAt p t i .register .0) i ≡ true
+
 pub record Ranged (c : Case) : Type 0 where
   pub program : ProgramFits (c .program)
+  pub registers : RegistersSet (c .program)
   pub ask : AskSized (c .ask)
   pub run : RunSized (c .run)
   pub own-lines : c .version ≡ ownVersion → HasOwnLines (c .program)

@@ -1,7 +1,8 @@
 // What may be wrong with a record that opens, each fault by its name; `fault` tries them in 01's order:
-// 4, 5, 8, 6, 7, 9, and for the program's record in 02's: 4, 5, 3, 8.
+// 4, 5, 8, 6, 7, 9, with 02's 10 behind 7, and for the program's record in 02's: 4, 5, 3, 8.
 use crate::case::Instruction;
 use crate::case::Program;
+use crate::case::Register;
 use crate::case::Step;
 use crate::case::Thread;
 use crate::case::Write;
@@ -14,6 +15,7 @@ use crate::operations::EXCHANGE;
 use crate::operations::FLUSH_OPT;
 use crate::operations::LAST_CODE;
 use crate::operations::LAST_OPERATION;
+use crate::operations::LOAD;
 use crate::operations::MOVE;
 use crate::operations::PERSIST;
 use crate::operations::STORE_REGISTER;
@@ -30,7 +32,7 @@ ghost use mathlib.Core.Path.{_≡_};
 ghost use Prim.Native.Nat.{_≤_};
 ghost use Rattle.cases.specs.declared.record.Record.the-variants.{Declare, First, Instruct};
 ghost use Rattle.cases.specs.declared.record.Record.the-variants.{Want, Passed, Take};
-ghost use Rattle.cases.specs.Sizes.{mostLocations};
+ghost use Rattle.cases.specs.Sizes.{mostInstructions, mostLocations};
 ghost use Rattle.cases.specs.Lines.{lastVersion, unordered};
 ghost use Rattle.cases.specs.Record.{lineBytes};
 ghost use Rattle.cases.specs.Checks.{
@@ -47,6 +49,11 @@ ghost use Rattle.cases.specs.Checks.{
   mislisted,
   instructionOut,
   instructionLeft,
+  needsRegister,
+  setsRegister,
+  setBy,
+  setBefore,
+  unset,
   passedOut,
   linesOf,
   limitsOf,
@@ -233,6 +240,66 @@ fn is_passed_out(p: Program, t: Thread, n: u8) -> bool
     count(p, t) < n
 }
 
+// It needs a word in its register: a store stores it, a compare tests it.
+fn needs_register(op: u8) -> bool
+    ensures { λ r. ⌜ r ≡ needsRegister op ⌝ }
+{
+    if op == STORE_REGISTER {
+        return true;
+    }
+    op == COMPARE
+}
+
+fn sets_register(op: u8) -> bool
+    ensures { λ r. ⌜ r ≡ setsRegister op ⌝ }
+{
+    if op == LOAD {
+        return true;
+    }
+    if op == EXCHANGE {
+        return true;
+    }
+    op == COMPARE
+}
+
+fn is_set_by(r: Register, x: Instruction) -> bool
+    ensures { λ z. ⌜ z ≡ setBy (r .0) x ⌝ }
+{
+    if sets_register(x.operation) {
+        return x.register.0 == r.0;
+    }
+    false
+}
+
+// One of the thread's instructions so far sets the register; the newest is looked at first.
+fn is_set(p: Program, t: Thread, r: Register) -> bool
+    requires { ⌜ countAt p (t .0) ≤ mostInstructions ⌝ }
+    ensures { λ z. ⌜ z ≡ setBefore p (t .0) (r .0) (countAt p (t .0)) ⌝ }
+{
+    let code = p.code;
+    let at = (t.0 as usize) * INSTRUCTIONS;
+    let mut n = count(p, t) as usize;
+    while 0 < n {
+        n = n - 1;
+        let x = code[at + n];
+        if is_set_by(r, x) {
+            return true;
+        }
+    }
+    false
+}
+
+// It needs a register that no instruction before it in its thread sets.
+fn is_unset(p: Program, t: Thread, x: Instruction) -> bool
+    requires { ⌜ countAt p (t .0) ≤ mostInstructions ⌝ }
+    ensures { λ r. ⌜ r ≡ unset p t x ⌝ }
+{
+    if needs_register(x.operation) {
+        return !is_set(p, t, x.register);
+    }
+    false
+}
+
 // How many lines the program has, each with its queue: a persist names one by its number.
 pub fn lines_of(p: Program) -> u8
     ensures { λ r. ⌜ r ≡ linesOf p ⌝ }
@@ -336,6 +403,9 @@ fn instruction_fault(d: Draft, t: Thread, x: Instruction) -> u8
     }
     if (INSTRUCTIONS as u8) <= count(p, t) {
         return 7;
+    }
+    if is_unset(p, t, x) {
+        return 10;
     }
     0
 }

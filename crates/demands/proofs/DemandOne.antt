@@ -39,23 +39,23 @@ use Rattle.machine.proofs.Promises as Machine
 use Rattle.search.specs.declared.ask.Outcome.the-variants.{Refused}
 use Rattle.search.specs.Question.{reaches, askOf, outcomeNo, toldOf, questionOf, shownOf}
 use Rattle.search.proofs.Promises as Search
-use Rattle.demands.specs.Order.{outOf, mislistedOf, leftOf, unorderedOf, ninthOf, ninetySeventhOf}
+use Rattle.demands.specs.Order.{outOf, mislistedOf, leftOf, unorderedOf, ninthOf, unsetOf, ninetySeventhOf}
 use Rattle.demands.proofs.answers.TableLaws as TableLaws
 
 -- "Any bytes may be given as a case. Each is judged or refused by a number in your table,"
 module _ (s : List ℕ) (bytes : IsBytes s) where
-  -- the judge: 103; a rule, 21 to 29; a reading refusal, 1 to 9
+  -- the judge: 103; a rule, 21 to 29; a reading refusal, 1 to 10
   pub judged-or-refused :
       (verdictNo (judgeBytes s .verdict) ≡ 103)
       ⊎ ((21 ≤ verdictNo (judgeBytes s .verdict)) × (verdictNo (judgeBytes s .verdict) ≤ 29))
-      ⊎ ((1 ≤ verdictNo (judgeBytes s .verdict)) × (verdictNo (judgeBytes s .verdict) ≤ 9))
+      ⊎ ((1 ≤ verdictNo (judgeBytes s .verdict)) × (verdictNo (judgeBytes s .verdict) ≤ 10))
   judged-or-refused = TableLaws.judge-table s bytes
 
-  -- the question: 100 to 102; 31; a reading refusal, 1 to 9
+  -- the question: 100 to 102; 31; a reading refusal, 1 to 10
   pub asked-or-refused : (room b : ℕ)
       → ((100 ≤ outcomeNo (questionOf s room b)) × (outcomeNo (questionOf s room b) ≤ 102))
       ⊎ (outcomeNo (questionOf s room b) ≡ 31)
-      ⊎ ((1 ≤ outcomeNo (questionOf s room b)) × (outcomeNo (questionOf s room b) ≤ 9))
+      ⊎ ((1 ≤ outcomeNo (questionOf s room b)) × (outcomeNo (questionOf s room b) ≤ 10))
   asked-or-refused = TableLaws.question-table s
 
   -- both tell the reader's number and offset where reading refuses
@@ -105,7 +105,7 @@ pub order-of-opening : (s : List ℕ)
 unfolding openNo
 order-of-opening s = refl
 
--- and, of whatever kind it is, is then checked by 4, 5, 3, 8, 6, 7, 9
+-- and, of whatever kind it is, is then checked by 4, 5, 3, 8, 6, 7, 10, 9
 pub order-of-checks : (d : Draft) (r : Record)
     → faultOf d r
     ≡ refuse (misplaced (d .kind) (kindOf r)) 4
@@ -114,9 +114,10 @@ pub order-of-checks : (d : Draft) (r : Record)
     (refuse (leftOf r) 8
     (refuse (unorderedOf d r) 6
     (refuse (ninthOf d r) 7
+    (refuse (unsetOf d r) 10
     (refuse (ninetySeventhOf d r) 9
-    0))))))
-unfolding faultOf outOf mislistedOf leftOf unorderedOf ninthOf ninetySeventhOf refuse
+    0)))))))
+unfolding faultOf outOf mislistedOf leftOf unorderedOf ninthOf unsetOf ninetySeventhOf refuse
 order-of-checks d (Declare h) = refl
 order-of-checks d (First w) = refl
 order-of-checks d (Instruct t x) = refl

@@ -1,12 +1,13 @@
 -- Demand 1's words: each check of a record by its number, for every kind of record; false where a kind has no
 -- such check. "Within a record the checks go in the order 1 (head), 2, 3, 1 (payload), 4, 5, 8, 6, 7, 9"; document
 -- 02, P3, of kind 1: behind 5 "3 again for a length not that version's and count's, and 8 for line numbers out of
--- order".
+-- order"; P8, of kind 3: 10, "checked after 7".
 --   outOf d r            5: something out of range
 --   mislistedOf r        3: not as many line bytes as that version and count have
 --   leftOf r             8: a field not used that is not 0, a 0 that says nothing, or a line number out of order
 --   unorderedOf d r      6: rising or not-falling order broken
 --   ninthOf d r          7: the ninth instruction of a thread
+--   unsetOf d r          10: a store of a register, or a compare, whose register no earlier instruction sets
 --   ninetySeventhOf d r  9: the ninety-seventh step record
 -- Assumes nothing.
 use mathlib.Core.Bool.{Bool, false}
@@ -18,7 +19,7 @@ use Rattle.cases.specs.Sizes.{mostInstructions, mostSteps}
 use Rattle.cases.specs.Lines.{unordered}
 use Rattle.cases.specs.Record.{lineBytes}
 use Rattle.cases.specs.Checks.{disordered, headerOut, mislisted, instructionOut, instructionLeft, passedOut}
-use Rattle.cases.specs.Checks.{limitsOf, stepOut, stepLeft, countAt}
+use Rattle.cases.specs.Checks.{unset, limitsOf, stepOut, stepLeft, countAt}
 
 unfoldable pub outOf : Draft → Record → Bool
 outOf d (Declare h) = headerOut h
@@ -59,6 +60,14 @@ ninthOf d (Instruct t x) = leb mostInstructions (countAt (d .case .program) (t .
 ninthOf d (Want w) = false
 ninthOf d (Passed t n) = false
 ninthOf d (Take k) = false
+
+unfoldable pub unsetOf : Draft → Record → Bool
+unsetOf d (Declare h) = false
+unsetOf d (First w) = false
+unsetOf d (Instruct t x) = unset (d .case .program) t x
+unsetOf d (Want w) = false
+unsetOf d (Passed t n) = false
+unsetOf d (Take k) = false
 
 unfoldable pub ninetySeventhOf : Draft → Record → Bool
 ninetySeventhOf d (Declare h) = false

@@ -1,7 +1,8 @@
 -- Document 01, "Rows proved of the rules (marked *) and rows run": all of them, a list for each line of 01.
 -- Above each stands 01's line, with a * where 01 has one. Behind them the rows of the requests P3, P4 and P5 of
--- document 02. A run, an index, a full length or a place that they do not name is as the second judge tells it.
---   table         the rows, in 01's order, then P3's, P4's and P5's
+-- document 02, and of P8, which has none, its sentence in rows. A run, an index, a full length, an offset or a place
+-- that they do not name is as the second judge tells it.
+--   table         the rows, in 01's order, then P3's, P4's, P5's and P8's
 --   outage        the records of its second row; outageBytes: the 50 bytes that 01 has for it
 -- "In the rows below "store x" means x=500, and a budget not named is 1,000,000."
 -- Assumes nothing.
@@ -253,6 +254,22 @@ eitherTakes =
     ∷ asked (rivals 2) 6 usual (reached (issue 0 ∷ issue 1 ∷ issue 1 ∷ issue 0 ∷ persist x ∷ []))
     ∷ []
 
+-- P8: "A store from a register that no earlier load, exchange or compare of that thread has written .., and a compare
+-- on such a register too. Refuse it with 10 at that instruction, checked after 7." Nothing before it; only another
+-- thread's load; only a later one; the eighth; the ninth. Behind a load, an exchange, a load and a compare they read.
+abbrev unsetRegister : List Row
+unsetRegister =
+    opened (threads 1 ∷ storeRegister 0 x ∷ []) 10 8
+    ∷ opened (threads 1 ∷ compare 0 x 7 ∷ []) 10 8
+    ∷ opened (threads 2 ∷ load 0 y ∷ storeRegister 1 x ∷ []) 10 20
+    ∷ opened (threads 1 ∷ storeRegister 0 x ∷ load 0 y ∷ []) 10 8
+    ∷ opened (threads 1 ∷ replicate 7 (store 0 x 500) ++ (storeRegister 0 x ∷ [])) 10 92
+    ∷ opened (threads 1 ∷ replicate 8 (store 0 x 500) ++ (storeRegister 0 x ∷ [])) 7 104
+    ∷ opened (threads 1 ∷ load 0 y ∷ storeRegister 0 x ∷ []) 0 32
+    ∷ opened (threads 1 ∷ exchange 0 y 7 ∷ storeRegister 0 x ∷ []) 0 32
+    ∷ opened (threads 1 ∷ load 0 y ∷ compare 0 x 7 ∷ storeRegister 0 x ∷ []) 0 44
+    ∷ []
+
 unfoldable pub table : List Row
 table =
     noInstructions ++ tornRow ++ flushed ++ flushedOpt ++ fenceIssued
@@ -260,3 +277,4 @@ table =
     ++ oneLine ++ twoLines ++ neighbourFlushed ++ neighboursWait ++ headers
     ++ barBehind ++ markerBehind ++ lowestQueue
     ++ lockTaken ++ lockHeld ++ compareWaits ++ eitherTakes
+    ++ unsetRegister

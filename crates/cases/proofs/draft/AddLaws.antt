@@ -63,6 +63,7 @@ module _ (d : Draft) (front : ℕ) (s : Sound d front) where
         sized = record {
           of-program = sized;
           on-lines = s .sized .on-lines;
+          registers = s .sized .registers;
           own = s .sized .own;
           some-threads = s .sized .some-threads;
           some-locations = s .sized .some-locations;
@@ -108,6 +109,7 @@ module _ (d : Draft) (front : ℕ) (s : Sound d front) where
         sized = record {
           of-program = sized;
           on-lines = s .sized .on-lines;
+          registers = s .sized .registers;
           own = s .sized .own;
           some-threads = s .sized .some-threads;
           some-locations = s .sized .some-locations;
@@ -150,6 +152,7 @@ module _ (d : Draft) (front : ℕ) (s : Sound d front) where
         sized = record {
           of-program = sized;
           on-lines = s .sized .on-lines;
+          registers = s .sized .registers;
           own = s .sized .own;
           some-threads = s .sized .some-threads;
           some-locations = s .sized .some-locations;

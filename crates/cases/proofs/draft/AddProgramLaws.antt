@@ -14,6 +14,7 @@ use Rattle.cases.specs.declared.record.Header.{Header}
 use Rattle.cases.specs.declared.record.Record.the-variants.{Declare, First, Instruct}
 use Rattle.cases.specs.Sizes.{mostInstructions}
 use Rattle.cases.specs.Checks.{misplaced, disordered, countAt, faultOf, instructionOut, instructionLeft}
+use Rattle.cases.specs.Checks.{unset}
 use Rattle.cases.specs.Draft.{addOf, withProgram, withFirst, withInstruction}
 use Rattle.cases.specs.Seats.{fromFirsts, fromCode, listedLines, headerSeat, firstSeat}
 use Rattle.cases.specs.Seats.{instructionSeat}
@@ -22,6 +23,7 @@ use Rattle.cases.proofs.ChoiceLaws.{refuse-none}
 use Rattle.cases.proofs.seats.SeatLaws.{seat-first, seat-code, seat-same}
 use Rattle.cases.proofs.draft.WithLaws.{first-same, first-other, instruction-same, instruction-other}
 use Rattle.cases.proofs.draft.CountLaws.{count-more, count-few, count-front}
+use Rattle.cases.proofs.draft.RegistersLaws.{registers-same, registers-instruction}
 use Rattle.cases.proofs.draft.RecordFitLaws.{RecordFits}
 use Rattle.cases.proofs.draft.DraftLaws.{rank-rises, seated-kind, draft-in-turn, first-seated}
 use Rattle.cases.proofs.draft.DraftLaws.{instruction-seated, draft-ordered}
@@ -69,6 +71,7 @@ module _ (d : Draft) (front : ℕ) (s : Sound d front) where
             few-instructions = sized .few-instructions;
           };
           on-lines = s .sized .on-lines;
+          registers = registers-same program _ refl refl (s .sized .registers);
           own = s .sized .own;
           some-threads = s .sized .some-threads;
           some-locations = s .sized .some-locations;
@@ -92,9 +95,12 @@ module _ (d : Draft) (front : ℕ) (s : Sound d front) where
       let in-range = refuse-none (instructionOut program t x) 4 _ (refuse-none _ 3 _ h .1) in
       let clean = refuse-none (instructionLeft x) 7 _ (in-range .1) in
       let in-order = refuse-none (disordered d 3 (t .0)) 5 _ (clean .1) in
+      let set = refuse-none (unset program t x) 9 _ (refuse-none _ 6 _ (in-order .1) .1) in
       let seated = instruction-seated d (sized .few-threads) (sized .few-locations) t x h in
       let low : t .0 < length (program .counts) = omega (arith, seated .0, sized .counts-long) in
       let few : countAt program (t .0) < mostInstructions = seated .1 in
+      let room : t .0 * mostInstructions + countAt program (t .0) < length (program .code)
+      = omega (arith, seated .0, sized .code-long) in
       added d front s (Instruct t x) (fromCode + (t .0 * mostInstructions + countAt program (t .0)))
       (record {
         reached =
@@ -102,7 +108,7 @@ module _ (d : Draft) (front : ℕ) (s : Sound d front) where
         inside = omega (arith, seated .0);
         here =
             seat-code _ _ (t .0 * mostInstructions + countAt program (t .0)) refl (omega (arith, seated .0))
-            ∙ instruction-same program t x low (omega (arith, seated .0, sized .code-long)) few;
+            ∙ instruction-same program t x low room few;
         other = λ j n. seat-same (addOf d (Instruct t x) .case) (d .case) j (λ z. refl) (λ l z. refl)
             (λ m z. instruction-other program t x m low (λ q. n (omega arith)))
             (λ l z. refl) (λ u z. refl) (λ i z. refl);
@@ -120,6 +126,8 @@ module _ (d : Draft) (front : ℕ) (s : Sound d front) where
             few-instructions = count-few program t low few (sized .few-instructions);
           };
           on-lines = s .sized .on-lines;
+          registers =
+              registers-instruction program t x low room few (sized .few-instructions) (s .sized .registers) (set .0);
           own = s .sized .own;
           some-threads = s .sized .some-threads;
           some-locations = s .sized .some-locations;

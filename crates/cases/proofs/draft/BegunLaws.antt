@@ -20,7 +20,7 @@ use Rattle.cases.specs.Draft.{emptyCase, blankDraft, addOf, withHeader, 
 use Rattle.cases.specs.Seats.{listedLines, headerSeat, firstSeat, instructionSeat}
 use Rattle.cases.specs.Seats.{wantSeat, passedSeat, stepSeat}
 use Rattle.cases.specs.Seats.{seats, seatOf, seatBytes, bytesAt, encodeOf}
-use Rattle.cases.specs.Ranges.{HasOwnLines}
+use Rattle.cases.specs.Ranges.{HasOwnLines, RegistersSet}
 use Rattle.cases.proofs.ChoiceLaws.{refuse-none}
 use Rattle.cases.proofs.ArrayLaws.{getD-blank}
 use Rattle.cases.proofs.seats.EachLaws.{each-more, each-none}
@@ -100,7 +100,7 @@ module _ (h : Header) (fit : Opening h) where
 
   -- the draft is sound, and the next record comes behind seat 0
   pub begun-sound : Sound begun 1
-  unfolding addOf withHeader withSizes blankDraft emptyCase HasOwnLines
+  unfolding addOf withHeader withSizes blankDraft emptyCase HasOwnLines RegistersSet
   begun-sound =
       let low = header-low h (fit .out) in
       record {
@@ -116,6 +116,7 @@ module _ (h : Header) (fit : Opening h) where
             few-instructions = λ u. omega (arith, getD-blank {A = ℕ} mostThreads u 0);
           };
           on-lines = header-on-lines h fit;
+          registers = λ u i k. absurd (omega (arith, getD-blank {A = ℕ} mostThreads u 0));
           own = header-own h;
           some-threads = low .0;
           some-locations = low .2;

@@ -20,12 +20,12 @@ module _ (p : Program) (t : Thread) (low : t .0 < length (p .counts)) where
   counted u = getD (set (p .counts) (t .0) (countAt p (t .0) + 1)) u 0
 
   -- thread u is t, with one more; or another, with as many
-  abbrev CountedAs : ℕ → Type 0
+  abbrev pub CountedAs : ℕ → Type 0
   CountedAs u =
       ((u ≡ t .0) × (counted u ≡ countAt p (t .0) + 1))
       ⊎ ((u ≢ t .0) × (counted u ≡ getD (p .counts) u 0))
 
-  count-cases : (u : ℕ) → CountedAs u
+  pub count-cases : (u : ℕ) → CountedAs u
   count-cases u = go (eqb u (t .0)) refl
     where
       go : (b : Bool) → eqb u (t .0) ≡ b → CountedAs u

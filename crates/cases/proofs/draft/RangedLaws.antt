@@ -4,7 +4,7 @@ use mathlib.Core.Path.{_≡_, refl, _∙_}
 use mathlib.Core.Logic.{_≢_}
 use mathlib.Core.List.{List}
 use mathlib.Core.Bool.{Bool, true, false}
-use lib.ListN.{length, getD, List·getD-eq-default}
+use lib.ListN.{length, getD}
 use lib.Dec.{eqb, leb, ltb}
 use borrow.Author.Tests.{leb-false, ltb-false, ltb-true, lt-leb, eqb-true, eqb-false}
 use native.Mathlib.Omega.{arith}
@@ -21,18 +21,11 @@ use Rattle.cases.specs.Draft.{noStep}
 use Rattle.cases.specs.Seats.{fromCode, fromWants, fromPassed, fromSteps, instructionSeat, wantSeat}
 use Rattle.cases.specs.Seats.{passedSeat, stepSeat, seatOf}
 use Rattle.cases.specs.Ranges.{InstructionFits, ProgramFits, Ranged}
+use Rattle.cases.proofs.ArrayLaws.{within}
 use Rattle.cases.proofs.ChoiceLaws.{never-both, either-false, pick-true, pick-false}
 use Rattle.cases.proofs.seats.SeatLaws.{seat-code, seat-want, seat-passed, seat-step}
 use Rattle.cases.proofs.draft.RecordFitLaws.{RecordFits, SeatFits, instruction-fits}
 use Rattle.cases.proofs.draft.SoundLaws.{Sound}
-
--- an index where something stands is within its list
-within : {A : Type 0} (l : List A) (i : ℕ) (blank : A) → getD l i blank ≢ blank → i < length l
-within l i blank h = go (ltb i (length l)) refl
-  where
-    go : (b : Bool) → ltb i (length l) ≡ b → i < length l
-    go true e = ltb-true i (length l) e
-    go false e = absurd (h (List·getD-eq-default l blank (ltb-false i (length l) e)))
 
 -- A sound draft
 module _ (d : Draft) (front : ℕ) (s : Sound d front) where
@@ -107,6 +100,7 @@ module _ (d : Draft) (front : ℕ) (s : Sound d front) where
           lines = s .sized .on-lines;
           instructions = instruction-ranged;
         };
+        registers = s .sized .registers;
         ask = s .sized .of-ask;
         run = s .sized .of-run;
         own-lines = s .sized .own;

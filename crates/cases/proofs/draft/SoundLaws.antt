@@ -21,14 +21,16 @@ use Rattle.cases.specs.Checks.{kindRank}
 use Rattle.cases.specs.Draft.{addOf}
 use Rattle.cases.specs.Seats.{fromFirsts, fromCode, fromWants, fromPassed, fromSteps, seats, seatOf}
 use Rattle.cases.specs.Seats.{seatBytes, bytesAt, encodeOf}
-use Rattle.cases.specs.Ranges.{HasOwnLines, ProgramSized, AskSized, RunSized}
+use Rattle.cases.specs.Ranges.{HasOwnLines, ProgramSized, RegistersSet, AskSized, RunSized}
 use Rattle.cases.proofs.seats.EachLaws.{each-more}
 use Rattle.cases.proofs.draft.RecordFitLaws.{RecordFits, SeatFits, Grown, record-grown, seat-grown}
 
--- how long the arrays are, how much they hold at least and at most, and that the locations lie on the lines
+-- how long the arrays are, how much they hold at least and at most, that the locations lie on the lines, and that
+-- the registers that are needed are set
 pub record SoundSized (c : Case) : Type 0 where
   pub of-program : ProgramSized (c .program)
   pub on-lines : (l : ℕ) → l < mostLocations → getD (c .program .line) l 0 < c .program .lines
+  pub registers : RegistersSet (c .program)
   pub own : c .version ≡ ownVersion → HasOwnLines (c .program)
   pub some-threads : 1 ≤ c .program .threads
   pub some-locations : 1 ≤ c .program .locations

@@ -36,11 +36,11 @@ use Rattle.cases.proofs.reader.ReadLaws.{asRecord, behind, read-cases}
 use Rattle.cases.proofs.draft.BegunLaws.{blank-first, begun-longer, begun-sound}
 
 -- the numbers are those of the table
-open-most : (t : List ℕ) → openNo t ≤ 9
+open-most : (t : List ℕ) → openNo t ≤ 10
 unfolding openNo
 open-most t = search (refuse-most, needs) depth 12
 
-fault-most : (d : Draft) (r : Record) → faultOf d r ≤ 9
+fault-most : (d : Draft) (r : Record) → faultOf d r ≤ 10
 unfolding faultOf
 fault-most d (Declare h) = search (refuse-most, needs) depth 12
 fault-most d (First w) = search (refuse-most, needs) depth 12
@@ -53,13 +53,13 @@ pub record RoundTripTold (done t : List ℕ) (r : Reading) : Type 0 where
   pub within : offsetOf (r .answer) ≤ length done + length t
   pub early : offsetOf (r .answer) ≤ longest
   pub ends : numberOf (r .answer) ≡ 0 → r .answer ≡ Whole (length done + length t)
-  pub table : numberOf (r .answer) ≤ 9
+  pub table : numberOf (r .answer) ≤ 10
   pub hands : numberOf (r .answer) ≢ 0 → r .case ≡ emptyCase
   pub sound : numberOf (r .answer) ≡ 0 → (d : Draft) × (front : ℕ) × Sound d front × (r .case ≡ d .case)
   pub back : IsBytes t → numberOf (r .answer) ≡ 0 → encodeOf (r .case) ≡ done ++ t
 
 -- a refusal at the start of t
-told-refused : (done t : List ℕ) (m : ℕ) → length done ≤ longest → suc m ≤ 9
+told-refused : (done t : List ℕ) (m : ℕ) → length done ≤ longest → suc m ≤ 10
     → RoundTripTold done t (refusedOf (suc m) (length done))
 unfolding refusedOf
 told-refused done t m low most =

@@ -32,9 +32,9 @@ use Rattle.search.specs.declared.ask.Outcome.the-variants.{Refused}
 use Rattle.search.specs.Question.{Decided, reached, unreachable, undecided, toldOf, outcomeNo, askOf, short}
 use Rattle.search.specs.Question.{reaches, answerFor, questionOf}
 
--- a verdict's number: 103, 21 to 29, or 1 to 9
+-- a verdict's number: 103, 21 to 29, or 1 to 10
 unfoldable Told : ℕ → Type 0
-Told n = (n ≡ 103) ⊎ ((21 ≤ n) × (n ≤ 29)) ⊎ ((1 ≤ n) × (n ≤ 9))
+Told n = (n ≡ 103) ⊎ ((21 ≤ n) × (n ≤ 29)) ⊎ ((1 ≤ n) × (n ≤ 10))
 
 case-table : (c : Case) → readsBack c ≡ true → Told (verdictNo (judgeOf c .verdict))
 unfolding Told
@@ -59,13 +59,13 @@ case-table c readable = go (legal-or-not c readable)
         (ruled (x .0) u (x .2) r refl (rule-in-table (c .program) u (getD (runOf c) (x .0) noStep)))
 
 refused-table : (s : List ℕ) → numberOf (readOf s .answer) ≢ 0
-    → (1 ≤ numberOf (readOf s .answer)) × (numberOf (readOf s .answer) ≤ 9)
+    → (1 ≤ numberOf (readOf s .answer)) × (numberOf (readOf s .answer) ≤ 10)
 refused-table s h = (omega arith, number-in-table s)
 
 pub judge-table : (s : List ℕ) → IsBytes s
     → (verdictNo (judgeBytes s .verdict) ≡ 103)
     ⊎ ((21 ≤ verdictNo (judgeBytes s .verdict)) × (verdictNo (judgeBytes s .verdict) ≤ 29))
-    ⊎ ((1 ≤ verdictNo (judgeBytes s .verdict)) × (verdictNo (judgeBytes s .verdict) ≤ 9))
+    ⊎ ((1 ≤ verdictNo (judgeBytes s .verdict)) × (verdictNo (judgeBytes s .verdict) ≤ 10))
 unfolding Told stopped judged
 judge-table s bytes = go (eq-zero-or-pos (numberOf (readOf s .answer)))
   where
@@ -79,10 +79,10 @@ judge-table s bytes = go (eq-zero-or-pos (numberOf (readOf s .answer)))
         subst (λ (j : Judged). Told (verdictNo (j .verdict))) (sym (judge-refused s n))
         (inr (inr (refused-table s n)))
 
--- the question's: 100 to 102, 31, or 1 to 9
+-- the question's: 100 to 102, 31, or 1 to 10
 unfoldable Answered : Outcome → Type 0
 Answered o =
-    ((100 ≤ outcomeNo o) × (outcomeNo o ≤ 102)) ⊎ (outcomeNo o ≡ 31) ⊎ ((1 ≤ outcomeNo o) × (outcomeNo o ≤ 9))
+    ((100 ≤ outcomeNo o) × (outcomeNo o ≤ 102)) ⊎ (outcomeNo o ≡ 31) ⊎ ((1 ≤ outcomeNo o) × (outcomeNo o ≤ 10))
 
 decided-table : (d : Decided Step) → Answered (toldOf d)
 unfolding Answered toldOf
@@ -93,7 +93,7 @@ decided-table undecided = inl (omega arith, omega arith)
 pub question-table : (s : List ℕ) (room b : ℕ)
     → ((100 ≤ outcomeNo (questionOf s room b)) × (outcomeNo (questionOf s room b) ≤ 102))
     ⊎ (outcomeNo (questionOf s room b) ≡ 31)
-    ⊎ ((1 ≤ outcomeNo (questionOf s room b)) × (outcomeNo (questionOf s room b) ≤ 9))
+    ⊎ ((1 ≤ outcomeNo (questionOf s room b)) × (outcomeNo (questionOf s room b) ≤ 10))
 unfolding Answered questionOf answerFor
 question-table s room b =
     pick-cases Answered _ _ _

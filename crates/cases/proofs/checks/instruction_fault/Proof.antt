@@ -2,6 +2,7 @@
 use Rattle.cases.specs.Checks.{faultOf}
 use Rattle.cases.proofs.ChoiceLaws.{choices}
 use borrow.Author.Needs.{needs}
+use native.Mathlib.Omega.{arith}
 use Rattle.cases.proofs.checks.instruction_fault.Statement.{statement}
 use Rattle.cases.proofs.checks.instruction_fault.Tie as tie
 
@@ -43,9 +44,16 @@ returns-5 : tie.Need-returns-5
 unfolding faultOf
 returns-5 c = rw (← c .before .count .ensures) (search choices)
 
+is-unset-requires : tie.Need-is-unset-requires
+is-unset-requires c κs = omega (arith, c .before .count .ensures)
+
 returns-6 : tie.Need-returns-6
 unfolding faultOf
-returns-6 c = rw (← c .before .count .ensures) (search choices)
+returns-6 c = rw (← c .before .before .before .count .ensures) (search choices depth 9)
+
+returns-7 : tie.Need-returns-7
+unfolding faultOf
+returns-7 c = rw (← c .before .before .before .count .ensures) (search choices depth 9)
 
 pub instruction-fault-spec : {M : Type 1} → statement M
 instruction-fault-spec =
@@ -62,4 +70,6 @@ instruction-fault-spec =
     cast-if5
     count-requires
     returns-5
-    returns-6)
+    is-unset-requires
+    returns-6
+    returns-7)
