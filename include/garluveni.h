@@ -52,6 +52,7 @@ enum garluveni_answers {
     GARLUVENI_INSTRUCTION = 7, /* ninth instruction of a thread */
     GARLUVENI_UNUSED = 8,      /* unused field not 0; a first content of 0; a passed count of 0; lines out of order */
     GARLUVENI_STEP = 9,        /* ninety-seventh step record */
+    GARLUVENI_REGISTER = 10,   /* a register is stored or compared that nothing before it in its thread sets */
 
     /* Rules of the machine, from the judge; the place is the index of the first illegal step, from 0. */
     GARLUVENI_NONE_LEFT = 21,         /* issue: the thread has no instruction left */
@@ -82,7 +83,7 @@ enum garluveni_blockers {
 };
 
 /*
- * Judges the run of the case in 'bytes'. The answer is 1 to 9, 21 to 29, or GARLUVENI_LEGAL.
+ * Judges the run of the case in 'bytes'. The answer is 1 to 10, 21 to 29, or GARLUVENI_LEGAL.
  */
 uint32_t garluveni_judge(const uint8_t *bytes, size_t bytes_len);
 
@@ -96,7 +97,7 @@ uint32_t garluveni_blocker(const uint8_t *bytes, size_t bytes_len);
 
 /*
  * Asks the question of the case in 'bytes'; the budget, any number, is how many runs of the walk are looked at.
- * The answer is 1 to 9, else GARLUVENI_SHORT, else GARLUVENI_REACHED, GARLUVENI_UNREACHABLE or
+ * The answer is 1 to 10, else GARLUVENI_SHORT, else GARLUVENI_REACHED, GARLUVENI_UNREACHABLE or
  * GARLUVENI_UNDECIDED. GARLUVENI_REACHED stores the walk's first such run from the front of 'steps',
  * GARLUVENI_STEP_BYTES a step, and touches nothing behind; every other answer stores nothing. Steps of the case
  * itself are not looked at.

@@ -34,6 +34,8 @@ pub enum What {
     FirstZero,
     PassedZero,
     PassedMore(usize, usize),
+    /// What is done to the register, its number, the thread.
+    Unset(&'static str, u8, usize),
 }
 
 #[derive(Clone, Copy, Debug, PartialEq, Eq)]
@@ -112,6 +114,10 @@ impl What {
             What::NoSuchLine(name, last) => write!(
                 out,
                 "there is no cache line {name}: the last is number {last}"
+            ),
+            What::Unset(done, register, thread) => write!(
+                out,
+                "register r{register} is {done} here, and no instruction of thread {thread} before it sets it"
             ),
             What::Outside("run") => write!(out, "expected 'run' before a step"),
             What::Outside(_) => write!(out, "expected 'thread' before an instruction"),

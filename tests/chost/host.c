@@ -65,6 +65,12 @@ static void instruction(struct file *file, uint8_t thread, uint8_t operation, ui
     ADD(file, 8, 0, 3, 0, thread, operation, location, 0, word, 0, 0, 0);
 }
 
+/* Of a register that is named; the word is 0. */
+static void with_register(struct file *file, uint8_t thread, uint8_t operation, uint8_t location, uint8_t number)
+{
+    ADD(file, 8, 0, 3, 0, thread, operation, location, number, 0, 0, 0, 0);
+}
+
 static void first_content(struct file *file, uint8_t location, uint8_t word)
 {
     ADD(file, 5, 0, 2, 0, location, word, 0, 0, 0);
@@ -243,6 +249,68 @@ static void reading_refusals(void)
     program(&f, 1, 1);
     repeat(&f, "I0", 97);
     REFUSED(&f, GARLUVENI_STEP, 776);
+}
+
+/* A store of the register and a compare need one that an earlier load, exchange or compare of the same thread sets. */
+static void register_refusals(uint8_t operation)
+{
+    program(&f, 1, 1);
+    with_register(&f, 0, operation, X, 0);
+    REFUSED(&f, GARLUVENI_REGISTER, 8);
+    CHECK(garluveni_judge(f.bytes, f.length) == 10 + 256 * 8);
+    /* another thread sets it, or its own behind, and its own sets others before */
+    program(&f, 2, 2);
+    first_content(&f, X, 7);
+    with_register(&f, 0, LOAD, X, 2);
+    with_register(&f, 1, EXCHANGE, X, 1);
+    with_register(&f, 1, LOAD, X, 3);
+    with_register(&f, 1, operation, Y, 2);
+    with_register(&f, 1, LOAD, X, 2);
+    want(&f, X, 0);
+    passed(&f, 0, 1);
+    run(&f, "P0");
+    REFUSED(&f, GARLUVENI_REGISTER, 53);
+    /* the first of several, and not a fault of a later record */
+    program(&f, 1, 1);
+    with_register(&f, 0, operation, X, 0);
+    with_register(&f, 0, operation, X, 1);
+    ADD(&f, 0, 0, 7, 0);
+    REFUSED(&f, GARLUVENI_REGISTER, 8);
+    /* of an eighth instruction; a ninth is one too many */
+    program(&f, 4, 1);
+    for (int i = 0; i < 7; i++)
+        instruction(&f, 3, SFENCE, 0, 0);
+    with_register(&f, 3, operation, X, 3);
+    REFUSED(&f, GARLUVENI_REGISTER, 92);
+    program(&f, 4, 1);
+    for (int i = 0; i < 8; i++)
+        instruction(&f, 3, SFENCE, 0, 0);
+    with_register(&f, 3, operation, X, 3);
+    REFUSED(&f, GARLUVENI_INSTRUCTION, 104);
+}
+
+/* What a load or an exchange sets may be compared and stored; 5, 8 and 6 of the same record come before 10. */
+static void registers_set(void)
+{
+    static const uint8_t sets[] = {LOAD, EXCHANGE};
+    for (size_t i = 0; i < sizeof sets; i++) {
+        program(&f, 1, 2);
+        with_register(&f, 0, sets[i], X, 3);
+        with_register(&f, 0, COMPARE, X, 3);
+        with_register(&f, 0, STORE_REGISTER, Y, 3);
+        JUDGES(&f, GARLUVENI_LEGAL, 0);
+        ASKS(&f, 56, 1, GARLUVENI_REACHED, &none);
+    }
+    program(&f, 1, 1);
+    instruction(&f, 0, STORE_REGISTER, Y, 0);
+    REFUSED(&f, GARLUVENI_RANGE, 8);
+    program(&f, 1, 1);
+    instruction(&f, 0, STORE_REGISTER, X, 5);
+    REFUSED(&f, GARLUVENI_UNUSED, 8);
+    program(&f, 2, 1);
+    instruction(&f, 1, SFENCE, 0, 0);
+    instruction(&f, 0, COMPARE, X, 5);
+    REFUSED(&f, GARLUVENI_RISING, 20);
 }
 
 static void issue_rules(void)
@@ -588,6 +656,9 @@ static void thousand_calls(void)
 int main(void)
 {
     reading_refusals();
+    register_refusals(STORE_REGISTER);
+    register_refusals(COMPARE);
+    registers_set();
     issue_rules();
     move_rules();
     blockers();

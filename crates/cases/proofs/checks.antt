@@ -1,3 +1,3 @@
 -- What may be wrong with a record (specs/Checks): the registers that a thread's instructions set.
--- set: setBefore and unset
+-- set, SetSoFar: setBefore and unset
 pub mod SetLaws

@@ -1,7 +1,7 @@
 -- A record more (specs/Draft, Checks), and what holds of a draft after each.
 -- first, instruction, want, passed, step: a part of the case with one more, same and other
 pub mod WithLaws
--- count, counted: the counts of instructions; Behind
+-- count, counted, CountedAs: the counts of instructions; Behind
 pub mod CountLaws
 -- header, Opening: the record of the program, and its lines
 pub mod HeaderLaws

@@ -6,6 +6,8 @@ pub mod DemandThree
 pub mod Lines
 pub mod Blocker
 pub mod Rivals
+pub mod Sources
+pub mod Copies
 -- That what they ask for can be met, and that no wrong implementation which document 01 names meets them
 pub mod Witness
 pub mod ShutOut
@@ -16,3 +18,4 @@ mod entered
 mod fixed
 mod ends
 mod turns
+mod sourced

@@ -2,10 +2,14 @@
 -- and then 1 to location 1, thread 1 stores 7 to location 0; nobody writes location 2. Each location has a line
 -- of its own. It asks for nothing and has no steps.
 --   caseOf         a case by its program and its run; threadOf, idle: of its code
---   storing, loading, comparing, fencing   instructions
+--   storing, storingRegister, loading, comparing, fencing   instructions
 --   example        the case
 --   blocked        a case whose run stops at an mfence, with a store in its way
 --   rivals         two threads that would take location 0 by compare and swap
+--   copied         a thread that stores 7 to location 0, loads it and stores that to location 1; copiedFront,
+--                  copiedRun: a run up to that second store, and one in which it persists
+--   careless       a case in memory that P8 refuses: a store of a register that nothing sets, to a location that
+--                  holds 5 at first; carelessRun: a run in which it persists
 --   threadless     a case in memory that no byte string reads as: it has no thread
 --   stepFirst      bytes whose first record is a step
 --   programFirst   bytes whose first record is a program
@@ -14,14 +18,15 @@ use Prim.Native.Nat.{ℕ, _-_, _*_}
 use mathlib.Core.List.{List, [], _∷_, _++_}
 use lib.ListN.{length, replicate}
 use Rattle.cases.specs.declared.case.Instruction.{Instruction}
+use Rattle.cases.specs.declared.case.Step.{Step}
 use Rattle.cases.specs.declared.case.Run.{Run}
 use Rattle.cases.specs.declared.case.Case.{Case}
 use Rattle.cases.specs.Sizes.{mostThreads, mostInstructions, mostLocations}
-use Rattle.cases.specs.Operations.{storeWord, load, mfence, compare}
+use Rattle.cases.specs.Operations.{storeWord, storeRegister, load, mfence, compare}
 use Rattle.cases.specs.Lines.{ownVersion, ownLines}
 use Rattle.cases.specs.Checks.{noInstruction}
-use Rattle.cases.specs.Draft.{emptyCase, runWith}
-use Rattle.machine.specs.Next.{issueStep}
+use Rattle.cases.specs.Draft.{emptyCase, runWith, withProgram, withFirst}
+use Rattle.machine.specs.Next.{issueStep, moveStep, persistStep}
 
 -- a case of version 1: n threads with so many instructions each, m locations, the code, and the run; it asks for
 -- nothing
@@ -50,10 +55,15 @@ threadOf xs = xs ++ replicate (mostInstructions - length xs) noInstruction
 abbrev idle : ℕ → List Instruction
 idle n = replicate (n * mostInstructions) noInstruction
 
--- store word w to location l; load location l into register 0; compare it with register 0, word w; mfence
+-- store word w to location l; store register 0 there; load location l into register 0; compare it with register 0,
+-- word w; mfence
 abbrev pub storing : ℕ → ℕ → Instruction
 storing l w =
     record { operation = storeWord; location = record { 0 = l }; register = record { 0 = 0 }; word = w }
+
+abbrev storingRegister : ℕ → Instruction
+storingRegister l =
+    record { operation = storeRegister; location = record { 0 = l }; register = record { 0 = 0 }; word = 0 }
 
 abbrev loading : ℕ → Instruction
 loading l = record { operation = load; location = record { 0 = l }; register = record { 0 = 0 }; word = 0 }
@@ -82,6 +92,26 @@ rivals =
     caseOf 2 2 (2 ∷ 2 ∷ [])
     (threadOf (loading 1 ∷ comparing 0 1 ∷ []) ++ threadOf (loading 1 ∷ comparing 0 2 ∷ []) ++ idle 2)
     (emptyCase .run)
+
+unfoldable pub copied : Case
+copied =
+    caseOf 1 2 (3 ∷ []) (threadOf (storing 0 7 ∷ loading 0 ∷ storingRegister 1 ∷ []) ++ idle 3) (emptyCase .run)
+
+abbrev pub copiedFront : List Step
+copiedFront = issueStep 0 ∷ issueStep 0 ∷ []
+
+abbrev pub copiedRun : List Step
+copiedRun = issueStep 0 ∷ issueStep 0 ∷ issueStep 0 ∷ moveStep 0 0 ∷ moveStep 0 0 ∷ persistStep 1 ∷ []
+
+-- without its first content
+abbrev slip : Case
+slip = caseOf 1 1 (1 ∷ []) (threadOf (storingRegister 0 ∷ []) ++ idle 3) (emptyCase .run)
+
+unfoldable pub careless : Case
+careless = withProgram slip (withFirst (slip .program) (record { location = record { 0 = 0 }; word = 5 }))
+
+abbrev pub carelessRun : List Step
+carelessRun = issueStep 0 ∷ moveStep 0 0 ∷ persistStep 0 ∷ []
 
 unfoldable pub threadless : Case
 threadless = caseOf 0 1 [] (idle 4) (emptyCase .run)

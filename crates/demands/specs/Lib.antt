@@ -2,6 +2,7 @@
 pub mod Order
 pub mod Writes
 pub mod Entered
+pub mod Sources
 pub mod Twins
 pub mod Carried
 pub mod Example

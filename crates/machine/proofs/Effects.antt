@@ -1,6 +1,6 @@
--- What each step does to each part of the state, registers aside, with buffers and queues seen as lists, and to
--- the words on their way to each location, whichever queue they go through: beside Promises, all that the
--- layers above may cite of the machine. Each law is stated in full. Assumes nothing.
+-- What each step does to each part of the state, with buffers and queues seen as lists, and to the words on their
+-- way to each location, whichever queue they go through: beside Promises, all that the layers above may cite of
+-- the machine. Each law is stated in full. Assumes nothing.
 use Prim.Native.Nat.{ℕ, suc, _<_}
 use mathlib.Core.Path.{_≡_}
 use mathlib.Core.Logic.{_⊎_, _≢_}
@@ -8,16 +8,18 @@ use mathlib.Core.Bool.{true}
 use mathlib.Core.List.{List, [], _∷_, _++_}
 use lib.ListN.{length, getD}
 use Rattle.cases.specs.declared.case.Location.{Location}
+use Rattle.cases.specs.declared.case.Instruction.{Instruction}
 use Rattle.cases.specs.declared.case.Step.{Step}
 use Rattle.cases.specs.declared.case.Program.{Program}
-use Rattle.cases.specs.Sizes.{mostThreads, mostLocations}
-use Rattle.cases.specs.Checks.{limitsOf, linesOf, stepFault, countAt, instructionAt}
+use Rattle.cases.specs.Choice.{pick}
+use Rattle.cases.specs.Sizes.{mostThreads, mostLocations, mostRegisters}
+use Rattle.cases.specs.Checks.{limitsOf, linesOf, stepFault, countAt, instructionAt, setBy}
 use Rattle.machine.specs.declared.cells.State.{State}
 use Rattle.machine.specs.declared.cells.Entry.the-variants.{FlushOpt}
-use Rattle.machine.specs.View.{Slot, without, queue, buffer, wordOf, issuedOf}
+use Rattle.machine.specs.View.{Slot, without, queue, buffer, wordOf, registerIn, issuedOf}
 use Rattle.machine.specs.Rules.{isBarrier, entryAt, ruleOf, nextOf, startOf}
-use Rattle.machine.specs.Joins.{joins, exchanges, enters, storeOf, swapOf, onWay, lastOr}
-use Rattle.machine.specs.Fit.{Fits}
+use Rattle.machine.specs.Joins.{joins, exchanges, enters, takenBy, storeOf, swapOf, onWay, lastOr}
+use Rattle.machine.specs.Fit.{AllOf, Fits}
 use Rattle.machine.specs.Next.{issueStep, moveStep, persistStep}
 use Rattle.machine.proofs.steps.StepFaultLaws as StepFaultLaws
 use Rattle.machine.proofs.fit.StartLaws as StartLaws
@@ -25,6 +27,7 @@ use Rattle.machine.proofs.steps.IssueEffectLaws as IssueEffectLaws
 use Rattle.machine.proofs.steps.MoveEffectLaws as MoveEffectLaws
 use Rattle.machine.proofs.steps.PersistEffectLaws as PersistEffectLaws
 use Rattle.machine.proofs.steps.WordEffectLaws as WordEffectLaws
+use Rattle.machine.proofs.steps.RegisterEffectLaws as RegisterEffectLaws
 
 -- a step that passes the checks 5 and 8 is an issue, a move or a persist
 pub step-kinds : (p : Program) (k : Step) → stepFault (limitsOf p) k ≡ 0
@@ -49,6 +52,15 @@ module _ (p : Program) where
 
   pub start-words : (l : ℕ) → onWay p (startOf p) l ≡ []
   start-words = WordEffectLaws.start-words p
+
+-- The word that a register takes is the persistent one, one on its way there, or one that waits in the thread's
+-- buffer: what holds of all these holds of it.
+pub taken-holds : (P : ℕ → Type 0) (p : Program) (s : State) (t : ℕ) (x : Instruction)
+    → P (wordOf s (x .location .0))
+    → AllOf P (onWay p s (x .location .0))
+    → ((i : ℕ) → i < length (buffer s t) → AllOf P (storeOf (x .location .0) (entryAt (buffer s t) i)))
+    → P (takenBy p s t x)
+taken-holds = RegisterEffectLaws.taken-holds
 
 -- A state that fits its program
 module _ (p : Program) (s : State) (fit : Fits p s) where
@@ -81,6 +93,16 @@ module _ (p : Program) (s : State) (fit : Fits p s) where
     pub issue-words : (l : ℕ) → l < p .locations
         → onWay p (nextOf p s (issueStep t)) l ≡ onWay p s l ++ swapOf p s t l (instructionAt p t (issuedOf s t))
     issue-words = WordEffectLaws.issue-words p s fit t low legal
+
+    pub issue-register : (r : ℕ) → r < mostRegisters
+        → registerIn (nextOf p s (issueStep t) .registers) t r
+        ≡ pick (setBy r (instructionAt p t (issuedOf s t))) (takenBy p s t (instructionAt p t (issuedOf s t)))
+        (registerIn (s .registers) t r)
+    issue-register = RegisterEffectLaws.issue-register p s fit t low legal
+
+    pub issue-register-other : (k r : ℕ) → k ≢ t → r < mostRegisters
+        → registerIn (nextOf p s (issueStep t) .registers) k r ≡ registerIn (s .registers) k r
+    issue-register-other = RegisterEffectLaws.issue-register-other p s fit t low legal
 
     -- "Exchange and mfence need the own buffer empty (else 22)", and a compare, whether it succeeds or fails
     pub barrier-alone : isBarrier (instructionAt p t (issuedOf s t) .operation) ≡ true → buffer s t ≡ []
@@ -116,6 +138,9 @@ module _ (p : Program) (s : State) (fit : Fits p s) where
         → onWay p (nextOf p s (moveStep t i)) l ≡ onWay p s l ++ storeOf l (entryAt (buffer s t) i)
     move-words = WordEffectLaws.move-words p s fit t i low legal
 
+    pub move-registers : nextOf p s (moveStep t i) .registers ≡ s .registers
+    move-registers = RegisterEffectLaws.move-registers p s t i
+
   -- what a persist does to each part
   module _ (q : ℕ) (low : q < linesOf p) (legal : ruleOf p s (persistStep q) ≡ 0) where
     pub persist-issued : (k : ℕ) → issuedOf (nextOf p s (persistStep q)) k ≡ issuedOf s k
@@ -135,3 +160,6 @@ module _ (p : Program) (s : State) (fit : Fits p s) where
         → (out : List ℕ) × (onWay p s l ≡ out ++ onWay p (nextOf p s (persistStep q)) l)
         × (wordOf (nextOf p s (persistStep q)) l ≡ lastOr out (wordOf s l))
     persist-words = WordEffectLaws.persist-words p s fit q low legal
+
+    pub persist-registers : nextOf p s (persistStep q) .registers ≡ s .registers
+    persist-registers = RegisterEffectLaws.persist-registers p s q

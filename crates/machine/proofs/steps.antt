@@ -17,5 +17,7 @@ pub mod MoveEffectLaws
 pub mod PersistEffectLaws
 -- start-words, issue-words, move-words, persist-words: words on their way
 pub mod WordEffectLaws
+-- issue-register, move-registers, persist-registers and their like; taken: the word that a register takes
+pub mod RegisterEffectLaws
 -- progress: issue-legal, move-legal, persist-legal, work-some
 pub mod ProgressLaws

@@ -1,9 +1,10 @@
 -- Document 01, "The machine's steps", seen as lists: what a step puts at the end of a store buffer or of a
--- queue.
+-- queue, and into a register.
 --   joins registers t x   what instruction x of thread t puts at the end of its buffer as it is issued
 --   swaps p s t x         it writes at once, in the state s: an exchange, or a compare that succeeds
 --   exchanges p s t q x   what it puts at the end of queue q then
 --   enters p t q e        what the entry e of thread t puts at the end of queue q as it moves
+--   takenBy p s t x       the word that its register takes, where it sets one
 -- And as words on their way to a location, whichever queue they go through:
 --   onlyIf b w            the word w, or none
 --   writesOf l q          the words of the writes of location l in the queue q, oldest first
@@ -25,6 +26,7 @@ use Rattle.machine.specs.declared.cells.Entry.{Entry}
 use Rattle.machine.specs.declared.cells.Entry.the-variants.{Store, Flush, FlushOpt, Sfence}
 use Rattle.machine.specs.declared.cells.State.{State}
 use Rattle.machine.specs.View.{Slot, lineOf, queue, writeSlot, markerSlot}
+use Rattle.machine.specs.Look.{queuedWord, loadOf}
 use Rattle.machine.specs.Rules.{isBarrier, entryOf, matches}
 
 -- "stores, flushes, flush-opts and sfences join the end of the thread's buffer": all but load, exchange,
@@ -48,6 +50,11 @@ enters p t q (Store w) = pick (eqb (lineOf p (w .location .0)) q) (writeSlot (w 
 enters p t q (Flush m) = []
 enters p t q (FlushOpt m) = pick (eqb (lineOf p (m .0)) q) (markerSlot t ∷ []) []
 enters p t q Sfence = []
+
+-- a load what it finds; an exchange and a compare "the word read", from queue or memory
+unfoldable pub takenBy : Program → State → ℕ → Instruction → ℕ
+takenBy p s t x =
+    pick (eqb (x .operation) load) (loadOf p s t (x .location .0)) (queuedWord p s (x .location .0))
 
 unfoldable pub onlyIf : Bool → ℕ → List ℕ
 onlyIf b w = pick b (w ∷ []) []

@@ -72,6 +72,7 @@ fn refusal_of_any(number: u32) -> &'static str {
         7 => "a ninth instruction of a thread",
         8 => "an unused field is not 0, or a first content or a passed count is 0",
         9 => "a ninety-seventh step",
+        10 => "a register is stored or compared, and no instruction of its thread before that sets it",
         33 => "a state does not fit its case: it has what the program lacks, more than there is room for, or a write in another line's queue",
         _ => "a number that this front door has no words for",
     }

@@ -4,6 +4,7 @@ mod hints;
 pub mod layout;
 mod operands;
 pub mod parse;
+mod registers;
 mod sharing;
 mod statements;
 mod words;

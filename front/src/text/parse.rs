@@ -2,6 +2,7 @@
 
 use super::hints;
 use super::operands::{digits, low, number, register, short_step, shown};
+use super::registers::Registers;
 use super::sharing::Sharing;
 use super::statements::{
     instruction_of, known_words, step_of, Operand, Written, INSTRUCTIONS, STEPS,
@@ -31,6 +32,8 @@ struct Parser {
     sharing: Sharing,
     first: BTreeMap<usize, u32>,
     threads: Vec<Vec<Instruction>>,
+    /// Those that the last thread has set.
+    registers: Registers,
     wants: BTreeMap<usize, u32>,
     /// The count and its place.
     passed: BTreeMap<usize, (u32, usize, usize)>,
@@ -74,6 +77,7 @@ impl Parser {
             sharing: Sharing::default(),
             first: BTreeMap::new(),
             threads: Vec::new(),
+            registers: Registers::default(),
             wants: BTreeMap::new(),
             passed: BTreeMap::new(),
             run: Vec::new(),
@@ -232,6 +236,7 @@ impl Parser {
         } else {
             self.seen.insert(("thread", thread), line.number);
             self.threads.push(Vec::new());
+            self.registers = Registers::default();
             self.section = Section::Thread;
         }
     }
@@ -279,22 +284,25 @@ impl Parser {
     fn instruction(&mut self, line: &Line, name: &str, kinds: &[Expected]) {
         let belongs = self.belongs(line, Section::Thread, "thread");
         let Some(found) = self.operands(line, kinds) else {
+            self.registers.doubt();
             return;
         };
         let thread = self.threads.len().saturating_sub(1);
         let Some(code) = self.threads.last_mut().filter(|_| belongs) else {
             return;
         };
+        let instruction = instruction_of(name, &found);
+        let has_room = code.len() < sizes::INSTRUCTIONS;
         if code.len() <= sizes::INSTRUCTIONS {
-            code.push(instruction_of(name, &found));
+            code.push(instruction);
         }
         if code.len() == sizes::INSTRUCTIONS + 1 {
             code.push(Instruction::Sfence);
-            self.wrong(
-                line.number,
-                line.words[0].column,
-                What::MostInstructions(thread),
-            );
+            let what = What::MostInstructions(thread);
+            self.wrong(line.number, line.words[0].column, what);
+        }
+        if let (true, Some(what)) = (has_room, self.registers.pass(&instruction, thread)) {
+            self.absent(line.number, found[1].column, what);
         }
     }
 
@@ -338,6 +346,7 @@ impl Parser {
     }
 
     fn unknown(&mut self, line: &Line, word: &Word) {
+        self.registers.doubt();
         let known: Vec<&str> = known_words().collect();
         let hint = hints::statement(word.text, &known);
         if hint.contains("'locations'") {

@@ -8,6 +8,7 @@ use native.Mathlib.Omega.{arith}
 use native.Mathlib.Decide.{ℕ-discrete}
 use lib.ListN.{length}
 use Rattle.machine.specs.Joins.{lastOr}
+use Rattle.machine.specs.Fit.{AllOf}
 
 pub last-append : (xs ys : List ℕ) (w : ℕ) → lastOr (xs ++ ys) w ≡ lastOr ys (lastOr xs w)
 unfolding lastOr
@@ -18,6 +19,12 @@ pub last-some : (xs : List ℕ) (v w : ℕ) → xs ≢ [] → lastOr xs v ≡ la
 unfolding lastOr
 last-some [] v w h = absurd (h refl)
 last-some (x ∷ xs) v w h = refl
+
+-- what holds of each, and of the word where there is none, holds of the last
+pub last-holds : (P : ℕ → Type 0) (xs : List ℕ) (w : ℕ) → P w → AllOf P xs → P (lastOr xs w)
+unfolding lastOr AllOf
+last-holds P [] w h a = h
+last-holds P (x ∷ xs) w h a = last-holds P xs x (a .0) (a .1)
 
 pub cons-some : {A : Type 0} (x : A) (xs : List A) → (x ∷ xs) ≢ []
 cons-some x xs e = let k : _≡_ {A = ℕ} (suc (length xs)) 0 = ap length e in absurd (omega arith)

@@ -11,7 +11,7 @@ use Rattle.machine.specs.View.{without}
 use Rattle.machine.specs.Fit.{AllOf, anyOf}
 
 module _ {A : Type 0} (P : A → Type 0) where
-  -- of the one at a position; of two lists joined; of what is left without one
+  -- of the one at a position; of two lists joined, and of each of them; of what is left without one
   pub all-get : (xs : List A) (i : ℕ) (d : A) → AllOf P xs → i < length xs → P (getD xs i d)
   unfolding AllOf
   all-get [] i d a h = absurd (omega arith)
@@ -22,6 +22,11 @@ module _ {A : Type 0} (P : A → Type 0) where
   unfolding AllOf
   all-append [] ys a b = b
   all-append (x ∷ xs) ys a b = (a .0, all-append xs ys (a .1) b)
+
+  pub all-apart : (xs ys : List A) → AllOf P (xs ++ ys) → AllOf P xs × AllOf P ys
+  unfolding AllOf
+  all-apart [] ys a = (tt, a)
+  all-apart (x ∷ xs) ys a = let r = all-apart xs ys (a .1) in ((a .0, r .0), r .1)
 
   pub all-without : (xs : List A) (i : ℕ) → AllOf P xs → AllOf P (without i xs)
   unfolding AllOf without
