@@ -1,7 +1,7 @@
-//! The fields that operations and step codes use, and the checks 5 and 8 over them.
+//! The fields that operations and step codes use, and the checks 5, 8 and 10 over them.
 
 use super::case::{Instruction, Step, POSITIONS, REGISTERS};
-use super::refusal::{require, OUT_OF_RANGE, UNUSED_NOT_ZERO};
+use super::refusal::{require, OUT_OF_RANGE, UNSET_REGISTER, UNUSED_NOT_ZERO};
 
 struct InstructionUses {
     location: bool,
@@ -69,6 +69,16 @@ pub fn check_instruction(
     blank(uses.location, instruction.location.into())?;
     blank(uses.register, instruction.register.into())?;
     blank(uses.word, instruction.word)
+}
+
+/// 10, for an instruction behind those of its thread that stand before it. A compare is held against what
+/// its register has before it, which its own reading comes too late for.
+pub fn check_register(before: &[Instruction], instruction: &Instruction) -> Result<(), u8> {
+    let takes = [2, 9].contains(&instruction.operation);
+    let sets = |one: &Instruction| {
+        [3, 4, 9].contains(&one.operation) && one.register == instruction.register
+    };
+    require(!takes || before.iter().any(sets), UNSET_REGISTER)
 }
 
 /// 5, then 8, for a step.

@@ -2,7 +2,7 @@
 
 use super::case::{Case, Instruction, Step};
 use super::case::{MOST_INSTRUCTIONS, MOST_STEPS, OWN_LINES, TOLD_LINES};
-use super::fields::{check_instruction, check_step};
+use super::fields::{check_instruction, check_register, check_step};
 use super::lines;
 
 /// Whether some byte string reads as the case.
@@ -43,7 +43,10 @@ fn instructions_fit(case: &Case, thread: usize) -> bool {
     let good = |instruction: &Instruction| {
         check_instruction(case.threads, case.locations, thread as u8, instruction).is_ok()
     };
-    used.iter().all(good) && unused.iter().all(|left| *left == Instruction::default())
+    let set = |at: usize| check_register(&used[..at], &used[at]).is_ok();
+    used.iter().all(good)
+        && (0..count).all(set)
+        && unused.iter().all(|left| *left == Instruction::default())
 }
 
 fn wants_fit(case: &Case) -> bool {

@@ -2,7 +2,7 @@
 
 use super::case::{Case, Instruction, Step};
 use super::case::{MOST_INSTRUCTIONS, MOST_LOCATIONS, MOST_STEPS, OWN_LINES, TOLD_LINES};
-use super::fields::{check_instruction, check_step};
+use super::fields::{check_instruction, check_register, check_step};
 use super::lines;
 use super::refusal::*;
 
@@ -145,8 +145,10 @@ impl Reader {
         let count = &mut self.case.counts[usize::from(thread)];
         let index = usize::from(*count);
         require(index < MOST_INSTRUCTIONS, NINTH_INSTRUCTION)?;
+        let code = &mut self.case.code[Case::places(usize::from(thread))];
+        check_register(&code[..index], &instruction)?;
         *count += 1;
-        self.case.code[Case::places(usize::from(thread))][index] = instruction;
+        code[index] = instruction;
         Ok(())
     }
 

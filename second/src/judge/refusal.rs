@@ -1,4 +1,4 @@
-//! Refusal numbers of document 01 and the one way to raise them.
+//! Refusal numbers of documents 01 and 02 and the one way to raise them.
 
 pub const CUT: u8 = 1;
 pub const UNKNOWN_KIND: u8 = 2;
@@ -10,6 +10,8 @@ pub const NINTH_INSTRUCTION: u8 = 7;
 /// Of a program record: line numbers out of order.
 pub const UNUSED_NOT_ZERO: u8 = 8;
 pub const NINETY_SEVENTH_STEP: u8 = 9;
+/// A register is stored or compared that nothing before has set.
+pub const UNSET_REGISTER: u8 = 10;
 pub const BUFFER_TOO_SHORT: u8 = 31;
 pub const READS_FROM_NO_BYTES: u8 = 32;
 pub const STATE_DOES_NOT_FIT: u8 = 33;

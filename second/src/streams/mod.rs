@@ -7,6 +7,7 @@ pub mod machine;
 pub mod parts;
 pub mod question;
 pub mod random;
+pub mod registers;
 pub mod tally;
 pub mod text;
 pub mod whole;

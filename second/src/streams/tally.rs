@@ -1,4 +1,4 @@
-//! The table of counts: each with its name and the least it must be.
+//! The table of counts: each with its name, the least it must be and, of some, the most it may be.
 
 /// Something to be counted: its name, the least number of it, and how it is told.
 pub struct Sort<F> {
@@ -15,6 +15,7 @@ pub struct Row {
     pub name: String,
     pub count: u128,
     least: u64,
+    most: Option<u64>,
 }
 
 pub fn row(name: &str, count: impl Into<u128>, least: u64) -> Row {
@@ -22,15 +23,38 @@ pub fn row(name: &str, count: impl Into<u128>, least: u64) -> Row {
         name: name.to_string(),
         count: count.into(),
         least,
+        most: None,
     }
+}
+
+impl Row {
+    pub fn at_most(self, most: u64) -> Row {
+        Row {
+            most: Some(most),
+            ..self
+        }
+    }
+}
+
+/// Two in a hundred: were more frames refused with 10, the others would be too few.
+pub fn few_of(frames: u64) -> u64 {
+    frames / 50
 }
 
 fn table(rows: &[Row], frames: u64) -> String {
     let digits = rows.iter().map(|row| row.count.to_string().len()).max();
     let width = digits.unwrap_or(0).max(8);
-    let mut table = format!("{:<34} {:>width$} {:>8}\n", "frames", "count", "least");
-    for Row { name, count, least } in rows {
-        table += &format!("{name:<34} {count:>width$} {least:>8}\n");
+    let heads = ["count", "least", "most"];
+    let mut table = format!(
+        "{:<34} {:>width$} {:>8} {:>8}\n",
+        "frames", heads[0], heads[1], heads[2]
+    );
+    for row in rows {
+        let Row {
+            name, count, least, ..
+        } = row;
+        let most = row.most.map_or(String::new(), |most| format!(" {most:>8}"));
+        table += &format!("{name:<34} {count:>width$} {least:>8}{most}\n");
     }
     table + &format!("{:<34} {frames:>width$}\n", "all frames")
 }
@@ -51,15 +75,24 @@ pub trait Counts<F> {
         table(&self.rows(), self.frames())
     }
 
-    /// Wrong answers and minima not met.
+    /// Wrong answers, and counts that are not as they must be.
     fn faults(&self) -> Vec<String> {
-        [self.wrong(), missing(&self.rows())].concat()
+        [self.wrong(), amiss(&self.rows())].concat()
     }
 }
 
-/// What is said of each count that is too low.
-pub fn missing(rows: &[Row]) -> Vec<String> {
-    let few = rows.iter().filter(|row| row.count < row.least.into());
-    few.map(|Row { name, count, least }| format!("{name}: {count}, at least {least} wanted"))
-        .collect()
+/// What is said of each count that is too low or too high.
+pub fn amiss(rows: &[Row]) -> Vec<String> {
+    rows.iter().filter_map(said).collect()
+}
+
+fn said(row: &Row) -> Option<String> {
+    let Row {
+        name, count, least, ..
+    } = row;
+    if *count < (*least).into() {
+        return Some(format!("{name}: {count}, at least {least} wanted"));
+    }
+    let most = row.most.filter(|&most| *count > most.into())?;
+    Some(format!("{name}: {count}, at most {most} wanted"))
 }

@@ -10,6 +10,7 @@ pub const ISSUE: u8 = 0;
 pub const MOVE: u8 = 1;
 pub const PERSIST: u8 = 2;
 
+pub const STORE_REGISTER: u8 = 2;
 pub const EXCHANGE: u8 = 4;
 pub const MFENCE: u8 = 8;
 pub const COMPARE: u8 = 9;

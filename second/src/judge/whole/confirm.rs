@@ -4,11 +4,12 @@ use super::engine::Engine;
 use super::explore::{Explorer, Visit};
 use super::outcome::Outcome;
 use super::point::Point;
-use super::program::Program;
+use super::program::{Origin, Program};
 use super::sentences::{Sentence, OF_STATES};
 use super::shown;
 use crate::judge::case::MOST_LOCATIONS;
 use crate::judge::machine::judge::LEGAL;
+use crate::judge::machine::rules::STORE_REGISTER;
 use crate::judge::machine::state::{Queue, State};
 use crate::judge::machine::steps::printed;
 use std::collections::BTreeSet;
@@ -45,7 +46,8 @@ pub struct Found {
     pub won_alone: BTreeSet<(usize, usize)>,
     /// What the ends leave.
     pub memories: BTreeSet<[u32; MOST_LOCATIONS]>,
-    /// Steps that issue a compare, by what comes of it.
+    /// Steps that issue a store from a register, and a compare, by what comes of it.
+    pub stored: u64,
     pub succeeded: u64,
     pub failed: u64,
     /// How many compares failed before the ends.
@@ -54,6 +56,11 @@ pub struct Found {
     /// made one, though some would.
     pub unmade: u64,
     pub left_alone: u64,
+    /// States in which each persistent word has an origin, and the words of all states, by it.
+    pub accounted: u64,
+    pub first: u64,
+    pub written: u64,
+    pub carried: u64,
     /// The first of each sentence.
     pub faults: Vec<Fault>,
 }
@@ -102,8 +109,10 @@ impl Found {
         self.steps += visit.edges.len() as u64;
         self.runs = self.runs.saturating_add(visit.runs);
         self.shared += u64::from(visit.point.state.queues.iter().any(is_shared));
+        self.stored += visit.issues(STORE_REGISTER);
         self.succeeded += visit.compares(Outcome::Succeeds);
         self.failed += visit.compares(Outcome::Fails);
+        self.count_words(&visit.origins(program));
         if visit.is_end() {
             self.ends += 1;
             self.failures.insert(visit.point.failed);
@@ -113,6 +122,14 @@ impl Found {
                 self.count_end(program, visit, at);
             }
         }
+    }
+
+    fn count_words(&mut self, origins: &[Option<Origin>]) {
+        let of = |origin| origins.iter().filter(|&&one| one == Some(origin)).count() as u64;
+        self.accounted += u64::from(origins.iter().all(|origin| origin.is_some()));
+        self.first += of(Origin::First);
+        self.written += of(Origin::Written);
+        self.carried += of(Origin::Carried);
     }
 
     fn count_end(&mut self, program: &Program, visit: &Visit, at: usize) {

@@ -1,9 +1,9 @@
 //! All states that the runs of a program reach, breadth first, each once.
 
 use super::engine::Engine;
-use super::outcome::Outcome;
+use super::outcome::{issued, Outcome};
 use super::point::Point;
-use super::program::Program;
+use super::program::{Origin, Program};
 use crate::judge::case::{Case, Step};
 use crate::judge::machine::steps::all_steps;
 use std::collections::{HashMap, VecDeque};
@@ -23,6 +23,8 @@ pub struct Edge {
     /// Behind the step: the work left, and the depth by which its state is known.
     pub work: u32,
     pub depth: u32,
+    /// Of an issue.
+    pub operation: Option<u8>,
     /// Of a compare.
     pub outcome: Option<Outcome>,
 }
@@ -48,6 +50,12 @@ impl Visit {
         self.edges.iter().filter(such).count() as u64
     }
 
+    /// Its legal steps that issue that operation.
+    pub fn issues(&self, operation: u8) -> u64 {
+        let such = |edge: &&Edge| edge.operation == Some(operation);
+        self.edges.iter().filter(such).count() as u64
+    }
+
     /// The threads that write the location; where there are compares, that really made a write there.
     pub fn writers(&self, program: &Program, at: usize) -> Vec<usize> {
         let mut threads = program.writers[at].clone();
@@ -62,6 +70,15 @@ impl Visit {
         let mut threads = self.writers(program, at);
         threads.retain(|&thread| self.point.fixed[thread][at] == word);
         threads
+    }
+
+    /// Of each location's persistent word; none where the program tells of none.
+    pub fn origins(&self, program: &Program) -> Vec<Option<Origin>> {
+        let words = self.point.state.words.iter().take(program.writers.len());
+        let told = words
+            .enumerate()
+            .map(|(at, &word)| program.origin(at, word));
+        told.collect()
     }
 }
 
@@ -137,6 +154,7 @@ impl<'a> Explorer<'a> {
         Edge {
             work,
             depth: self.nodes[at].depth,
+            operation: issued(self.case, &point.state, step).map(|next| next.operation),
             outcome: Outcome::of(self.case, &point.state, step),
         }
     }

@@ -2,7 +2,7 @@
 //! that what is counted of compares does not rest on what the machine makes of them.
 
 use super::program::is_compare;
-use crate::judge::case::{Case, Step};
+use crate::judge::case::{Case, Instruction, Step};
 use crate::judge::machine::effects::advance;
 use crate::judge::machine::rules::{check, ISSUE};
 use crate::judge::machine::state::State;
@@ -16,36 +16,17 @@ pub enum Outcome {
 impl Outcome {
     /// Of a step that issues a compare, were it legal; none of any other.
     pub fn of(case: &Case, state: &State, step: &Step) -> Option<Outcome> {
-        if step.code != ISSUE {
-            return None;
-        }
-        let thread = usize::from(step.thread);
-        let next = state.unissued(case, thread).first();
-        let next = next.filter(|next| is_compare(next))?;
-        let held = state.registers[thread][usize::from(next.register)];
+        let next = issued(case, state, step).filter(is_compare)?;
+        let held = state.registers[usize::from(step.thread)][usize::from(next.register)];
         Some(match seen(case, state, next.location) == held {
             true => Outcome::Succeeds,
             false => Outcome::Fails,
         })
     }
 
-    /// Of the compares that a run issues, up to its first illegal step.
-    pub fn along(case: &Case, run: &[Step]) -> Vec<Outcome> {
-        let mut state = State::start(case);
-        let mut outcomes = Vec::new();
-        for step in run {
-            if check(case, &state, step).is_err() {
-                break;
-            }
-            outcomes.extend(Outcome::of(case, &state, step));
-            advance(case, &mut state, step);
-        }
-        outcomes
-    }
-
-    /// Failed compares of such a run.
+    /// Failed compares of a run, up to its first illegal step.
     pub fn failed(case: &Case, run: &[Step]) -> usize {
-        let outcomes = Outcome::along(case, run);
+        let outcomes = along(case, run, Outcome::of);
         outcomes
             .iter()
             .filter(|&&one| one == Outcome::Fails)
@@ -59,6 +40,26 @@ impl Outcome {
             _ => 1,
         }
     }
+}
+
+/// What the step issues, were it legal; nothing, if it is no issue or none is left.
+pub fn issued(case: &Case, state: &State, step: &Step) -> Option<Instruction> {
+    let next = state.unissued(case, step.thread.into()).first();
+    next.filter(|_| step.code == ISSUE).copied()
+}
+
+/// What is told of the steps of a run, up to its first illegal one.
+pub fn along<T>(case: &Case, run: &[Step], told: fn(&Case, &State, &Step) -> Option<T>) -> Vec<T> {
+    let mut state = State::start(case);
+    let mut all = Vec::new();
+    for step in run {
+        if check(case, &state, step).is_err() {
+            break;
+        }
+        all.extend(told(case, &state, step));
+        advance(case, &mut state, step);
+    }
+    all
 }
 
 /// What the persistent word would be if all of the line's queue had gone there.

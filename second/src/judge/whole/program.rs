@@ -2,11 +2,22 @@
 
 use super::carried::Carried;
 use crate::judge::case::{Case, Instruction};
-use crate::judge::machine::rules::{COMPARE, EXCHANGE};
+use crate::judge::machine::rules::{COMPARE, EXCHANGE, STORE_REGISTER};
 
 /// The most steps of operations 1 to 9 from the issue to the end: the weights of documents 01 and 02,
 /// written down once more so that the full length does not rest on the machine's own sum.
 const LENGTHS: [u32; 9] = [3, 3, 1, 2, 2, 3, 2, 1, 2];
+
+/// Where a location's persistent word can come from.
+#[derive(Clone, Copy, Debug, PartialEq, Eq)]
+pub enum Origin {
+    /// It is the location's first content.
+    First,
+    /// An instruction writes it there.
+    Written,
+    /// It is a first content or a word of any instruction, and a register can be stored there.
+    Carried,
+}
 
 #[derive(Clone)]
 pub struct Program {
@@ -78,6 +89,27 @@ impl Program {
         (writes_word(last) && !is_compare(last)).then_some(last.word)
     }
 
+    /// The first that a word at a location can have: by the program's text alone.
+    pub fn origin(&self, at: usize, word: u32) -> Option<Origin> {
+        let firsts = &self.case.first[..self.writers.len()];
+        let threads = 0..usize::from(self.case.threads);
+        let all = threads.flat_map(|thread| code(&self.case, thread));
+        let here = |one: &&Instruction| usize::from(one.location) == at;
+        let written = |one: &Instruction| writes_word(one) && one.word == word;
+        if firsts[at] == word {
+            return Some(Origin::First);
+        }
+        if all.clone().filter(here).any(written) {
+            return Some(Origin::Written);
+        }
+        let stored = all
+            .clone()
+            .filter(here)
+            .any(|one| one.operation == STORE_REGISTER);
+        let carried = stored && (firsts.contains(&word) || all.clone().any(written));
+        carried.then_some(Origin::Carried)
+    }
+
     /// The words that the thread's instructions hold.
     pub fn words(&self, thread: usize) -> impl Iterator<Item = u32> + '_ {
         let words = code(&self.case, thread)
@@ -118,7 +150,7 @@ pub fn code(case: &Case, thread: usize) -> &[Instruction] {
 
 /// Stores and exchanges, and compares, which write if they succeed.
 pub fn writes(one: &Instruction) -> bool {
-    one.operation == 2 || writes_word(one)
+    one.operation == STORE_REGISTER || writes_word(one)
 }
 
 /// What is written, if anything is, stands in the instruction.

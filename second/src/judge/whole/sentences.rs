@@ -22,8 +22,10 @@ pub const LENGTH: &str = "a run that cannot go on has the full length less its f
 pub const LAST_WRITE: &str = "at the end a last write that a thread really made there";
 pub const ONE_WRITER: &str = "one writer, whose last word is there at the end";
 pub const NO_WRITER: &str = "no writer, the first content in every state";
+pub const ORIGIN: &str =
+    "each persistent word is the first content, was written there or came by a register";
 
-pub const OF_STATES: [Sentence; 8] = [
+pub const OF_STATES: [Sentence; 9] = [
     sentence(WEDGED, |program, visit| {
         visit.point.has_more(&program.case) && visit.is_end()
     }),
@@ -54,6 +56,9 @@ pub const OF_STATES: [Sentence; 8] = [
     sentence(NO_WRITER, |program, visit| {
         let mut unwritten = locations(program).filter(|&at| program.writers[at].is_empty());
         unwritten.any(|at| !holds_first(program, visit, at))
+    }),
+    sentence(ORIGIN, |program, visit| {
+        visit.origins(program).iter().any(|origin| origin.is_none())
     }),
 ];
 

@@ -4,8 +4,9 @@ use super::answer::{answer, Answer};
 use super::frame::Frame;
 use super::marks::{mark_of, FAMILIES};
 use super::sorts::{changes, rewritten, SORTS};
+use crate::judge::refusal::UNSET_REGISTER;
 use crate::streams::layouts::LayoutCounts;
-use crate::streams::tally::{row, Counts, Row};
+use crate::streams::tally::{few_of, row, Counts, Row};
 
 /// Files are cut at every length up to the longest file's.
 const LENGTHS: usize = 1337;
@@ -15,7 +16,9 @@ const TOLD: [u16; 12] = [3, 4, 5, 6, 7, 8, 9, 10, 11, 12, 13, 65535];
 
 pub struct FrameCounts {
     frames: u64,
-    read: [u64; 10],
+    read: [u64; 11],
+    /// Refused with 10, though they were not made for that.
+    strays: u64,
     sorts: [u64; SORTS.len()],
     families: [u64; FAMILIES.len()],
     lengths: [bool; LENGTHS],
@@ -29,7 +32,8 @@ impl FrameCounts {
     pub fn new() -> FrameCounts {
         FrameCounts {
             frames: 0,
-            read: [0; 10],
+            read: [0; 11],
+            strays: 0,
             sorts: [0; SORTS.len()],
             families: [0; FAMILIES.len()],
             lengths: [false; LENGTHS],
@@ -64,6 +68,9 @@ impl Counts<Frame> for FrameCounts {
         let answer = answer(frame);
         self.frames += 1;
         self.read[usize::from(answer.reading.number)] += 1;
+        let made_for = mark_of(frame).map_or(false, |mark| mark.number == UNSET_REGISTER);
+        let stray = answer.reading.number == UNSET_REGISTER && !made_for;
+        self.strays += u64::from(stray);
         for (sort, count) in SORTS.iter().zip(&mut self.sorts) {
             *count += u64::from((sort.told)(frame, &answer));
         }
@@ -87,6 +94,8 @@ impl Counts<Frame> for FrameCounts {
         for (number, &count) in self.read.iter().enumerate() {
             rows.push(row(&format!("read: {number}"), count, 500));
         }
+        let most = few_of(self.frames);
+        rows.push(row("read: 10, not made for it", self.strays, 0).at_most(most));
         for (sort, &count) in SORTS.iter().zip(&self.sorts) {
             rows.push(row(sort.name, count, sort.least));
         }

@@ -15,9 +15,10 @@ const fn family(name: &'static str, least: u64) -> Family {
     Family { name, least }
 }
 
-/// The number in a name is the expected one; of two it is the first. A header is a program record: its
+/// The number in a name is the expected one; of two in one record it is the first, of two in two records that of
+/// the record which comes first. A header is a program record: its
 /// faults are named in the order of their checks.
-pub const FAMILIES: [Family; 68] = [
+pub const FAMILIES: [Family; 100] = [
     family("fault 1 (head)", 100),
     family("fault 1 (payload)", 100),
     family("fault 2", 100),
@@ -28,6 +29,7 @@ pub const FAMILIES: [Family; 68] = [
     family("fault 7", 100),
     family("fault 8", 100),
     family("fault 9", 100),
+    family("fault 10", 300),
     family("faults 2+3", 100),
     family("faults 2+1 (payload)", 100),
     family("faults 2+4", 100),
@@ -46,6 +48,37 @@ pub const FAMILIES: [Family; 68] = [
     family("faults 8+7", 100),
     family("faults 5+9", 100),
     family("faults 8+9", 100),
+    family("faults 1 (head)+10", 60),
+    family("faults 2+10", 60),
+    family("faults 3+10", 60),
+    family("faults 1 (payload)+10", 60),
+    family("faults 4+10", 60),
+    family("faults 5+10", 60),
+    family("faults 8+10", 60),
+    family("faults 6+10", 60),
+    family("faults 7+10", 60),
+    family("fault 1 (head), 10 before it", 40),
+    family("fault 1 (payload), 10 before it", 40),
+    family("fault 2, 10 before it", 40),
+    family("fault 3, 10 before it", 40),
+    family("fault 4, 10 before it", 40),
+    family("fault 5, 10 before it", 40),
+    family("fault 6, 10 before it", 40),
+    family("fault 7, 10 before it", 40),
+    family("fault 8, 10 before it", 40),
+    family("fault 9, 10 before it", 40),
+    family("fault 10, 10 before it", 40),
+    family("fault 2, 10 behind it", 40),
+    family("fault 3, 10 behind it", 40),
+    family("fault 4, 10 behind it", 40),
+    family("fault 5, 10 behind it", 40),
+    family("fault 6, 10 behind it", 40),
+    family("fault 7, 10 behind it", 40),
+    family("fault 8, 10 behind it", 40),
+    family("fault 9, 10 behind it", 40),
+    family("fault 10, 10 behind it", 40),
+    family("register set before", 200),
+    family("register not set before", 200),
     family("valid file", 100),
     family("boundary accepted", 100),
     family("boundary refused", 100),

@@ -5,6 +5,9 @@ use super::frame::{Frame, FIELDS_END};
 use crate::judge::case::{OWN_LINES, TOLD_LINES};
 use crate::judge::form::fits;
 use crate::judge::machine::rules::COMPARE;
+use crate::judge::reading::read;
+use crate::judge::refusal::UNSET_REGISTER;
+use crate::judge::writing::encode;
 use crate::streams::tally::{sort, Sort};
 
 /// Accepted and written again as it was read.
@@ -26,7 +29,7 @@ fn shows_its_place(input: &[u8], offset: usize) -> bool {
     within && input[offset - 1..input.len() - 1] != input[offset..]
 }
 
-pub const SORTS: [Sort<fn(&Frame, &Answer) -> bool>; 61] = [
+pub const SORTS: [Sort<fn(&Frame, &Answer) -> bool>; 63] = [
     sort("written: 0", 500, |_, a| a.number == 0),
     sort("written: 31", 500, |_, a| a.number == 31),
     sort("written: 32", 500, |_, a| a.number == 32),
@@ -89,6 +92,13 @@ pub const SORTS: [Sort<fn(&Frame, &Answer) -> bool>; 61] = [
     }),
     sort("operation changed from 9: 32", 20, |f, a| {
         operation_of(f, a).is_some() && was_compare(f, a) && a.number == 32
+    }),
+    sort("field changed: 32, its file 10", 200, |f, a| {
+        changes(f) && a.number == 32 && read(&encode(&a.changed)).number == UNSET_REGISTER
+    }),
+    sort("a register changed, readable", 30, |f, a| {
+        let of_register = (15..143).contains(&f.field) && (f.field - 15) % 4 == 2;
+        of_register && a.changed != a.reading.case && fits(&a.changed)
     }),
     sort("accepted, a compare", 200, |f, a| {
         let mut code = a.reading.case.code.iter();
@@ -245,7 +255,7 @@ fn now(answer: &Answer, number: u8) -> bool {
 
 /// Refused is a persist whose number is that of a location, but of no line.
 fn names_no_line(frame: &Frame, answer: &Answer) -> bool {
-    let before = crate::judge::reading::read(&frame.input[..answer.reading.offset]).case;
+    let before = read(&frame.input[..answer.reading.offset]).case;
     match answer.unread.get(..8) {
         Some(&[4, 0, 6, 0, _, 2, _, line]) => (before.lines..before.locations).contains(&line),
         _ => false,

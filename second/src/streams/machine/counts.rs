@@ -13,12 +13,14 @@ use crate::judge::case::MOST_STEPS;
 use crate::judge::form;
 use crate::judge::machine::fit::CLAUSES;
 use crate::judge::machine::judge::LEGAL;
+use crate::judge::reading::read;
+use crate::judge::refusal::UNSET_REGISTER;
 use crate::streams::cases::frame::FIELDS_END;
 use crate::streams::layouts::LayoutCounts;
-use crate::streams::tally::{row, Counts, Row};
+use crate::streams::tally::{few_of, row, Counts, Row};
 
 /// Every number that is answered, and the least number of frames in which it is.
-const NUMBERS: [(u8, u64); 21] = [
+const NUMBERS: [(u8, u64); 22] = [
     (LEGAL, 4000),
     (1, 100),
     (2, 100),
@@ -29,6 +31,7 @@ const NUMBERS: [(u8, u64); 21] = [
     (7, 20),
     (8, 300),
     (9, 20),
+    (UNSET_REGISTER, 20),
     (21, 450),
     (22, 450),
     (23, 450),
@@ -40,6 +43,14 @@ const NUMBERS: [(u8, u64); 21] = [
     (29, 450),
     (32, 1000),
     (33, 1200),
+];
+
+/// The families of frames whose input is refused, or may be.
+const REFUSALS: [&str; 4] = [
+    "reading refused",
+    "legal: empty case",
+    "step: reading refused",
+    "start: reading refused",
 ];
 
 const RULES: std::ops::RangeInclusive<u8> = 21..=29;
@@ -57,6 +68,8 @@ pub struct TrialCounts {
     /// Of the cases whose run or step was judged.
     layouts: LayoutCounts,
     families: [u64; FAMILIES.len()],
+    /// Inputs refused with 10, whatever the job, though they were not made to be refused.
+    strays: u64,
     /// Lengths of legal runs, and indexes of illegal steps.
     lengths: [bool; MOST_STEPS + 1],
     indexes: [bool; MOST_STEPS],
@@ -76,6 +89,7 @@ impl TrialCounts {
             compares: CompareCounts::default(),
             layouts: LayoutCounts::default(),
             families: [0; FAMILIES.len()],
+            strays: 0,
             lengths: [false; MOST_STEPS + 1],
             indexes: [false; MOST_STEPS],
             faults: Vec::new(),
@@ -158,6 +172,8 @@ impl Counts<Trial> for TrialCounts {
         let answer = answer(trial);
         self.frames += 1;
         self.take_number(trial, &answer);
+        let stray = read(&trial.input).number == UNSET_REGISTER && !is_refusal(trial);
+        self.strays += u64::from(stray);
         self.take_clause(&answer);
         for (sort, count) in SORTS.iter().zip(&mut self.sorts) {
             *count += u64::from((sort.told)(trial, &answer));
@@ -188,6 +204,8 @@ impl Counts<Trial> for TrialCounts {
             let count = self.numbers[usize::from(number)][0];
             rows.push(row(&format!("answered: {number}"), count, least));
         }
+        let most = few_of(self.frames);
+        rows.push(row("input 10, not made for it", self.strays, 0).at_most(most));
         for rule in RULES {
             let [_, runs, steps] = self.numbers[usize::from(rule)];
             rows.push(row(&format!("run ended by {rule}"), runs, 300));
@@ -236,6 +254,12 @@ fn is_start(answer: &Answer) -> bool {
     let words: Vec<u8> = first.iter().flat_map(|word| word.to_le_bytes()).collect();
     let bytes = raw::encode(&answer.verdict.state);
     bytes[..32] == words[..] && bytes[32..].iter().all(|&byte| byte == 0)
+}
+
+/// Whether the frame was made to have an input that is refused.
+fn is_refusal(trial: &Trial) -> bool {
+    let name = mark_of(trial).map(|mark| FAMILIES[mark.family].name);
+    name.map_or(false, |name| REFUSALS.contains(&name))
 }
 
 /// Whether the frame changes a field of its case.

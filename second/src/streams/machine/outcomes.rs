@@ -5,8 +5,9 @@ use super::frame::{Job, Trial};
 use crate::judge::case::{Case, Instruction, Step};
 use crate::judge::machine::effects::advance;
 use crate::judge::machine::judge::LEGAL;
-use crate::judge::machine::rules::{BUFFER_NOT_EMPTY, MARKER_BEFORE_FENCE};
+use crate::judge::machine::rules::{BUFFER_NOT_EMPTY, MARKER_BEFORE_FENCE, STORE_REGISTER};
 use crate::judge::machine::state::{Entry, Held, State};
+use crate::judge::whole::outcome::issued;
 use crate::judge::whole::outcome::Outcome::{self, Fails, Succeeds};
 use crate::streams::tally::{row, sort, Row, Sort};
 
@@ -51,6 +52,9 @@ const ENDS: [(u8, Outcome, &str, [u64; 2]); 6] = [
         [200, 150],
     ),
 ];
+
+/// The least number of legal stores from a register, in runs and of single steps.
+const STORES: [u64; 2] = [10_000, 80];
 
 /// Against what the register's word is held.
 const COMPARES: [Sort<fn(&Compared) -> bool>; 8] = [
@@ -128,6 +132,8 @@ pub struct CompareCounts {
     /// In runs, and of single steps.
     ends: [[u64; 2]; ENDS.len()],
     counts: [u64; COMPARES.len()],
+    /// Legal stores from a register, in runs and of single steps.
+    stores: [u64; 2],
 }
 
 impl CompareCounts {
@@ -179,10 +185,13 @@ impl CompareCounts {
             };
             self.count(&compared);
         }
-        match number {
-            LEGAL => Outcome::cost(found),
-            _ => 0,
+        if number != LEGAL {
+            return 0;
         }
+        let next = issued(case, state, step);
+        let stores = next.map_or(false, |next| next.operation == STORE_REGISTER);
+        self.stores[usize::from(!in_run)] += u64::from(stores);
+        Outcome::cost(found)
     }
 
     fn count(&mut self, compared: &Compared) {
@@ -198,6 +207,8 @@ impl CompareCounts {
     pub fn rows(&self) -> Vec<Row> {
         let mut rows = Vec::new();
         for (place, whose) in ["in runs", "single"].into_iter().enumerate() {
+            let name = format!("{whose}: store register");
+            rows.push(row(&name, self.stores[place], STORES[place]));
             for ((.., name, leasts), counts) in ENDS.iter().zip(self.ends) {
                 let name = format!("{whose}: {name}");
                 rows.push(row(&name, counts[place], leasts[place]));

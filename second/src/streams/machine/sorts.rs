@@ -7,9 +7,12 @@ use super::raw::{ENTRIES_AT, ENTRY_BYTES};
 use crate::judge::machine::fit::to_come;
 use crate::judge::machine::judge::LEGAL;
 use crate::judge::machine::state::State;
+use crate::judge::reading::read;
+use crate::judge::refusal::UNSET_REGISTER;
+use crate::judge::writing::encode;
 use crate::streams::tally::{sort, Sort};
 
-pub const SORTS: [Sort<fn(&Trial, &Answer) -> bool>; 39] = [
+pub const SORTS: [Sort<fn(&Trial, &Answer) -> bool>; 42] = [
     sort("job 0", 3000, |t, _| t.job == Job::Bytes),
     sort("job 1", 2000, |t, _| t.job == Job::Case),
     sort("job 2", 6000, |_, a| a.given.is_some()),
@@ -70,6 +73,15 @@ pub const SORTS: [Sort<fn(&Trial, &Answer) -> bool>; 39] = [
     sort("case changed, step judged", 100, |t, a| {
         a.given.is_some() && changes(t) && a.verdict.number != 32
     }),
+    sort("32 for a register, a run", 80, |t, a| {
+        t.job == Job::Case && unset(a)
+    }),
+    sort("32 for a register, a step", 80, |_, a| {
+        a.given.is_some() && unset(a)
+    }),
+    sort("32 for a register, a start", 80, |t, a| {
+        t.job == Job::Start && unset(a)
+    }),
     sort("32 and 33", 100, |t, a| beats(t, a, 33..=33)),
     sort("32 and 5", 40, |t, a| beats(t, a, 5..=5)),
     sort("32 and 8", 25, |t, a| beats(t, a, 8..=8)),
@@ -122,6 +134,11 @@ fn run_to(answer: &Answer, is: fn(&State) -> bool) -> bool {
 fn longest(state: &State) -> usize {
     let lengths = state.queues.iter().map(|queue| queue.used().len());
     lengths.max().unwrap_or(0)
+}
+
+/// 32, and the file of the case is refused with 10.
+fn unset(answer: &Answer) -> bool {
+    answer.verdict.number == 32 && read(&encode(&answer.case)).number == UNSET_REGISTER
 }
 
 /// 32, and without the change of the case another number.

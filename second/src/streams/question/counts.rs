@@ -6,18 +6,19 @@ use super::frame::Query;
 use super::ledger::{without_steps, Ledger};
 use super::sorts::SORTS;
 use crate::judge::ask::{reaches, REACHED, RECORD, UNDECIDED};
-use crate::judge::case::Case;
+use crate::judge::case::{Case, Step};
 use crate::judge::machine::judge::{judge_bytes, single_step, LEGAL};
+use crate::judge::machine::rules::STORE_REGISTER;
 use crate::judge::machine::state::State;
 use crate::judge::machine::work::full_length;
 use crate::judge::reading::read;
-use crate::judge::refusal::BUFFER_TOO_SHORT;
-use crate::judge::whole::outcome::Outcome;
-use crate::streams::tally::{row, Counts, Row};
+use crate::judge::refusal::{BUFFER_TOO_SHORT, UNSET_REGISTER};
+use crate::judge::whole::outcome::{along, issued, Outcome};
+use crate::streams::tally::{few_of, row, Counts, Row};
 use crate::streams::wire::UNTOUCHED;
 
 /// Every number that is answered, and the least number of frames in which it is.
-const NUMBERS: [(u8, u64); 13] = [
+const NUMBERS: [(u8, u64); 14] = [
     (100, 500),
     (101, 500),
     (102, 500),
@@ -31,6 +32,14 @@ const NUMBERS: [(u8, u64); 13] = [
     (7, 20),
     (8, 20),
     (9, 20),
+    (UNSET_REGISTER, 20),
+];
+
+/// Of the runs shown: which steps are counted, and the least number of them.
+const SHOWN: [(&str, u64); 3] = [
+    ("steps shown: store register", 20_000),
+    ("steps shown: compare succeeds", 4_000),
+    ("steps shown: compare fails", 2_500),
 ];
 
 /// A frame, its answer, and what the judge says of both.
@@ -47,6 +56,8 @@ pub struct Sight<'a> {
     pub end: Option<State>,
     /// Of the compares of that run.
     pub outcomes: Vec<Outcome>,
+    /// How many stores from a register it issues.
+    pub stored: usize,
 }
 
 #[derive(Default)]
@@ -55,6 +66,8 @@ pub struct QueryCounts {
     runs: u64,
     numbers: Vec<u64>,
     sorts: Vec<u64>,
+    /// Of the runs shown: stores from a register, compares that succeed and that fail.
+    shown: [u64; 3],
     ledger: Ledger,
     faults: Vec<String>,
 }
@@ -135,13 +148,17 @@ fn end_of(case: &Case, answer: &Answer) -> Option<State> {
     passes.then_some(verdict.state)
 }
 
-/// None where no run is shown.
-fn outcomes_of(case: &Case, answer: &Answer) -> Vec<Outcome> {
+/// What is told of the steps that are shown; nothing where no run is.
+fn along_shown<T>(
+    case: &Case,
+    answer: &Answer,
+    told: fn(&Case, &State, &Step) -> Option<T>,
+) -> Vec<T> {
     if answer.reply.number != REACHED {
         return Vec::new();
     }
     let shown = read(&with_run(case, answer)).case;
-    Outcome::along(&shown, &shown.steps[..answer.reply.place])
+    along(&shown, &shown.steps[..answer.reply.place], told)
 }
 
 impl Counts<Query> for QueryCounts {
@@ -153,7 +170,11 @@ impl Counts<Query> for QueryCounts {
             refusal: reading.number,
             need: RECORD * full_length(&reading.case).unwrap_or(0) as usize,
             end: end_of(&reading.case, &answer),
-            outcomes: outcomes_of(&reading.case, &answer),
+            outcomes: along_shown(&reading.case, &answer, Outcome::of),
+            stored: along_shown(&reading.case, &answer, issued)
+                .iter()
+                .filter(|next| next.operation == STORE_REGISTER)
+                .count(),
             case: reading.case,
             answer: &answer,
         };
@@ -162,6 +183,11 @@ impl Counts<Query> for QueryCounts {
         self.numbers[usize::from(answer.reply.number)] += 1;
         for (sort, count) in SORTS.iter().zip(&mut self.sorts) {
             *count += u64::from((sort.told)(&sight));
+        }
+        let of = |such| sight.outcomes.iter().filter(|&&one| one == such).count();
+        let shown = [sight.stored, of(Outcome::Succeeds), of(Outcome::Fails)];
+        for (count, more) in self.shown.iter_mut().zip(shown) {
+            *count += more as u64;
         }
         self.check(&sight);
         self.check_run(&sight);
@@ -176,10 +202,17 @@ impl Counts<Query> for QueryCounts {
         let mut rows = Vec::new();
         for (number, least) in NUMBERS {
             let count = self.numbers[usize::from(number)];
-            rows.push(row(&format!("answered: {number}"), count, least));
+            let row = row(&format!("answered: {number}"), count, least);
+            rows.push(match number {
+                UNSET_REGISTER => row.at_most(few_of(self.frames)),
+                _ => row,
+            });
         }
         for (sort, &count) in SORTS.iter().zip(&self.sorts) {
             rows.push(row(sort.name, count, sort.least));
+        }
+        for ((name, least), count) in SHOWN.iter().zip(self.shown) {
+            rows.push(row(name, count, *least));
         }
         rows.extend(self.ledger.rows());
         rows.push(row("runs looked at, all together", self.runs, 1_000_000));

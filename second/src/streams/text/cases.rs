@@ -11,6 +11,7 @@ use crate::streams::machine::generate::programs::{add, any, dress, instruction, 
 use crate::streams::machine::generate::runs::{self, walk};
 use crate::streams::parts::{hand_out, Part, Take};
 use crate::streams::random::Random;
+use crate::streams::registers::mend;
 use std::io;
 
 /// A question counts as decided if so many runs of the walk decide it.
@@ -56,21 +57,26 @@ fn longest(random: &mut Random) -> Vec<Case> {
     files.map(|file| read(&file).case).collect()
 }
 
-/// Each operation once, in any order, by two threads.
+/// Each operation once, in any order in which it may stand there, by two threads.
 fn every_operation(random: &mut Random) -> Vec<Case> {
-    let case = |_| {
+    let mut cases = Vec::new();
+    while cases.len() < 60 {
         let locations = random.between(1, 8);
         let mut case = program(random, locations, &[0, 0], &EVERY);
-        let mut left = EVERY.to_vec();
+        let mut left: Vec<u8> = (1..=9).collect();
         while !left.is_empty() {
             let operation = left.swap_remove(random.below(left.len()));
             let made = instruction(random, operation, locations);
             add(&mut case, left.len() % 2, made);
         }
+        mend(random, &mut case);
         dress(random, &mut case);
-        case
-    };
-    (0..60).map(case).collect()
+        // What was mended may have become another operation.
+        if (1..=9).all(|one| case.code.iter().any(|made| made.operation == one)) {
+            cases.push(case);
+        }
+    }
+    cases
 }
 
 pub fn sketched(random: &mut Random, count: usize) -> Vec<Case> {

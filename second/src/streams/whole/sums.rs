@@ -5,7 +5,7 @@ use crate::judge::machine::rules::COMPARE;
 use crate::judge::whole::program::code;
 use crate::streams::tally::{sort as sum, Sort as Sum};
 
-pub const SUMS: [Sum<fn(&Known) -> u128>; 48] = [
+pub const SUMS: [Sum<fn(&Known) -> u128>; 53] = [
     sum("different programs", 300, |_| 1),
     sum("threads 1, locations 3", 50, |k| sized(k, 1, 3)),
     sum("threads 2, locations 2", 50, |k| sized(k, 2, 2)),
@@ -41,10 +41,11 @@ pub const SUMS: [Sum<fn(&Known) -> u128>; 48] = [
     sum("programs with ends of two lengths", 100, |k| {
         u128::from(k.found.failures.len() > 1)
     }),
-    sum("steps: compare succeeds", 10_000, |k| {
+    sum("steps: store register", 40_000, |k| k.found.stored.into()),
+    sum("steps: compare succeeds", 20_000, |k| {
         k.found.succeeded.into()
     }),
-    sum("steps: compare fails", 10_000, |k| k.found.failed.into()),
+    sum("steps: compare fails", 80_000, |k| k.found.failed.into()),
     sum("ends, a thread made no write", 200, |k| {
         k.found.unmade.into()
     }),
@@ -64,6 +65,16 @@ pub const SUMS: [Sum<fn(&Known) -> u128>; 48] = [
     }),
     sum("programs with such a state", 50, |k| {
         u128::from(k.found.shared > 0)
+    }),
+    sum("states, each word accounted for", 400_000, |k| {
+        k.found.accounted.into()
+    }),
+    sum("words: the first content", 400_000, |k| {
+        k.found.first.into()
+    }),
+    sum("words: written there", 400_000, |k| k.found.written.into()),
+    sum("words: come by a register", 15_000, |k| {
+        k.found.carried.into()
     }),
     sum("locations of 0 writers", 150, |k| written_by(k, 0)),
     sum("locations of 1 writer", 200, |k| written_by(k, 1)),

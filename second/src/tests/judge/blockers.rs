@@ -29,10 +29,11 @@ fn places_as_text() {
     assert_eq!(Blocker::queued(7, 31).to_string(), "Q7.31");
 }
 
-/// Four threads with that next instruction each, eight locations on a line each, nothing else.
+/// Four threads with that next instruction each behind a load, eight locations on a line each, nothing else.
 fn four(next: Instruction) -> (Case, State) {
-    let case = laid_out(&Layout::own(8), &[&[next][..]; 4]);
-    let state = State::start(&case);
+    let case = laid_out(&Layout::own(8), &[&[load(X, 0), next][..]; 4]);
+    let mut state = State::start(&case);
+    state.issued = [1; 4];
     (case, state)
 }
 
@@ -41,9 +42,8 @@ fn a_fence_waits_for_its_own_buffers_oldest() {
     // x holds 0, as all registers do, and y holds 5.
     let compares = [compare(X, 0, 7), compare(Y, 0, 7)];
     for fence in [MFENCE, exchange(Y, 0, 7), compares[0], compares[1]] {
-        let (mut case, _) = four(fence);
-        case.first[1] = 5;
-        let mut state = State::start(&case);
+        let (mut case, mut state) = four(fence);
+        (case.first[1], state.words[1]) = (5, 5);
         state.buffers[0].push(Entry::Flush(X));
         for entry in [Entry::FlushOpt(X), Entry::Sfence, Entry::Flush(Y)] {
             state.buffers[2].push(entry);
@@ -249,7 +249,7 @@ fn in_the_way(case: &Case, state: &State, step: &Step, rule: u8) -> Vec<Blocker>
 #[test]
 fn of_all_that_is_in_the_way_the_first() {
     let mut named = [0; 30];
-    for (case, steps) in runs_for_tests(&mut Random::new(23), 500) {
+    for (case, steps) in runs_for_tests(&mut Random::new(23), 700) {
         let mut state = State::start(&case);
         for step in steps {
             for other in all_steps(&case) {

@@ -85,11 +85,12 @@ fn one_that_waits_for_a_marker() {
     assert_eq!(told(&with_five(&[&code]), &steps), "23 3 Q1.0");
     assert_eq!(told(&program(&[&code]), &steps), "23 3 Q1.0");
     // 22 comes first, and another thread's marker is not in the way.
-    let both = [flush_opt(Y), store(Y, 1), compare(X, 0, 7)];
-    let steps = [issue(0), shift(0, 0), issue(0), issue(0)];
-    assert_eq!(told(&with_five(&[&both]), &steps), "22 3 B0.0");
-    let others = with_five(&[&[compare(X, 0, 7)], &[flush_opt(X)]]);
-    assert_eq!(told(&others, &[issue(1), shift(1, 0), issue(0)]), "103 3");
+    let both = [load(Y, 0), flush_opt(Y), store(Y, 1), compare(X, 0, 7)];
+    let steps = [issue(0), issue(0), shift(0, 0), issue(0), issue(0)];
+    assert_eq!(told(&with_five(&[&both]), &steps), "22 4 B0.0");
+    let others = with_five(&[&[load(Y, 0), compare(X, 0, 7)], &[flush_opt(X)]]);
+    let steps = [issue(0), issue(1), shift(1, 0), issue(0)];
+    assert_eq!(told(&others, &steps), "103 4");
 }
 
 /// Both load y, then compare x, thread 0 with the new word 1, thread 1 with 2.
@@ -139,14 +140,14 @@ fn what_is_read() {
 /// What the failed one read is what the next one expects.
 #[test]
 fn one_that_fails_and_is_tried_again() {
-    let again = [compare(X, 3, 7), compare(X, 3, 8)];
+    let again = [load(Y, 3), compare(X, 3, 7), compare(X, 3, 8)];
     let case = with_five(&[&again]);
-    assert_eq!(full_length(&case), Ok(4));
-    let verdict = run(&case, &[issue(0), issue(0)]);
+    assert_eq!(full_length(&case), Ok(5));
+    let verdict = run(&case, &[issue(0); 3]);
     assert_eq!(verdict.state.queues[0].used(), [Held::write(X, 8)]);
     assert_eq!(verdict.state.registers[0], [0, 0, 0, 5]);
     // Where the first succeeds, the register keeps what was read, and the second fails.
-    let verdict = run(&program(&[&again]), &[issue(0), issue(0)]);
+    let verdict = run(&program(&[&again]), &[issue(0); 3]);
     assert_eq!(verdict.state.queues[0].used(), [Held::write(X, 7)]);
     assert_eq!(verdict.state.registers[0], [0, 0, 0, 7]);
 }
@@ -154,31 +155,41 @@ fn one_that_fails_and_is_tried_again() {
 /// The room is that of the full length, though no run is so long.
 #[test]
 fn the_room_of_a_question() {
-    let mut case = with_five(&[&[compare(X, 0, 7)]]);
-    case.passed[0] = 1;
+    let mut case = with_five(&[&[load(Y, 0), compare(X, 0, 7)]]);
+    case.passed[0] = 2;
     let file = encode(&case);
     let asked = |room: usize| {
         let mut lent = vec![0xA5; room];
         let reply = question(&file, &mut lent, 10);
         (reply.number, reply.place)
     };
-    assert_eq!((asked(15), asked(16)), ((31, 0), (100, 1)));
+    assert_eq!((asked(23), asked(24)), ((31, 0), (100, 2)));
 }
 
-/// Each fails behind the other, so that no run has the full length, 4.
+/// It fails behind the other thread's exchange: such runs end one step before the full length, 5.
 #[test]
-fn all_runs_of_two() {
-    let case = program(&[&[compare(X, 0, 1)], &[compare(X, 0, 2)]]);
-    let first = ["", "I0", "I0 I1", "I0 I1 P0", "I0 P0", "I0 P0 I1"];
-    let second = ["I1", "I1 I0", "I1 I0 P0", "I1 P0", "I1 P0 I0"];
-    check_order(&case, &[&first[..], &second].concat());
+fn all_runs_of_one_beside_an_exchange() {
+    let case = program(&[&[load(Y, 0), compare(X, 0, 1)], &[exchange(X, 0, 2)]]);
+    let succeeds = ["I0 I0", "I0 I0 I1", "I0 I0 I1 P0", "I0 I0 I1 P0 P0"];
+    let persists = ["I0 I0 P0", "I0 I0 P0 I1", "I0 I0 P0 I1 P0"];
+    let between = [
+        "I0 I1",
+        "I0 I1 I0",
+        "I0 I1 I0 P0",
+        "I0 I1 P0",
+        "I0 I1 P0 I0",
+    ];
+    let before = ["I1", "I1 I0", "I1 I0 I0", "I1 I0 I0 P0", "I1 I0 P0"];
+    let last = ["I1 I0 P0 I0", "I1 P0", "I1 P0 I0", "I1 P0 I0 I0"];
+    let behind = [&["", "I0"], &succeeds[..], &persists, &between].concat();
+    check_order(&case, &[&behind[..], &before, &last].concat());
 }
 
 #[test]
 fn the_form_of_one() {
     let with = |operation, location, register, word| {
         let one = Instruction::new(operation, location, register, word);
-        fits(&program(&[&[one]]))
+        fits(&program(&[&[load(X, 0), load(X, 3), one]]))
     };
     assert!(with(9, 0, 0, 0) && with(9, 1, 3, u32::MAX));
     assert!(!with(9, 2, 0, 0) && !with(9, 0, 4, 0));

@@ -146,7 +146,7 @@ fn full_lengths_of_the_rows() {
     assert_eq!(length(&[flush_opt(X)]), Ok(9));
     assert_eq!(length(&[flush_opt(X), SFENCE]), Ok(11));
     assert_eq!(length(&[exchange(X, 0, 1), load(X, 0), MFENCE]), Ok(10));
-    assert_eq!(length(&[compare(X, 0, 1)]), Ok(8));
+    assert_eq!(length(&[load(X, 0), compare(X, 0, 1)]), Ok(9));
     let most = [store(X, 1); 8];
     assert_eq!(full_length(&program(&[&most, &most, &most, &most])), Ok(96));
 }

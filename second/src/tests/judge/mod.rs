@@ -6,6 +6,7 @@ mod lines;
 mod machine;
 mod question;
 mod reading;
+mod registers;
 mod states;
 mod walk;
 mod whole;

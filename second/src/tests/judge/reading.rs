@@ -86,14 +86,12 @@ fn instructions() {
     assert_eq!(after_program(&[8, 0, 3, 0, 1, 5, 3, 0, 0, 0, 0, 0]), (5, 8));
     assert_eq!(after_program(&[8, 0, 3, 0, 1, 5, 2, 0, 0, 0, 0, 1]), (8, 8));
     assert_eq!(after_program(&[8, 0, 3, 0, 1, 3, 2, 4, 0, 0, 0, 1]), (5, 8));
-    assert_eq!(
-        after_program(&[8, 0, 3, 0, 1, 9, 2, 3, 9, 9, 9, 9]),
-        (0, 20)
-    );
-    assert_eq!(
-        after_program(&[8, 0, 3, 0, 1, 9, 0, 0, 0, 0, 0, 0]),
-        (0, 20)
-    );
+    let behind_load = |compare: [u8; 12]| {
+        let load = [8, 0, 3, 0, 1, 3, 0, compare[7], 0, 0, 0, 0];
+        after_program(&[load, compare].concat())
+    };
+    assert_eq!(behind_load([8, 0, 3, 0, 1, 9, 2, 3, 9, 9, 9, 9]), (0, 32));
+    assert_eq!(behind_load([8, 0, 3, 0, 1, 9, 0, 0, 0, 0, 0, 0]), (0, 32));
     assert_eq!(after_program(&[8, 0, 3, 0, 1, 9, 3, 3, 9, 9, 9, 9]), (5, 8));
     assert_eq!(after_program(&[8, 0, 3, 0, 1, 9, 2, 4, 9, 9, 9, 9]), (5, 8));
     assert_eq!(after_program(&[8, 0, 3, 0, 2, 9, 2, 3, 9, 9, 9, 9]), (5, 8));

@@ -14,8 +14,8 @@ use crate::streams::machine::generate::{blocked, rows};
 use crate::streams::machine::raw::{decode, encode, ENTRIES_AT, STATE_BYTES};
 use crate::streams::machine::spots::{spots, SpotCounts};
 use crate::streams::random::Random;
-use crate::streams::tally::{missing, Counts, Row};
-use crate::tests::by_hand::{compare, flush_opt, program, store, X, Y};
+use crate::streams::tally::{amiss, Counts, Row};
+use crate::tests::by_hand::{at, compare, flush_opt, load, program, store, X, Y};
 
 #[test]
 fn states_come_back_from_their_bytes() {
@@ -233,8 +233,8 @@ fn rows_by_hand_are_met() {
     assert_eq!(wrong(&trials).len(), 54);
 }
 
-/// What is counted of compares in frames of that run, judged or with its last step alone.
-fn compared(case: &Case, steps: &[Step], alone: bool) -> Vec<(String, u128)> {
+/// What is counted by such names in frames of that run, judged or with its last step alone.
+fn counted(case: &Case, steps: &[Step], alone: bool, name: &str) -> Vec<(String, u128)> {
     let mut case = case.clone();
     let (last, before) = steps.split_last().expect("a step");
     case.set_run(if alone { before } else { steps });
@@ -251,7 +251,7 @@ fn compared(case: &Case, steps: &[Step], alone: bool) -> Vec<(String, u128)> {
     let mut counts = TrialCounts::new();
     counts.take(&trial);
     assert_eq!(counts.wrong(), [""; 0]);
-    let is_such = |row: &Row| row.count > 0 && row.name.contains("compare ");
+    let is_such = |row: &Row| row.count > 0 && row.name.contains(name);
     let rows = counts.rows().into_iter().filter(is_such);
     rows.map(|row| (row.name, row.count)).collect()
 }
@@ -261,26 +261,43 @@ fn compares_are_counted_by_their_outcome() {
     let told = |case: &Case, steps: &[Step], name: &str, count: u128| {
         for (alone, whose, count) in [(false, "in runs", count), (true, "single", 1)] {
             let name = format!("{whose}: {name}");
-            assert_eq!(compared(case, steps, alone), [(name, count)]);
+            assert_eq!(counted(case, steps, alone, "compare "), [(name, count)]);
         }
     };
-    let twice = [issue(0), issue(1)];
-    let other = [compare(Y, 0, 8)];
-    let succeeds = program(&[&[compare(X, 0, 7)], &other]);
+    let twice = [issue(0), issue(1), issue(0), issue(1)];
+    let other = [load(X, 0), compare(Y, 0, 8)];
+    let succeeds = program(&[&[load(Y, 0), compare(X, 0, 7)], &other]);
     told(&succeeds, &twice, "compare succeeds", 2);
     let mut fails = succeeds.clone();
     fails.first[..2].copy_from_slice(&[5, 6]);
     told(&fails, &twice, "compare fails", 2);
     for (first, end) in [(0, "succeed"), (5, "fail")] {
-        let mut waiting = program(&[&[store(Y, 1), compare(X, 0, 7)]]);
+        let mut waiting = program(&[&[load(Y, 0), store(Y, 1), compare(X, 0, 7)]]);
         waiting.first[0] = first;
         let name = format!("22, compare would {end}");
-        told(&waiting, &[issue(0), issue(0)], &name, 1);
-        let mut marked = program(&[&[flush_opt(Y), compare(X, 0, 7)]]);
+        told(&waiting, &[issue(0); 3], &name, 1);
+        let mut marked = program(&[&[load(Y, 0), flush_opt(Y), compare(X, 0, 7)]]);
         marked.first[0] = first;
         let name = format!("23, compare would {end}");
-        told(&marked, &[issue(0), shift(0, 0), issue(0)], &name, 1);
+        let steps = [issue(0), issue(0), shift(0, 0), issue(0)];
+        told(&marked, &steps, &name, 1);
     }
+}
+
+/// Legal ones alone: behind the two there is none left.
+#[test]
+fn stores_from_registers_are_counted() {
+    let case = program(&[&[load(X, 0), at(2, X, 0), at(2, Y, 0)]]);
+    let steps = [issue(0); 4];
+    let told = |count: usize, alone: bool| {
+        let rows = counted(&case, &steps[..count], alone, "store register");
+        let told = rows.iter().map(|(name, count)| format!("{name} {count}"));
+        told.collect::<Vec<String>>()
+    };
+    assert_eq!(told(3, false), ["in runs: store register 2"]);
+    assert_eq!(told(4, false), ["in runs: store register 2"]);
+    assert_eq!(told(3, true), ["single: store register 1"]);
+    assert_eq!(told(4, true), [""; 0]);
 }
 
 /// Frames are left out by how their `machine-judged` line begins and ends.
@@ -296,7 +313,7 @@ fn a_place_that_is_left_out_is_missed() {
         for trial in trials.iter().filter(is_kept) {
             assert!(counts.take(trial, &answer(trial)));
         }
-        missing(&counts.rows())
+        amiss(&counts.rows())
     };
     let job = "blockers' places, 20 by job 0: 87, at least 88 wanted";
     assert_eq!(missed("no such line", ""), [""; 0]);

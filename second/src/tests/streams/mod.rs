@@ -4,5 +4,6 @@ mod cases;
 mod layouts;
 mod machine;
 mod question;
+mod registers;
 mod text;
 mod whole;

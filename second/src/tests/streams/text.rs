@@ -39,8 +39,8 @@ first d 7
 
 thread 0
   store x 500
+  load d r3
   store y r3
-  load d r1
   xchg y r2 0
   clflush x
   clflushopt y
@@ -50,6 +50,7 @@ thread 0
 thread 1
 
 thread 2
+  load x r3
   cmpxchg d r3 4294967295
   store d 9
 
@@ -72,18 +73,16 @@ fn outage() -> Case {
 fn everything() -> Case {
     let first = [
         store(X, 500),
+        load(7, 3),
         Instruction::new(2, Y, 3, 0),
-        load(7, 1),
         exchange(Y, 2, 0),
         flush(X),
         flush_opt(Y),
         SFENCE,
         MFENCE,
     ];
-    let mut case = laid_out(
-        &Layout::own(8),
-        &[&first, &[], &[compare(7, 3, u32::MAX), store(7, 9)]],
-    );
+    let third = [load(X, 3), compare(7, 3, u32::MAX), store(7, 9)];
+    let mut case = laid_out(&Layout::own(8), &[&first, &[], &third]);
     (case.first[1], case.first[7]) = (u32::MAX, 7);
     (case.wanted[0], case.wanted[7], case.want[7]) = (true, true, 12);
     (case.passed[0], case.passed[2]) = (8, 1);
@@ -305,9 +304,11 @@ fn freedoms_are_told() {
 
 #[test]
 fn spellings_are_told() {
-    let case = laid_out(&Layout::own(1), &[&[compare(X, 1, 7), compare(X, 0, 2)]]);
+    let code = [load(X, 1), load(X, 0), compare(X, 1, 7), compare(X, 0, 2)];
+    let case = laid_out(&Layout::own(1), &[&code]);
+    let loads = "  load x r1\n  load x r0\n";
     let text = |first: &str, second: &str| {
-        format!("locations x\n\nthread 0\n  {first} x r1 7\n  {second} x r0 2\n")
+        format!("locations x\n\nthread 0\n{loads}  {first} x r1 7\n  {second} x r0 2\n")
     };
     assert_eq!(written(&case).plain, text("cmpxchg", "cmpxchg"));
     let spelled = |first: &str, second: &str| {

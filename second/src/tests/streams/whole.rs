@@ -10,7 +10,7 @@ use crate::streams::random::Random;
 use crate::streams::tally::Counts;
 use crate::streams::whole::counts::WholeCounts;
 use crate::streams::whole::generate::frames;
-use crate::tests::by_hand::{compare, program, store, with_five, X, Y};
+use crate::tests::by_hand::{compare, load, program, store, with_five, X, Y};
 
 /// Two threads that write x, one of them y: three runs written out, two runs that cannot go on and
 /// two cut off in turn, and a step too many.
@@ -73,18 +73,19 @@ fn frames_that_are_not_as_they_must_be() {
     assert_eq!(wrong(&all), [none]);
 }
 
-/// x holds 5 and the registers 0, so that each thread's first compare fails, and no run has the full
-/// length, 9. Thread 1 compares again, with the 5, and writes x.
+/// x holds 5 and y never does, so that each thread's first compare fails, and no run has the full
+/// length, 11. Thread 1 compares again, with the 5, and writes x.
 #[test]
 fn the_frames_of_a_program_with_compares() {
-    let code = [compare(X, 0, 1), store(Y, 2)];
-    let case = with_five(&[&code, &[compare(X, 0, 3), compare(X, 0, 4)]]);
+    let code = [load(Y, 0), compare(X, 0, 1), store(Y, 2)];
+    let again = [load(Y, 0), compare(X, 0, 3), compare(X, 0, 4)];
+    let case = with_five(&[&code, &again]);
     let mut all = frames::all(&mut Random::new(1), &case);
     assert_eq!((all.len(), wrong(&all)), (7, Vec::new()));
     let finished = read(&all[2].input).case;
     let steps = &finished.steps[..usize::from(finished.count)];
     let failed = Outcome::failed(&finished, steps);
-    assert_eq!((failed, steps.len()), (2, 7));
+    assert_eq!((failed, steps.len()), (2, 9));
     for (more, said) in [(1, None), (2, Some("frame 3: more than one step too many"))] {
         let mut beyond = finished.clone();
         beyond.set_run(&[steps, &vec![issue(0); more][..]].concat());

@@ -6,6 +6,7 @@ use crate::streams::cases::frame::Frame;
 use crate::streams::cases::marks::marked;
 use crate::streams::layouts::Layout;
 use crate::streams::random::Random;
+use crate::streams::registers::takes;
 
 /// The last record decides: its number is 0 or what it must be refused with.
 struct Edge {
@@ -65,10 +66,28 @@ fn behind_program(threads: u8, layout: &Layout) -> Vec<Edge> {
     records.extend(operations(threads, locations));
     records.extend(steps(threads, layout.lines()));
     let behind = records.into_iter().map(|(record, number)| Edge {
-        records: vec![program(threads, layout), record],
+        records: [
+            vec![program(threads, layout)],
+            loaded(threads, &record),
+            vec![record],
+        ]
+        .concat(),
         number,
     });
     behind.collect()
+}
+
+/// What an instruction's register needs before it: without it there would be two faults, or one where there
+/// is to be none.
+fn loaded(threads: u8, record: &Record) -> Vec<Record> {
+    match record.payload[..] {
+        [thread, operation, _, register @ 0..=3, ..]
+            if record.kind == 3 && takes(operation) && thread < threads =>
+        {
+            vec![instruction([thread, 3, 0, register], 0)]
+        }
+        _ => Vec::new(),
+    }
 }
 
 /// A program record alone.
@@ -227,9 +246,7 @@ fn passed(random: &mut Random, threads: u8, locations: u8) -> Vec<Edge> {
             for least in [0, 1, count, count + 1, 9, 255] {
                 let mut records = vec![program(threads, &Layout::own(locations))];
                 let issuer = if there { thread } else { 0 };
-                for _ in 0..count {
-                    records.push(random_instruction(random, issuer, locations));
-                }
+                records.extend(random_thread(random, issuer, count, locations));
                 records.push(Record::new(5, &[thread, least]));
                 let number = match least {
                     _ if !there || least > count => 5,
@@ -249,9 +266,7 @@ fn limits(random: &mut Random) -> Vec<Edge> {
     let locations = random.between(1, 8);
     for thread in 0..4 {
         let mut records = vec![program(4, &Layout::draw(random, locations))];
-        for _ in 0..8 {
-            records.push(random_instruction(random, thread, locations));
-        }
+        records.extend(random_thread(random, thread, 8, locations));
         edges.push(Edge {
             records: records.clone(),
             number: 0,

@@ -3,13 +3,15 @@
 use super::records::program;
 use super::sketch::{any_layout, Fill, Sketch};
 use super::valid::ROW;
+use crate::judge::case::{Case, Instruction, MOST_INSTRUCTIONS, REGISTERS};
 use crate::judge::form::fits;
-use crate::judge::machine::rules::COMPARE;
+use crate::judge::machine::rules::{COMPARE, STORE_REGISTER};
 use crate::judge::reading::read;
 use crate::streams::cases::answer::answer;
 use crate::streams::cases::frame::{slot, Frame, FIELDS_END};
 use crate::streams::layouts::Layout;
 use crate::streams::random::Random;
+use crate::streams::registers::{sets, takes, Registers};
 
 const ALL: (u32, u32) = (1, FIELDS_END);
 /// The fields of version and lines.
@@ -95,8 +97,13 @@ pub fn operations(random: &mut Random) -> Vec<Frame> {
         let code = read(&file).case.code;
         let mut places: Vec<usize> = (0..code.len()).collect();
         let is_compare = |place: &usize| code[*place].operation == COMPARE;
-        let only_compares = frames.len() % 2 == 0 && places.iter().any(is_compare);
-        places.retain(|place| code[*place].operation > 0 && (is_compare(place) || !only_compares));
+        // The register of a store from one is set, so that a compare may stand there.
+        let such: fn(u8) -> bool = match frames.len() % 4 {
+            0 => |operation| operation == STORE_REGISTER,
+            1 => |operation| operation > 0,
+            _ => |operation| operation == COMPARE,
+        };
+        places.retain(|place| such(code[*place].operation));
         if let Some(place) = random.pick_some(&places) {
             let other = random.pick(&[1, 4, 4, 7, COMPARE + 1]);
             let new = random.pick(&[COMPARE, COMPARE + 1]);
@@ -106,6 +113,65 @@ pub fn operations(random: &mut Random) -> Vec<Frame> {
         }
     }
     frames
+}
+
+/// Cases that only an unset register makes unreadable: a store from one or a compare takes another, or what
+/// set it no longer does. One in four is readable: another one was set too.
+pub fn registers(random: &mut Random) -> Vec<Frame> {
+    let mut frames = Vec::new();
+    while frames.len() < 280 {
+        let file = base(random);
+        let unset = frames.len() % 4 > 0;
+        if let Some((field, value)) = any_register(random, &read(&file).case, unset) {
+            frames.push(frame(random, file, field, value));
+        }
+    }
+    frames
+}
+
+/// A field and its value; none where no change of one does that.
+pub fn any_register(random: &mut Random, case: &Case, unset: bool) -> Option<(u32, u32)> {
+    let places = (0..case.code.len()).flat_map(|place| registered(case, place, unset));
+    let places: Vec<(u32, u8)> = places.collect();
+    let (field, value) = random.pick_some(&places)?;
+    Some((field, value.into()))
+}
+
+/// Fields of the instruction at that place, with other values that leave a register unset, or none; all else
+/// stays in range.
+fn registered(case: &Case, place: usize, unset: bool) -> Vec<(u32, u8)> {
+    let (one, first) = (
+        case.code[place],
+        place / MOST_INSTRUCTIONS * MOST_INSTRUCTIONS,
+    );
+    let (operation, register) = (15 + 4 * place as u32, 17 + 4 * place as u32);
+    let others = (0..REGISTERS).filter(|&other| other != one.register);
+    let mut tried: Vec<(u32, u8)> = match one.operation {
+        2 | 3 => vec![(operation, 5 - one.operation)],
+        4 | 9 => vec![(operation, 13 - one.operation)],
+        _ => Vec::new(),
+    };
+    if takes(one.operation) || sets(one.operation) {
+        tried.extend(others.map(|other| (register, other)));
+    }
+    tried.retain(|&(field, value)| {
+        let mut changed = case.clone();
+        if let Some(mut slot) = slot(&mut changed, field) {
+            slot.set(value.into());
+        }
+        let thread = &changed.code[first..first + MOST_INSTRUCTIONS];
+        leaves_unset(thread) == unset
+    });
+    tried
+}
+
+/// Some register is taken that nothing before has set.
+fn leaves_unset(thread: &[Instruction]) -> bool {
+    let taken = |at: usize| {
+        let before = Registers::behind(&thread[..at]);
+        takes(thread[at].operation) && !before.has(thread[at].register)
+    };
+    (0..thread.len()).any(taken)
 }
 
 /// Counts at their ends, junk behind them, wants with and without flag, versions and lines.

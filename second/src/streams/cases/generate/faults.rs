@@ -5,6 +5,7 @@ use super::pairs::*;
 use super::records::{join, random_instruction};
 use super::sketch::Sketch;
 use super::spoil::*;
+use super::unset::*;
 use crate::streams::cases::frame::Frame;
 use crate::streams::cases::marks::marked;
 use crate::streams::random::Random;
@@ -12,7 +13,7 @@ use crate::streams::random::Random;
 type Maker = fn(&mut Random) -> Faulty;
 
 /// Family, its maker, how many frames of it.
-const MAKERS: [(&str, Maker, usize); 28] = [
+const MAKERS: [(&str, Maker, usize); 38] = [
     ("fault 1 (head)", cut_head, 200),
     ("fault 1 (payload)", cut_payload, 400),
     ("fault 2", unknown_kind, 520),
@@ -23,6 +24,7 @@ const MAKERS: [(&str, Maker, usize); 28] = [
     ("fault 7", ninth_instruction, 520),
     ("fault 8", unused_set, 520),
     ("fault 9", one_step_more, 520),
+    ("fault 10", unset_register, 300),
     ("faults 2+3", unknown_kind_odd_length, 120),
     ("faults 2+1 (payload)", unknown_kind_cut, 120),
     ("faults 2+4", unknown_kind_first, 120),
@@ -41,7 +43,20 @@ const MAKERS: [(&str, Maker, usize); 28] = [
     ("faults 8+7", unused_set_ninth, 120),
     ("faults 5+9", out_of_range_step_more, 120),
     ("faults 8+9", unused_set_step_more, 120),
+    ("faults 1 (head)+10", cut_head_unset, 60),
+    ("faults 2+10", unknown_kind_unset, 60),
+    ("faults 3+10", wrong_length_unset, 60),
+    ("faults 1 (payload)+10", cut_unset, 60),
+    ("faults 4+10", out_of_place_unset, 60),
+    ("faults 5+10", out_of_range_unset, 60),
+    ("faults 8+10", unused_set_unset, 60),
+    ("faults 6+10", order_broken_unset, 60),
+    ("faults 7+10", ninth_unset, 60),
 ];
+
+/// How many of them have one fault; and how many of these are cut.
+const SINGLE: usize = 11;
+const CUT: usize = 2;
 
 pub fn all(random: &mut Random) -> Vec<Frame> {
     let mut frames = Vec::new();
@@ -50,7 +65,34 @@ pub fn all(random: &mut Random) -> Vec<Frame> {
             frames.push(frame(random, name, maker));
         }
     }
+    for (name, maker, _) in &MAKERS[..SINGLE] {
+        frames.extend((0..40).map(|_| preceded(random, name, *maker)));
+    }
+    // Nothing can stand behind what is cut.
+    for (name, maker, _) in &MAKERS[CUT..SINGLE] {
+        let name = format!("{name}, 10 behind it");
+        frames.extend((0..40).map(|_| beside(random, &name, *maker, set_behind)));
+    }
     frames
+}
+
+fn preceded(random: &mut Random, name: &str, maker: Maker) -> Frame {
+    beside(random, &format!("{name}, 10 before it"), maker, set_before)
+}
+
+/// A faulty file with an unset register in another record: the first of both decides.
+fn beside(
+    random: &mut Random,
+    name: &str,
+    maker: Maker,
+    set: fn(&mut Random, &Faulty) -> Option<Faulty>,
+) -> Frame {
+    loop {
+        let faulty = maker(random);
+        if let Some(both) = set(random, &faulty) {
+            return marked_faulty(random, name, both);
+        }
+    }
 }
 
 /// A batch of single faults and pairs, each sort as often as any other, and of headers.
@@ -59,6 +101,10 @@ pub fn some(random: &mut Random) -> Vec<Frame> {
         .map(|turn| {
             if turn % 4 == 0 {
                 return headers::one(random);
+            }
+            if turn % 8 == 1 {
+                let (name, maker, _) = random.pick(&MAKERS[..SINGLE]);
+                return preceded(random, name, maker);
             }
             let (name, maker, _) = random.pick(&MAKERS);
             frame(random, name, maker)
@@ -72,8 +118,9 @@ fn frame(random: &mut Random, name: &str, maker: Maker) -> Frame {
 }
 
 pub fn marked_faulty(random: &mut Random, name: &str, faulty: Faulty) -> Frame {
-    let offset = faulty.before.len();
-    let input = [faulty.before, faulty.record, faulty.after].concat();
+    let before = join(&faulty.before);
+    let offset = before.len();
+    let input = [before, faulty.record, faulty.after].concat();
     let room = random.pick(&[0, 7, 8, 9, 12, 64]);
     marked(name, faulty.number, offset, input, room)
 }
@@ -87,7 +134,7 @@ fn cut_head(random: &mut Random) -> Faulty {
     let least = usize::from(!before.is_empty());
     record.truncate(least + random.below(4 - least));
     Faulty {
-        before: join(&before),
+        before,
         record,
         after: Vec::new(),
         number: 1,

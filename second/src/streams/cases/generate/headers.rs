@@ -1,7 +1,7 @@
 //! Program records with one fault, or two whose checks both look at them, marked with the answer they
 //! must get: the number of the check that comes first.
 
-use super::records::{join, Record};
+use super::records::Record;
 use super::sketch::{any_layout, Sketch};
 use super::spoil::{any_kind, strange_kind, whole, Faulty};
 use crate::judge::case::{OWN_LINES, TOLD_LINES};
@@ -132,7 +132,7 @@ impl Header {
             Some(there) => {
                 record.truncate(there);
                 Faulty {
-                    before: join(&self.before),
+                    before: self.before,
                     record,
                     after: Vec::new(),
                     number,

@@ -1,7 +1,7 @@
 //! The frames of cases, from a seed.
 
 mod boundaries;
-mod changes;
+pub mod changes;
 mod damage;
 pub mod faults;
 mod headers;
@@ -9,6 +9,7 @@ mod pairs;
 pub mod records;
 pub mod sketch;
 mod spoil;
+mod unset;
 pub mod valid;
 
 use crate::streams::cases::frame::Frame;
@@ -16,7 +17,7 @@ use crate::streams::parts::{hand_out, Part, Take};
 use std::io;
 
 /// Made once, whatever the number of frames asked for.
-const ONCE: [Part<Frame>; 16] = [
+const ONCE: [Part<Frame>; 18] = [
     valid::all,
     damage::truncated,
     damage::flipped,
@@ -28,9 +29,11 @@ const ONCE: [Part<Frame>; 16] = [
     faults::all,
     headers::all,
     boundaries::all,
+    unset::places,
     changes::telling,
     changes::versions,
     changes::operations,
+    changes::registers,
     changes::all,
     changes::readable,
 ];

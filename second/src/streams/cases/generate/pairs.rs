@@ -45,7 +45,7 @@ pub fn wrong_length_cut(random: &mut Random) -> Faulty {
     let mut bytes = record.with_length(length);
     bytes.truncate(4 + random.below(record.payload.len() + 1));
     Faulty {
-        before: join(&before),
+        before,
         record: bytes,
         after: Vec::new(),
         number: 3,

@@ -3,6 +3,7 @@
 
 use crate::streams::layouts::Layout;
 use crate::streams::random::Random;
+use crate::streams::registers::{Registers, EVERY};
 
 /// Location, register, word: which of them operations 1 to 9 use.
 pub const OPERATION_USES: [[bool; 3]; 9] = [
@@ -78,7 +79,7 @@ pub fn instruction(fields: [u8; 4], word: u32) -> Record {
 }
 
 pub fn random_instruction(random: &mut Random, thread: u8, locations: u8) -> Record {
-    let operation = random.between(1, 9);
+    let operation = random.pick(&EVERY);
     let [location, register, word] = OPERATION_USES[usize::from(operation) - 1];
     let fields = [
         thread,
@@ -91,6 +92,19 @@ pub fn random_instruction(random: &mut Random, thread: u8, locations: u8) -> Rec
         if register { random.between(0, 3) } else { 0 },
     ];
     instruction(fields, if word { random.word() } else { 0 })
+}
+
+/// So many instructions of a thread, which may stand in a file.
+pub fn random_thread(random: &mut Random, thread: u8, count: u8, locations: u8) -> Vec<Record> {
+    let mut registers = Registers::default();
+    let one = |_| {
+        let mut record = random_instruction(random, thread, locations);
+        if let [_, operation, _, register, ..] = &mut record.payload[..] {
+            registers.mend(random, operation, register);
+        }
+        record
+    };
+    (0..count).map(one).collect()
 }
 
 pub fn random_step(random: &mut Random, threads: u8, lines: u8) -> Record {

@@ -45,10 +45,8 @@ impl Sketch {
 
     pub fn fill_thread(&mut self, random: &mut Random, thread: u8, count: u8) {
         self.counts[usize::from(thread)] = count;
-        for _ in 0..count {
-            let instruction = random_instruction(random, thread, self.locations);
-            self.sections[2].push(instruction);
-        }
+        let code = random_thread(random, thread, count, self.locations);
+        self.sections[2].extend(code);
     }
 
     fn fill_questions(&mut self, random: &mut Random, eighths: u8) {

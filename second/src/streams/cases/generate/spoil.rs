@@ -6,7 +6,7 @@ use crate::streams::random::Random;
 
 /// A valid part, then the faulty record; the number is the one that must be answered.
 pub struct Faulty {
-    pub before: Vec<u8>,
+    pub before: Vec<Record>,
     pub record: Vec<u8>,
     /// What stands behind: nothing where the record is cut.
     pub after: Vec<u8>,
@@ -25,7 +25,7 @@ pub fn whole(random: &mut Random, before: &[Record], record: Vec<u8>, number: u8
         _ => random_step(random, 1, 1).bytes(),
     };
     Faulty {
-        before: join(before),
+        before: before.to_vec(),
         record,
         after,
         number,
@@ -36,7 +36,7 @@ pub fn whole(random: &mut Random, before: &[Record], record: Vec<u8>, number: u8
 pub fn cut(random: &mut Random, before: &[Record], mut record: Vec<u8>, number: u8) -> Faulty {
     record.truncate(4 + random.below(record.len() - 4));
     Faulty {
-        before: join(before),
+        before: before.to_vec(),
         record,
         after: Vec::new(),
         number,

@@ -48,14 +48,16 @@ fn trial(random: &mut Random, spot: &Spot, job: usize) -> Trial {
 }
 
 fn run(random: &mut Random, spot: &Spot) -> Trial {
+    // These may need all eight instructions of the thread.
+    let own = usize::from(![Seat::At(6), Seat::Between].contains(&spot.seat));
     let mut script = match spot.rule {
         BUFFER_NOT_EMPTY | BARRED => {
             let line = random.between(0, 3);
-            Script::of(random, spot.which, line)
+            Script::of(random, spot.which, line, own)
         }
         _ => {
             let thread = random.between(0, 3);
-            Script::of(random, thread, spot.which)
+            Script::of(random, thread, spot.which, own)
         }
     };
     let s = &mut script;
@@ -71,8 +73,9 @@ fn run(random: &mut Random, spot: &Spot) -> Trial {
 
 /// Between the first entry that bars the flush-opt and the flush-opt may stand more such.
 fn barred_behind(random: &mut Random, s: &mut Script, position: u8) {
+    let left = 6 - s.case.counts[usize::from(s.thread)];
     barred_after(random, s, position, &BARS);
-    let between = random.between(0, 6 - position);
+    let between = random.between(0, left - position);
     for _ in 0..between {
         s.own_anywhere(random, &WAITING);
     }

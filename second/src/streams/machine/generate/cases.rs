@@ -9,6 +9,7 @@ use crate::judge::machine::judge::LEGAL;
 use crate::judge::reading::read;
 use crate::judge::writing::encode;
 use crate::streams::cases::frame::{slot, FIELDS_END};
+use crate::streams::cases::generate::changes::any_register;
 use crate::streams::cases::generate::faults;
 use crate::streams::cases::generate::records::random_step;
 use crate::streams::cases::generate::sketch::Sketch;
@@ -21,7 +22,7 @@ use crate::streams::random::Random;
 /// empty case.
 pub fn refused(random: &mut Random) -> Vec<Trial> {
     let mut trials = Vec::new();
-    while trials.len() < 2000 {
+    while trials.len() < 2400 {
         for frame in faults::some(random) {
             let mark = mark_of(&frame).filter(|_| frame.input.len() <= MOST_INPUT as usize);
             if let Some(mark) = mark {
@@ -70,7 +71,7 @@ pub fn longest(random: &mut Random) -> Vec<Trial> {
 
 /// 1,328 bytes or 1,336, with a legal run of 96 steps.
 fn longest_file(random: &mut Random) -> Vec<u8> {
-    let mut case = program(random, 8, &[8; 4], &LONG);
+    let mut case = program(random, 8, &[8; 4], &LONGEST);
     for location in 0..8 {
         case.first[location] = word(random).max(1);
         case.wanted[location] = true;
@@ -148,6 +149,26 @@ fn moved_to_another_line(random: &mut Random) -> Trial {
             return trial;
         }
     }
+}
+
+/// Runs, single steps and starts of cases in which a change left a register unset.
+pub fn unset(random: &mut Random) -> Vec<Trial> {
+    let mut trials = Vec::new();
+    while trials.len() < 240 {
+        let mut trial = match trials.len() % 3 {
+            0 => run_to_change(random),
+            1 => steps::some(random).remove(0),
+            _ => Trial {
+                job: Job::Start,
+                ..run_to_change(random)
+            },
+        };
+        if let Some(change) = any_register(random, &read(&trial.input).case, true) {
+            (trial.field, trial.value) = change;
+            trials.push(trial);
+        }
+    }
+    trials
 }
 
 pub fn run_to_change(random: &mut Random) -> Trial {

@@ -28,7 +28,7 @@ impl Plot<'_> {
 
     fn at(&mut self, thread: u8, operation: u8, location: u8, word: u32) {
         let made = Instruction::new(operation, location, self.register, word);
-        self.s.issue(thread, made);
+        self.s.issue(self.random, thread, made);
     }
 
     /// The other thread leaves a word there for all to see.

@@ -4,6 +4,7 @@ mod beside;
 pub mod blocked;
 mod cases;
 mod compares;
+mod junk;
 mod misfits;
 mod moves;
 mod near;
@@ -25,7 +26,7 @@ use crate::streams::random::Random;
 use std::io;
 
 /// Made once, whatever the number of frames asked for.
-const ONCE: [Part<Trial>; 15] = [
+const ONCE: [Part<Trial>; 16] = [
     runs::every_length,
     runs::filled,
     runs::ended_by_each_rule,
@@ -33,6 +34,7 @@ const ONCE: [Part<Trial>; 15] = [
     cases::refused,
     cases::longest,
     cases::changed,
+    cases::unset,
     starts::all,
     steps::all,
     steps::everywhere,

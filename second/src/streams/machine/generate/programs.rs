@@ -5,20 +5,23 @@ use crate::judge::machine::work::full_length;
 use crate::streams::cases::generate::records::OPERATION_USES;
 use crate::streams::layouts::{self, Layout};
 use crate::streams::random::Random;
+use crate::streams::registers::mend;
+pub use crate::streams::registers::EVERY;
 
-pub const EVERY: [u8; 9] = [1, 2, 3, 4, 5, 6, 7, 8, 9];
 /// Those whose steps do not hang on words: a compare writes or not.
-pub const SURE: [u8; 8] = [1, 2, 3, 4, 5, 6, 7, 8];
+pub const SURE: [u8; 9] = [1, 2, 2, 3, 4, 5, 6, 7, 8];
 /// What waits in a store buffer.
 pub const WAITING: [u8; 5] = [1, 2, 5, 6, 7];
+/// Three steps each, but for the load that a store from a register needs.
+pub const LONG: [u8; 6] = [1, 2, 2, 2, 2, 6];
 /// Three steps each.
-pub const LONG: [u8; 3] = [1, 2, 6];
+pub const LONGEST: [u8; 2] = [1, 6];
 /// Mostly three steps each.
-const LONGISH: [u8; 13] = [1, 1, 1, 2, 2, 6, 6, 6, 4, 5, 7, 3, 9];
+const LONGISH: [u8; 17] = [1, 1, 2, 2, 2, 2, 2, 6, 6, 6, 4, 5, 7, 3, 9, 9, 9];
 /// Markers and what they stop.
-pub const FENCED: [u8; 10] = [6, 6, 6, 7, 8, 4, 5, 1, 5, 9];
-/// Compares, and what makes them succeed or fail.
-pub const COMPARING: [u8; 8] = [3, 3, 9, 9, 9, 1, 4, 6];
+pub const FENCED: [u8; 13] = [6, 6, 6, 7, 8, 4, 5, 1, 2, 5, 9, 9, 3];
+/// Compares, what makes them succeed or fail, and what hands on the word that they read.
+pub const COMPARING: [u8; 12] = [3, 3, 9, 9, 9, 9, 9, 1, 4, 6, 2, 2];
 
 pub fn word(random: &mut Random) -> u32 {
     let any = random.below(1 << 32) as u32;
@@ -72,6 +75,7 @@ pub fn program(random: &mut Random, locations: u8, counts: &[u8], operations: &[
             add(&mut case, thread, made);
         }
     }
+    mend(random, &mut case);
     case
 }
 
@@ -83,7 +87,9 @@ pub fn any(random: &mut Random) -> Case {
     let (least, most) = random.pick(&[(8, 8), (8, 8), (4, 8), (0, 8), (1, 3)]);
     let threads = random.pick(&[1, 2, 3, 4, 4]);
     let counts: Vec<u8> = (0..threads).map(|_| random.between(least, most)).collect();
-    let operations: [&[u8]; 5] = [&EVERY, &LONG, &LONGISH, &FENCED, &COMPARING];
+    let operations: [&[u8]; 7] = [
+        &EVERY, &LONG, &LONGEST, &LONGISH, &FENCED, &COMPARING, &COMPARING,
+    ];
     let operations = random.pick(&operations);
     let mut case = program(random, locations, &counts, operations);
     if random.one_in(2) {
@@ -103,6 +109,7 @@ pub fn tame(random: &mut Random, case: &mut Case) {
             one.word = random.pick(&[0, 1, 2]);
         }
     }
+    mend(random, case);
 }
 
 /// A program whose full length is at least so much.
@@ -114,7 +121,11 @@ pub fn as_long_as(random: &mut Random, length: u32) -> Case {
         }
     }
     let locations = random.pick(&[1, 2, 8]);
-    program(random, locations, &[8; 4], &LONG)
+    let long = program(random, locations, &[8; 4], &LONG);
+    match full_length(&long) {
+        Ok(full) if full >= length && !random.one_in(8) => long,
+        _ => program(random, locations, &[8; 4], &LONGEST),
+    }
 }
 
 /// First contents, and wants and passed counts, which the machine does not look at.

@@ -9,6 +9,7 @@ use crate::streams::layouts::{self, Layout};
 use crate::streams::machine::frame::{Job, Trial};
 use crate::streams::machine::marks::{marked, with_blocker};
 use crate::streams::random::Random;
+use crate::streams::registers::mend;
 
 /// A row a line: how x, y and z lie on lines; the threads' instructions; the run, as document 01 prints it;
 /// the rule that its last step breaks; the blocker.
@@ -74,6 +75,7 @@ fn trial(random: &mut Random, row: &str, job: Job) -> Trial {
             add(&mut case, thread, instruction(random, told));
         }
     }
+    mend(random, &mut case);
     let steps: Vec<Step> = parts[2].split(' ').map(step).collect();
     case.set_run(&steps);
     let rule = parts[3].parse().expect("a rule");
@@ -82,7 +84,7 @@ fn trial(random: &mut Random, row: &str, job: Job) -> Trial {
     with_blocker(trial, Some(place(parts[4])))
 }
 
-/// Words and registers are drawn.
+/// Words and registers are drawn; a compare's is then one that was loaded.
 fn instruction(random: &mut Random, told: &str) -> Instruction {
     let (name, at) = told.split_once(' ').unwrap_or((told, "x"));
     let operation = match name {

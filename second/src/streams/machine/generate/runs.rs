@@ -96,11 +96,17 @@ fn legal_run(random: &mut Random, length: usize) -> Trial {
 /// Runs that issue all, then move all, then persist: buffers of eight, and a queue of
 /// thirty-two where there is one line.
 pub fn filled(random: &mut Random) -> Vec<Trial> {
-    let buffers = (20..=50).chain([32; 40]);
-    let queues = (51..=80).chain([64; 40]);
+    let buffers = (20..=50).chain([32; 60]);
+    let queues = (51..=80).chain([64; 60]);
     let mut trials = Vec::new();
     for length in buffers.chain(queues) {
-        let operations: &[u8] = if length > 50 { &LONG } else { &WAITING };
+        // A thread that stores from a register has a load too, which does not wait.
+        let operations: &[u8] = match (length > 50, random.one_in(2)) {
+            (true, true) => &LONG,
+            (true, false) => &LONGEST,
+            (false, true) => &WAITING,
+            (false, false) => &[1, 5, 6, 7],
+        };
         let locations = random.pick(&[1, 1, 2, 8]);
         let mut case = program(random, locations, &[8; 4], operations);
         dress(random, &mut case);
@@ -129,6 +135,7 @@ pub fn some(random: &mut Random) -> Vec<Trial> {
 fn run_ended_by(random: &mut Random, rule: u8) -> Trial {
     loop {
         let length = random.below(MOST_STEPS);
+        let length = if random.one_in(24) { 0 } else { length };
         let long = if random.one_in(2) { length } else { 0 };
         let mut case = as_long_as(random, long as u32);
         dress(random, &mut case);

@@ -1,5 +1,6 @@
 //! States in memory that fit their case by construction, reachable or not.
 
+use super::junk::{add_ignored, add_junk};
 use super::programs::*;
 use super::runs::any_step;
 use crate::judge::case::{Case, Instruction, Step};
@@ -9,16 +10,19 @@ use crate::judge::writing::encode;
 use crate::streams::layouts;
 use crate::streams::machine::frame::{Job, Trial};
 use crate::streams::machine::marks::{marked, with_blocker};
-use crate::streams::machine::raw::{self, ENTRIES_AT, ENTRY_BYTES};
+use crate::streams::machine::raw;
 use crate::streams::random::Random;
+use crate::streams::registers::{mend, takes, Registers};
 
 /// Least and most of what a scene must have: entries waiting and instructions unissued of its
-/// thread, entries in the queue of its location's line; and how much every queue stays below its limit.
+/// thread, entries in the queue of its location's line; the least number of instructions issued of its thread;
+/// and how much every queue stays below its limit.
 pub struct Need {
     pub threads: (u8, u8),
     pub locations: (u8, u8),
     pub waiting: (u8, u8),
     pub unissued: (u8, u8),
+    pub issued: u8,
     pub length: (u8, u8),
     pub spare: u8,
 }
@@ -28,6 +32,7 @@ pub const ANY: Need = Need {
     locations: (1, 8),
     waiting: (0, 8),
     unissued: (0, 8),
+    issued: 0,
     length: (0, 32),
     spare: 0,
 };
@@ -69,7 +74,9 @@ impl Scene {
         let to_come: u8 = loads.iter().map(|load| load.waiting + load.unissued).sum();
         let free = (QUEUE_ROOM as u8).checked_sub(to_come + need.spare)?;
         free.checked_sub(need.length.0)?;
-        let counts = loads.iter().map(|load| random.between(load.unissued, 8));
+        let counts = loads
+            .iter()
+            .map(|load| random.between(load.unissued + load.issued, 8));
         let counts: Vec<u8> = counts.collect();
         let mut case = program(random, locations, &counts, &EVERY);
         dress(random, &mut case);
@@ -183,10 +190,24 @@ impl Scene {
         self.strip_first(self.line(), position);
     }
 
-    /// The thread's next instruction.
-    pub fn set_next(&mut self, instruction: Instruction) {
-        let place = self.next_place();
+    /// The thread's next instruction: one is issued, if it takes a register, and sets it if none did.
+    pub fn set_next(&mut self, random: &mut Random, mut instruction: Instruction) {
+        let (place, first) = (self.next_place(), Case::places(self.thread).start);
+        if takes(instruction.operation) {
+            let registers = Registers::behind(&self.case.code[first..place]);
+            match registers.or_other(random, instruction.register) {
+                Some(register) => instruction.register = register,
+                None => {
+                    let Instruction {
+                        location, register, ..
+                    } = instruction;
+                    self.case.code[place - 1] = Instruction::new(3, location, register, 0);
+                }
+            }
+        }
         self.case.code[place] = instruction;
+        // What follows may have taken a register that the instruction set which stood here.
+        mend(random, &mut self.case);
     }
 
     pub fn next(&self) -> Instruction {
@@ -222,25 +243,27 @@ impl Scene {
     }
 }
 
-/// What a thread has to come, eight at most.
+/// What a thread has to come, eight at most, and the least that it has issued.
 struct Load {
     waiting: u8,
     unissued: u8,
+    issued: u8,
 }
 
 fn draw_loads(random: &mut Random, need: &Need, threads: usize, thread: usize) -> Vec<Load> {
     let most = random.pick(&[1, 3, 8]);
     (0..threads)
         .map(|one| {
-            let (wait, left) = if one == thread {
-                (need.waiting, need.unissued)
+            let (wait, left, issued) = if one == thread {
+                (need.waiting, need.unissued, need.issued)
             } else {
-                ((0, most), (0, most))
+                ((0, most), (0, most), 0)
             };
-            let unissued = random.between(left.0, left.1.min(8 - wait.0));
+            let unissued = random.between(left.0, left.1.min(8 - wait.0.max(issued)));
             Load {
                 waiting: random.between(wait.0, wait.1.min(8 - unissued)),
                 unissued,
+                issued,
             }
         })
         .collect()
@@ -269,46 +292,4 @@ pub fn random_entry(random: &mut Random, locations: u8) -> Entry {
         Entry::FlushOpt(location),
         Entry::Sfence,
     ])
-}
-
-/// Junk behind the counts, and in words and registers that the program lacks.
-pub fn add_junk(random: &mut Random, case: &Case, state: &mut State) {
-    for word in &mut state.words[usize::from(case.locations)..] {
-        *word = super::programs::word(random);
-    }
-    for register in state.registers[usize::from(case.threads)..]
-        .iter_mut()
-        .flatten()
-    {
-        *register = super::programs::word(random);
-    }
-    for queue in &mut state.queues {
-        let used = queue.used().len();
-        for place in &mut queue.places[used..] {
-            place.word = super::programs::word(random);
-            place.mark = random.pick(&[0, 1, 2, 7, 8, 127, 128, 131, 132, 255]);
-        }
-    }
-    for buffer in &mut state.buffers {
-        let used = buffer.used().len();
-        for place in &mut buffer.places[used..] {
-            *place = random_entry(random, 255);
-        }
-    }
-}
-
-/// Kinds above 3, and junk where an entry's kind has no location or no word.
-fn add_ignored(random: &mut Random, state: &mut [u8]) {
-    let entries = &mut state[ENTRIES_AT..ENTRIES_AT + 32 * ENTRY_BYTES];
-    for entry in entries.chunks_mut(ENTRY_BYTES) {
-        let kind = entry[0];
-        entry[0] += 4 * random.pick(&[0, 0, 1, 63]);
-        if kind == 3 {
-            entry[1] = random.between(0, 255);
-        }
-        if kind != 0 {
-            let junk = word(random);
-            entry[2..].copy_from_slice(&junk.to_le_bytes());
-        }
-    }
 }

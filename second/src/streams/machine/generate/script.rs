@@ -4,9 +4,12 @@
 use super::programs::*;
 use crate::judge::case::{Case, Instruction, Step, MOST_INSTRUCTIONS};
 use crate::judge::machine::blocker::Blocker;
+use crate::judge::machine::rules::{COMPARE, EXCHANGE};
 use crate::judge::machine::steps::{issue, persist, shift};
+use crate::judge::whole::program::code;
 use crate::streams::layouts::{self, Layout};
 use crate::streams::random::Random;
+use crate::streams::registers::{mend, takes, Registers};
 
 pub struct Script {
     pub case: Case,
@@ -43,15 +46,15 @@ impl Script {
         script
     }
 
-    /// Of that thread, which has all its instructions left, and about a location on that line.
-    pub fn of(random: &mut Random, thread: u8, line: u8) -> Script {
+    /// Of that thread, which has issued so many instructions at the most, and about a location on that line.
+    pub fn of(random: &mut Random, thread: u8, line: u8, own: usize) -> Script {
         let lines = line.max(1) + 1;
         let locations = random.between(lines, 8);
         let layout = Layout::with_lines(random, locations, lines, false);
         let case = layouts::case(random.between(thread.max(1) + 1, 4), &layout);
         let at = random.pick(&layouts::on_line(&case, line.into()));
         let mut script = Script::begun(random, case, thread, at);
-        script.preface(random, 0, 2);
+        script.preface(random, own, 2);
         script
     }
 
@@ -70,13 +73,21 @@ impl Script {
         }
     }
 
-    /// Instructions of which nothing is left, up to so many of the thread and of each other one; and what
-    /// bystanders leave.
+    /// Instructions of which nothing is left, up to so many of the thread and of each other one, most often a
+    /// load first; and what bystanders leave.
     fn preface(&mut self, random: &mut Random, own: usize, others: usize) {
+        let most = |script: &Script, thread| if thread == script.thread { own } else { others };
+        // Without any now and then, so that a first step can be illegal.
+        let loads = !random.one_in(6);
+        for thread in 0..self.case.threads {
+            if loads && most(self, thread) > 0 {
+                let load = instruction(random, 3, self.case.locations);
+                self.issue(random, thread, load);
+            }
+        }
         for _ in 0..random.below(10) {
             let thread = random.between(0, self.case.threads - 1);
-            let most = if thread == self.thread { own } else { others };
-            self.at_once(random, thread, most);
+            self.at_once(random, thread, most(self, thread));
         }
         self.bystanders(random);
     }
@@ -88,7 +99,7 @@ impl Script {
         }
         let operation = random.pick(&SURE);
         let made = instruction(random, operation, self.case.locations);
-        self.issue(thread, made);
+        self.issue(random, thread, made);
         if WAITING.contains(&operation) {
             self.shift(thread, 0);
         }
@@ -104,15 +115,30 @@ impl Script {
                 for _ in 0..random.below(4) {
                     let operation = random.pick(&[1, 2, 3, 5, 6, 7]);
                     let made = instruction(random, operation, self.case.locations);
-                    self.issue(thread, made);
+                    self.issue(random, thread, made);
                 }
             }
         }
     }
 
-    /// Gives the thread one more instruction and issues it.
-    pub fn issue(&mut self, thread: u8, instruction: Instruction) {
-        add(&mut self.case, usize::from(thread), instruction);
+    /// Gives the thread one more instruction and issues it. It takes a register that is set; where none is, a
+    /// word is stored instead, which waits as well, and a compare is an exchange, which is held back as well.
+    pub fn issue(&mut self, random: &mut Random, thread: u8, mut next: Instruction) {
+        let registers = Registers::behind(code(&self.case, thread.into()));
+        if takes(next.operation) {
+            let Instruction {
+                operation,
+                location,
+                register,
+                ..
+            } = next;
+            let instead = if operation == COMPARE { EXCHANGE } else { 1 };
+            match registers.or_other(random, register) {
+                Some(other) => next.register = other,
+                None => next = instruction_at(random, instead, location),
+            }
+        }
+        add(&mut self.case, usize::from(thread), next);
         self.issue_again(thread);
     }
 
@@ -140,35 +166,35 @@ impl Script {
     pub fn own(&mut self, random: &mut Random, operations: &[u8]) {
         let operation = random.pick(operations);
         let made = instruction_at(random, operation, self.at);
-        self.issue(self.thread, made);
+        self.issue(random, self.thread, made);
     }
 
     /// The same, at its neighbour, which is on the same line.
     pub fn own_beside(&mut self, random: &mut Random, operations: &[u8]) {
         let operation = random.pick(operations);
         let made = instruction_at(random, operation, self.neighbour);
-        self.issue(self.thread, made);
+        self.issue(random, self.thread, made);
     }
 
     /// The same, at the location on another line.
     pub fn own_elsewhere(&mut self, random: &mut Random, operations: &[u8]) {
         let operation = random.pick(operations);
         let made = instruction_at(random, operation, self.elsewhere);
-        self.issue(self.thread, made);
+        self.issue(random, self.thread, made);
     }
 
     /// One of the operations, anywhere, issued by its thread.
     pub fn own_anywhere(&mut self, random: &mut Random, operations: &[u8]) {
         let operation = random.pick(operations);
         let made = instruction(random, operation, self.case.locations);
-        self.issue(self.thread, made);
+        self.issue(random, self.thread, made);
     }
 
     /// A write or a marker in the queue of the location's line, from the thread's empty buffer.
     pub fn queue(&mut self, random: &mut Random, thread: u8, location: u8, operations: &[u8]) {
         let operation = random.pick(operations);
         let made = instruction_at(random, operation, location);
-        self.issue(thread, made);
+        self.issue(random, thread, made);
         if operation != 4 {
             self.shift(thread, 0);
         }
@@ -186,5 +212,6 @@ impl Script {
                 }
             }
         }
+        mend(random, &mut self.case);
     }
 }

@@ -9,6 +9,7 @@ use crate::judge::machine::state::Entry;
 use crate::judge::machine::steps::{issue, shift};
 use crate::streams::layouts;
 use crate::streams::random::Random;
+use crate::streams::registers::takes;
 
 /// A scene whose location is not alone on its line, and another location there.
 fn scene(random: &mut Random, need: &Need) -> (Scene, u8) {
@@ -72,12 +73,14 @@ pub fn filled_beside(random: &mut Random) -> (Scene, Step) {
 pub fn look_past(random: &mut Random, operation: u8) -> (Scene, Step) {
     let need = Need {
         unissued: (1, 8),
+        issued: u8::from(takes(operation)),
         waiting: (0, 0),
         length: (2, 32),
         ..ANY
     };
     let (mut scene, beside) = scene(random, &need);
-    scene.set_next(instruction_at(random, operation, scene.at));
+    let next = instruction_at(random, operation, scene.at);
+    scene.set_next(random, next);
     scene.strip();
     hand_over(&mut scene, beside);
     let (own, line) = (scene.at, scene.line());

@@ -11,12 +11,14 @@ use super::{by_chance, by_turns};
 use crate::judge::case::Step;
 use crate::judge::machine::blocker::Blocker;
 use crate::judge::machine::judge::LEGAL;
+use crate::judge::machine::rules::COMPARE;
 use crate::judge::machine::state::Entry;
 use crate::judge::machine::steps::{issue, persist};
 use crate::judge::whole::outcome::Outcome::{Fails, Succeeds};
 use crate::streams::machine::frame::Trial;
 use crate::streams::machine::marks::FITS;
 use crate::streams::random::Random;
+use crate::streams::registers::takes;
 
 type Maker = fn(&mut Random) -> (Scene, Step);
 
@@ -35,7 +37,11 @@ const MAKERS: [(&str, Maker, u8); 33] = [
     ("step: 27", flush_filled, 27),
     ("step: 28", |random| first_sfence(random, true), 28),
     ("step: 29", |random| persist_of(random, (0, 0)), 29),
-    ("step: legal issue", |r| issue_of(r, &WAITING), LEGAL),
+    (
+        "step: legal issue",
+        |r| issue_of(r, &[1, 2, 2, 2, 5, 6, 7]),
+        LEGAL,
+    ),
     ("step: legal load", |r| issue_of(r, &[3]), LEGAL),
     ("step: legal fence", |r| fence(r, (0, 0), false), LEGAL),
     ("step: legal store", first_store, LEGAL),
@@ -164,14 +170,16 @@ fn none_left(random: &mut Random) -> (Scene, Step) {
 
 /// Exchange, mfence or compare comes next; with or without a marker of the thread.
 fn fence(random: &mut Random, waiting: (u8, u8), marker: bool) -> (Scene, Step) {
-    let scene = before_fence(random, waiting, marker);
+    let scene = before_fence(random, waiting, marker, 0);
     issue_of_fence(random, scene)
 }
 
-/// So many entries of the thread wait, and it has a marker or none; with the blocker of a fence.
-pub fn before_fence(random: &mut Random, waiting: (u8, u8), marker: bool) -> Scene {
+/// So many entries of the thread wait, it has a marker or none, and so many instructions are issued at the
+/// least; with the blocker of a fence.
+pub fn before_fence(random: &mut Random, waiting: (u8, u8), marker: bool, issued: u8) -> Scene {
     let need = Need {
         unissued: (1, 8),
+        issued,
         waiting,
         length: (u8::from(marker), 32),
         ..ANY
@@ -188,21 +196,24 @@ pub fn before_fence(random: &mut Random, waiting: (u8, u8), marker: bool) -> Sce
 }
 
 pub fn issue_of_fence(random: &mut Random, mut scene: Scene) -> (Scene, Step) {
-    let operation = random.pick(&FENCES);
+    let mut fences = [&FENCES[..], &[COMPARE]].concat();
+    fences.retain(|&fence| !takes(fence) || scene.state.issued[scene.thread] > 0);
+    let operation = random.pick(&fences);
     let next = instruction(random, operation, scene.case.locations);
-    scene.set_next(next);
+    scene.set_next(random, next);
     issue_by(scene)
 }
 
 fn issue_of(random: &mut Random, operations: &[u8]) -> (Scene, Step) {
+    let operation = random.pick(operations);
     let need = Need {
         unissued: (1, 8),
+        issued: u8::from(takes(operation)),
         ..ANY
     };
     let mut scene = Scene::new(random, &need);
-    let operation = random.pick(operations);
     let next = instruction(random, operation, scene.case.locations);
-    scene.set_next(next);
+    scene.set_next(random, next);
     issue_by(scene)
 }
 

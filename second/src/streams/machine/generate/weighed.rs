@@ -17,8 +17,9 @@ pub fn compare(
     marker: bool,
     outcome: Outcome,
 ) -> (Scene, Step) {
-    let mut scene = before_fence(random, waiting, marker);
-    scene.set_next(instruction_at(random, COMPARE, scene.at));
+    let mut scene = before_fence(random, waiting, marker, 1);
+    let next = instruction_at(random, COMPARE, scene.at);
+    scene.set_next(random, next);
     decide(random, &mut scene, outcome);
     issue_by(scene)
 }
@@ -53,7 +54,7 @@ fn decide(random: &mut Random, scene: &mut Scene, outcome: Outcome) {
     scene.state.registers[scene.thread][usize::from(next.register)] = held;
     if random.one_in(4) {
         next.word = held;
-        scene.set_next(next);
+        scene.set_next(random, next);
     }
 }
 

@@ -7,6 +7,7 @@ use crate::streams::layouts::{self, Layout};
 use crate::streams::machine::generate::programs::{add, instruction, instruction_at};
 use crate::streams::question::frame::Query;
 use crate::streams::random::Random;
+use crate::streams::registers::{mend, takes};
 
 /// Between the stores: each operation and whether it is at the first store's location.
 const BETWEEN: [&[(u8, bool)]; 16] = [
@@ -55,6 +56,10 @@ fn commit(random: &mut Random, between: &[(u8, bool)]) -> Case {
     let mut case = layouts::case(random.between(1, 4), &layout);
     let thread = usize::from(random.between(0, case.threads - 1));
     let valid = random.between(1, case.locations - 1);
+    if between.iter().any(|&(operation, _)| takes(operation)) {
+        let load = instruction(random, 3, locations);
+        add(&mut case, thread, load);
+    }
     add(&mut case, thread, Instruction::new(1, 0, 0, 500));
     for &(operation, first) in between {
         let location = if first { 0 } else { valid };
@@ -73,17 +78,22 @@ fn commit(random: &mut Random, between: &[(u8, bool)]) -> Case {
     want(&mut case, 0, limit);
     case.passed[thread] = random.pick(&[0, 0, case.counts[thread] - 1, case.counts[thread]]);
     beside(random, &mut case, thread);
+    mend(random, &mut case);
     case
 }
 
-/// Some other threads have an instruction too.
+/// Some other threads have an instruction too, and the load that it may need.
 fn beside(random: &mut Random, case: &mut Case, thread: usize) {
     for other in 0..usize::from(case.threads) {
         if other != thread && random.one_in(2) {
             let operation = random.pick(&[3, 4, 5, 6, 7, 8, 9]);
+            if takes(operation) {
+                let load = instruction(random, 3, case.locations);
+                add(case, other, load);
+            }
             let made = instruction(random, operation, case.locations);
             add(case, other, made);
-            case.passed[other] = random.between(0, 1);
+            case.passed[other] = random.between(0, case.counts[other]);
         }
     }
 }

@@ -3,9 +3,9 @@
 use super::queries::{decided_within, undecided};
 use super::wants::{state_after, want, want_all};
 use crate::judge::ask::{search, End};
-use crate::judge::case::{Case, MOST_STEPS};
+use crate::judge::case::Case;
 use crate::judge::machine::work::full_length;
-use crate::streams::machine::generate::programs::{any, as_long_as, program, word, LONG};
+use crate::streams::machine::generate::programs::{any, as_long_as, program, word, LONG, LONGEST};
 use crate::streams::question::frame::Query;
 use crate::streams::random::Random;
 
@@ -14,19 +14,21 @@ pub fn all(random: &mut Random) -> Vec<Vec<Query>> {
 }
 
 pub fn some(random: &mut Random) -> Vec<Vec<Query>> {
-    let mut cases: Vec<Vec<Query>> = (0..6).map(|_| deepest(random)).collect();
+    let deepest = |turn| deepest(random, if turn % 4 > 0 { &LONG } else { &LONGEST });
+    let mut cases: Vec<Vec<Query>> = (0..12).map(deepest).collect();
     cases.extend((0..12).map(|_| near_the_end(random)));
     cases.extend((0..8).map(|_| too_much(random)));
     cases
 }
 
 /// The longest branch of all is the walk's first, and only its last run reaches the question.
-fn deepest(random: &mut Random) -> Vec<Query> {
+fn deepest(random: &mut Random, operations: &[u8]) -> Vec<Query> {
     loop {
         let locations = random.between(1, 8);
-        let mut case = program(random, locations, &[8; 4], &LONG);
-        ask_for_all(&mut case, MOST_STEPS);
-        let runs = MOST_STEPS as u32 + 1;
+        let mut case = program(random, locations, &[8; 4], operations);
+        let full = full_length(&case).unwrap_or(0);
+        ask_for_all(&mut case, full as usize);
+        let runs = full + 1;
         if let Some(queries) = decided_within(random, &case, runs, runs) {
             return queries;
         }

@@ -8,6 +8,7 @@ use crate::streams::layouts::{self, Layout};
 use crate::streams::machine::generate::programs::{add, instruction, word};
 use crate::streams::question::frame::Query;
 use crate::streams::random::Random;
+use crate::streams::registers::takes;
 
 pub fn all(random: &mut Random) -> Vec<Vec<Query>> {
     let mut cases = draw(random, 24, (300, 3000));
@@ -28,7 +29,8 @@ fn draw(random: &mut Random, count: usize, (least, most): (u32, u32)) -> Vec<Vec
     cases
 }
 
-/// Each thread but the last takes the word from the next thread's location to its own.
+/// Each thread but the last takes the word from the next thread's location to its own; a compare is held
+/// against the own one.
 fn handed(random: &mut Random) -> Case {
     let threads = random.pick(&[2, 2, 2, 3]);
     let mut case = layouts::case(threads, &Layout::draw(random, threads));
@@ -36,16 +38,16 @@ fn handed(random: &mut Random) -> Case {
     for thread in 0..last {
         let take = random.pick(&[3, 3, 4, 9]);
         let register = random.between(0, 3);
-        add(
-            &mut case,
-            thread.into(),
+        let mut code = vec![
             Instruction::new(take, thread + 1, register, 0),
-        );
-        add(
-            &mut case,
-            thread.into(),
             Instruction::new(2, thread, register, 0),
-        );
+        ];
+        if takes(take) {
+            code.insert(0, Instruction::new(3, thread, register, 0));
+        }
+        for one in code {
+            add(&mut case, thread.into(), one);
+        }
     }
     let handed = word(random);
     let first = random.pick(&[1, 1, 4]);

@@ -9,6 +9,7 @@ use crate::streams::layouts::{self, Layout};
 use crate::streams::machine::generate::programs::{add, instruction};
 use crate::streams::question::frame::Query;
 use crate::streams::random::Random;
+use crate::streams::registers::mend;
 
 pub fn all(random: &mut Random) -> Vec<Vec<Query>> {
     let mut cases: Vec<Vec<Query>> = [1, 2]
@@ -22,7 +23,7 @@ pub fn all(random: &mut Random) -> Vec<Vec<Query>> {
 }
 
 pub fn some(random: &mut Random) -> Vec<Vec<Query>> {
-    (0..10).map(|_| draw(random)).collect()
+    (0..16).map(|_| draw(random)).collect()
 }
 
 fn draw(random: &mut Random) -> Vec<Query> {
@@ -48,7 +49,7 @@ fn row(word: u32) -> Case {
     case
 }
 
-/// Each thread compares the location, perhaps behind a load of it, and then writes another one with what
+/// Each thread compares the location, behind a load of it or of the other one, and then writes that with what
 /// the compare read: who failed leaves the winner's word there.
 fn race(random: &mut Random) -> Case {
     let threads = random.pick(&[1, 2, 2, 2, 3]);
@@ -57,9 +58,8 @@ fn race(random: &mut Random) -> Case {
     let mut words = vec![case.first[0]];
     for thread in 0..usize::from(threads) {
         let register = random.between(0, 3);
-        if random.one_in(2) {
-            add(&mut case, thread, Instruction::new(3, 0, register, 0));
-        }
+        let from = random.between(0, 1);
+        add(&mut case, thread, Instruction::new(3, from, register, 0));
         words.push(thread as u32 + 1);
         let new = thread as u32 + 1;
         add(
@@ -76,6 +76,7 @@ fn race(random: &mut Random) -> Case {
         }
         case.passed[thread] = random.pick(&[0, case.counts[thread], case.counts[thread]]);
     }
+    mend(random, &mut case);
     for at in 0..2 {
         if at == 0 || random.one_in(2) {
             let word = random.pick(&words);

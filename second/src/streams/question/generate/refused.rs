@@ -6,7 +6,7 @@ use crate::streams::question::frame::Query;
 use crate::streams::random::Random;
 
 pub fn all(random: &mut Random) -> Vec<Vec<Query>> {
-    (0..16).map(|_| some(random)).collect()
+    (0..24).map(|_| some(random)).collect()
 }
 
 fn some(random: &mut Random) -> Vec<Query> {

@@ -10,11 +10,11 @@ use crate::streams::question::frame::Query;
 use crate::streams::random::Random;
 
 /// Exchanges, compares, fences and what they wait for.
-const HEAVY: [u8; 10] = [4, 4, 8, 8, 7, 7, 6, 1, 9, 9];
+const HEAVY: [u8; 12] = [4, 4, 8, 8, 7, 7, 6, 1, 9, 9, 9, 3];
 /// Values that go from location to location.
-const PASSING: [u8; 7] = [1, 2, 2, 3, 3, 4, 9];
+const PASSING: [u8; 9] = [1, 2, 2, 2, 3, 3, 4, 9, 9];
 /// One step or two each.
-const SHORT: [u8; 7] = [3, 4, 5, 7, 8, 3, 9];
+const SHORT: [u8; 8] = [3, 4, 5, 7, 8, 3, 9, 9];
 
 /// The least and the most runs that decide.
 const EXTENTS: [(u32, u32); 6] = [
@@ -75,10 +75,12 @@ pub fn draw(
 
 fn any(random: &mut Random) -> Case {
     let threads = random.between(1, 4);
-    let most = random.pick(&[[8, 3, 2, 2], [4, 2, 2, 1]])[usize::from(threads) - 1];
+    let most = random.pick(&[[8, 3, 3, 2], [5, 3, 2, 2]])[usize::from(threads) - 1];
     let counts: Vec<u8> = (0..threads).map(|_| random.between(0, most)).collect();
     let locations = random.pick(&[1, 2, 2, 3, 8]);
-    let operations: [&[u8]; 7] = [&EVERY, &LONG, &FENCED, &HEAVY, &PASSING, &SHORT, &COMPARING];
+    let operations: [&[u8]; 9] = [
+        &EVERY, &LONG, &FENCED, &HEAVY, &PASSING, &PASSING, &SHORT, &COMPARING, &COMPARING,
+    ];
     let operations = random.pick(&operations);
     let mut case = program(random, locations, &counts, operations);
     if operations == &COMPARING[..] || random.one_in(4) {

@@ -12,7 +12,7 @@ use std::io;
 /// Made once, whatever the number of programs asked for.
 const ONCE: [Part<Vec<Trial>>; 4] = [
     |random| each(random, &SIZES, 12),
-    |random| each(random, &LARGE, 4),
+    |random| each(random, &LARGE, 6),
     |random| comparing(random, &SIZES, 110),
     |random| comparing(random, &LARGE, 20),
 ];

@@ -6,6 +6,7 @@ use crate::judge::whole::program::{code, writes, writes_word};
 use crate::streams::layouts::{self, Layout};
 use crate::streams::machine::generate::programs::{add, instruction, instruction_at, FENCED, LONG};
 use crate::streams::random::Random;
+use crate::streams::registers::{mend, sets, takes};
 
 pub struct Size {
     pub threads: u8,
@@ -26,7 +27,7 @@ pub const SIZES: [Size; 5] = [
     size(2, 3, 2),
     size(3, 2, 2),
     size(1, 6, 3),
-    size(2, 2, 3),
+    size(2, 3, 3),
     size(4, 1, 2),
 ];
 
@@ -34,13 +35,13 @@ pub const SIZES: [Size; 5] = [
 pub const LARGE: [Size; 2] = [size(3, 3, 2), size(4, 2, 2)];
 
 /// All operations.
-const MIXED: [u8; 19] = [
-    1, 1, 2, 2, 2, 3, 3, 3, 4, 4, 5, 5, 6, 6, 7, 7, 8, 8, COMPARE,
+const MIXED: [u8; 21] = [
+    1, 1, 2, 2, 2, 2, 3, 3, 3, 4, 4, 5, 5, 6, 6, 7, 7, 8, 8, COMPARE, COMPARE,
 ];
 /// Those that hand words on.
-const HANDING: [u8; 6] = [1, 2, 2, 3, 3, 4];
-/// Compares, and what makes them succeed or fail.
-const COMPARING: [u8; 9] = [3, 3, COMPARE, COMPARE, COMPARE, COMPARE, 1, 4, 6];
+const HANDING: [u8; 8] = [1, 2, 2, 2, 2, 3, 3, 4];
+/// Compares, what makes them succeed or fail, and what hands on the word that they read.
+const COMPARING: [u8; 11] = [3, 3, COMPARE, COMPARE, COMPARE, COMPARE, 1, 4, 6, 2, 2];
 
 /// What is made of a program behind its drawing.
 pub type Bent = fn(&mut Random, &mut Case);
@@ -50,33 +51,38 @@ pub const BENTS: [Bent; 5] = [|_, _| {}, contended, alone, idle, handed];
 pub fn draw(random: &mut Random, size: &Size, bent: Bent) -> Case {
     let layout = Layout::draw(random, size.locations);
     let mut case = layouts::case(size.threads, &layout);
-    let operations: [&[u8]; 6] = [&MIXED, &MIXED, &HANDING, &HANDING, &LONG, &FENCED];
+    let operations: [&[u8]; 7] = [&MIXED, &MIXED, &HANDING, &HANDING, &LONG, &LONG, &FENCED];
     let operations = random.pick(&operations);
-    fill(random, &mut case, size, operations);
+    fill(random, &mut case, size, operations, 1);
     few_registers(random, &mut case);
     bent(random, &mut case);
+    mend(random, &mut case);
     set_words(random, &mut case);
     case
 }
 
-/// A program with a compare at the least.
+/// A program with a compare at the least, and so with what sets its register.
 pub fn draw_comparing(random: &mut Random, size: &Size) -> Case {
+    let size = &Size {
+        most: size.most.max(2),
+        ..*size
+    };
     let layout = Layout::draw(random, size.locations);
     let mut case = layouts::case(size.threads, &layout);
-    fill(random, &mut case, size, &COMPARING);
+    fill(random, &mut case, size, &COMPARING, 2);
     compared(random, &mut case);
     few_registers(random, &mut case);
+    mend(random, &mut case);
     set_words(random, &mut case);
     case
 }
 
-/// Instructions of every thread.
-fn fill(random: &mut Random, case: &mut Case, size: &Size, operations: &[u8]) {
+/// Instructions of every thread, of the first so many at the least.
+fn fill(random: &mut Random, case: &mut Case, size: &Size, operations: &[u8], least: u8) {
     for thread in 0..usize::from(size.threads) {
         let any = random.between(0, size.most);
         let count = random.pick(&[size.most, size.most, any]);
-        // Not every thread without an instruction.
-        for _ in 0..count.max(u8::from(thread == 0)) {
+        for _ in 0..count.max(if thread == 0 { least } else { 0 }) {
             let operation = random.pick(operations);
             let made = instruction(random, operation, size.locations);
             add(case, thread, made);
@@ -84,16 +90,21 @@ fn fill(random: &mut Random, case: &mut Case, size: &Size, operations: &[u8]) {
     }
 }
 
-/// In a thread the last instruction is a compare; where there is one before it, that loads or writes the
-/// same location, more often than not.
+/// In a thread the last instruction is a compare; the one before it loads or writes the same location, more
+/// often than not, and always where nothing else there has a register to be set.
 fn compared(random: &mut Random, case: &mut Case) {
     let at = random.between(0, case.locations - 1);
-    let thread = thread_of(random, &case.counts, 1).unwrap_or(0);
+    let thread = thread_of(random, &case.counts, 2).unwrap_or(0);
     let last = code(case, thread).len() - 1;
-    let before = random.pick(&[3, 3, 1, 4, COMPARE]);
     let all = &mut case.code[Case::places(thread)];
     all[last] = instruction_at(random, COMPARE, at);
-    if last > 0 && !random.one_in(4) {
+    if !random.one_in(4) {
+        let before = random.pick(&[3, 3, 1, 4, COMPARE]);
+        all[last - 1] = instruction_at(random, before, at);
+    }
+    let has_register = |one: &Instruction| takes(one.operation) || sets(one.operation);
+    if !all[..last].iter().any(has_register) {
+        let before = random.pick(&[3, 4]);
         all[last - 1] = instruction_at(random, before, at);
     }
 }

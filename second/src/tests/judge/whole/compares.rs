@@ -17,25 +17,27 @@ use std::collections::BTreeSet;
 
 #[test]
 fn a_compare_that_fails_ends_its_run_one_step_sooner() {
-    let found = check_case(&with_five(&[&[compare(X, 0, 1)]]), [2, 1, 1], [1, 2]);
+    let one = [load(Y, 0), compare(X, 0, 1)];
+    let found = check_case(&with_five(&[&one]), [3, 2, 1], [1, 3]);
     assert_eq!((found.succeeded, found.failed), (0, 1));
     assert_eq!((found.unmade, found.left_alone), (1, 1));
     assert_eq!(found.failures, BTreeSet::from([1]));
-    let found = check_numbers(&[&[compare(X, 0, 1)]], [3, 2, 1], [1, 3]);
+    let found = check_numbers(&[&one], [4, 3, 1], [1, 4]);
     assert_eq!((found.succeeded, found.failed), (1, 0));
     assert_eq!((found.unmade, found.left_alone), (0, 0));
     // The register has 5 then, so that the second one succeeds.
-    let twice = [compare(X, 0, 1), compare(X, 0, 2)];
-    let found = check_case(&with_five(&[&twice]), [4, 3, 1], [1, 4]);
+    let twice = [one[0], one[1], compare(X, 0, 2)];
+    let found = check_case(&with_five(&[&twice]), [5, 4, 1], [1, 5]);
     assert_eq!((found.succeeded, found.failed), (1, 1));
 }
 
-/// Whoever comes first writes; the other fails before the persist or behind it.
+/// Whoever comes first writes; the other fails before the persist or behind it. Where both loads come first, in
+/// either order, there are two places for the persist; where one thread is through before the other loads, three.
 #[test]
 fn two_compares_of_two_threads() {
-    let code: [&[Instruction]; 2] = [&[compare(X, 0, 1)], &[compare(X, 0, 2)]];
-    let found = check_numbers(&code, [9, 10, 2], [4, 11]);
-    assert_eq!((found.succeeded, found.failed), (2, 4));
+    let code = [1, 2].map(|word| [load(Y, 0), compare(X, 0, word)]);
+    let found = check_numbers(&[&code[0], &code[1]], [16, 22, 2], [14, 43]);
+    assert_eq!((found.succeeded, found.failed), (4, 4));
     // Nobody but the winner made a write.
     assert_eq!((found.contended, found.unmade), (0, 2));
     assert_eq!(found.won_alone, BTreeSet::from([(0, 0), (0, 1)]));
@@ -45,8 +47,8 @@ fn two_compares_of_two_threads() {
 /// The compare is the last in the thread that would write x, and it fails: x ends with the store.
 #[test]
 fn the_last_write_that_was_really_made() {
-    let code: [&[Instruction]; 1] = [&[store(X, 1), compare(X, 0, 7)]];
-    let found = check_numbers(&code, [6, 6, 1], [2, 7]);
+    let code: [&[Instruction]; 1] = [&[load(Y, 0), store(X, 1), compare(X, 0, 7)]];
+    let found = check_numbers(&code, [7, 7, 1], [2, 8]);
     assert_eq!(found.memories.len(), 1);
     let program = Program::of(&program(&code));
     assert_eq!((program.compares, program.only_word(0)), (true, None));
@@ -57,16 +59,16 @@ fn the_last_write_that_was_really_made() {
 /// differs from the first in how many failed and in nothing else.
 #[test]
 fn ends_of_two_lengths() {
-    let late = [compare(X, 0, 1), store(X, 3), load(Y, 0)];
+    let late = [load(Y, 0), compare(X, 0, 1), store(X, 3), load(Y, 0)];
     let case = program(&[&late, &[store(X, 2)]]);
     let found = confirm(&OURS, &Program::of(&case), MOST);
     assert!(sentences(&found).is_empty());
     assert_eq!(found.failures, BTreeSet::from([0, 1]));
     assert_eq!((found.ends, found.memories.len()), (3, 2));
-    check_walk(&program(&[&late[..2], &[exchange(X, 1, 2)]]));
+    check_walk(&program(&[&late[..3], &[exchange(X, 1, 2)]]));
     check_walk(&program(&[
         &[load(X, 0), compare(X, 0, 1)],
-        &[compare(X, 0, 2)],
+        &[load(Y, 0), compare(X, 0, 2)],
     ]));
 }
 
@@ -98,6 +100,11 @@ fn write(case: &Case, state: &mut State, one: Instruction) {
     state.queues[case.line_of(one.location)].push(write);
 }
 
+/// x holds another word than the register, which was loaded from y.
+fn failing() -> [Instruction; 3] {
+    [load(Y, 0), exchange(X, 1, 5), compare(X, 0, 7)]
+}
+
 #[test]
 fn a_failed_compare_that_writes() {
     let engine = Engine {
@@ -110,7 +117,7 @@ fn a_failed_compare_that_writes() {
         },
         ..OURS
     };
-    let code: [&[Instruction]; 1] = [&[exchange(X, 1, 5), compare(X, 0, 7)]];
+    let code: [&[Instruction]; 1] = [&failing()];
     check_broken(engine, &code, &[STEP, LENGTH, LAST_WRITE, ANY_THREAD]);
 }
 
@@ -127,7 +134,7 @@ fn a_compare_that_writes_nothing() {
         },
         ..OURS
     };
-    let code: [&[Instruction]; 1] = [&[compare(X, 0, 7)]];
+    let code: [&[Instruction]; 1] = [&[load(Y, 0), compare(X, 0, 7)]];
     check_broken(
         engine,
         &code,
@@ -150,7 +157,7 @@ fn a_compare_with_the_persistent_word() {
         },
         ..OURS
     };
-    let code: [&[Instruction]; 1] = [&[exchange(X, 1, 5), compare(X, 0, 7)]];
+    let code: [&[Instruction]; 1] = [&failing()];
     check_broken(engine, &code, &[STEP, LENGTH, LAST_WRITE]);
 }
 
@@ -170,7 +177,7 @@ fn a_compare_that_weighs_otherwise() {
         ..OURS
     };
     for engine in [less, more] {
-        check_broken(engine, &[&[compare(X, 0, 7)]], &[STEP, WEIGHTS]);
+        check_broken(engine, &[&[load(Y, 0), compare(X, 0, 7)]], &[STEP, WEIGHTS]);
     }
 }
 
@@ -179,19 +186,19 @@ fn a_compare_that_weighs_otherwise() {
 fn a_failed_compare_that_uses_up_one() {
     let engine = Engine {
         work: |case, state| {
-            let issued = state.issued[0] > 1;
+            let issued = state.issued[0] > 2;
             work::sum(case, state) + u32::from(issued)
         },
         ..OURS
     };
-    let code: [&[Instruction]; 1] = [&[exchange(X, 1, 5), compare(X, 0, 7)]];
+    let code: [&[Instruction]; 1] = [&failing()];
     check_broken(engine, &code, &[STEP]);
 }
 
 /// Looked up as the request has it: the newest write of the location in its line's queue, else the word.
 #[test]
 fn what_a_compare_reads() {
-    let case = with_five(&[&[compare(X, 0, 1)]]);
+    let case = with_five(&[&[load(Y, 0), compare(X, 0, 1)]]);
     let mut state = State::start(&case);
     assert_eq!((seen(&case, &state, X), seen(&case, &state, Y)), (5, 0));
     for held in [Held::write(X, 6), Held::write(X, 7), Held::marker(0)] {

@@ -132,7 +132,7 @@ fn a_write_that_goes_to_its_lines_first_location() {
         let case = laid_out(&Layout::told(&[0, 0]), &[code]);
         sentences(&confirm(&engine, &Program::of(&case), MOST))
     };
-    let mut astray = [LAST_WRITE, ONE_WRITER, NO_WRITER, ANY_THREAD];
+    let mut astray = [LAST_WRITE, ONE_WRITER, NO_WRITER, ORIGIN, ANY_THREAD];
     astray.sort_unstable();
     assert_eq!(on_one_line(&[store(Y, 1)]), astray);
     assert!(on_one_line(&[store(X, 1), flush_opt(Y)]).is_empty());
@@ -261,7 +261,8 @@ fn a_write_where_nobody_writes() {
         },
         ..OURS
     };
-    check_broken(at_the_end, &[&[store(X, 1)]], &[LAST_WRITE, NO_WRITER]);
+    let unwritten = [LAST_WRITE, NO_WRITER, ORIGIN];
+    check_broken(at_the_end, &[&[store(X, 1)]], &unwritten);
     let on_the_way = Engine {
         advance: |case, state, step| {
             advance(case, state, step);
@@ -269,7 +270,7 @@ fn a_write_where_nobody_writes() {
         },
         ..OURS
     };
-    check_broken(on_the_way, &[&[store(X, 1)]], &[NO_WRITER]);
+    check_broken(on_the_way, &[&[store(X, 1)]], &[NO_WRITER, ORIGIN]);
 }
 
 #[test]

@@ -2,6 +2,7 @@
 
 mod compares;
 mod engines;
+mod origins;
 
 use crate::judge::case::{Case, Instruction};
 use crate::judge::machine::steps::printed;
@@ -44,14 +45,15 @@ fn check_case(case: &Case, states: [u64; 3], runs: [u128; 2]) -> Found {
 fn one_instruction() {
     check_numbers(&[&[]], [1, 0, 1], [1, 1]);
     check_numbers(&[&[store(X, 1)]], [4, 3, 1], [1, 4]);
-    check_numbers(&[&[at(2, X, 0)]], [4, 3, 1], [1, 4]);
     check_numbers(&[&[flush_opt(X)]], [4, 3, 1], [1, 4]);
     check_numbers(&[&[exchange(X, 0, 1)]], [3, 2, 1], [1, 3]);
-    check_numbers(&[&[compare(X, 0, 1)]], [3, 2, 1], [1, 3]);
     check_numbers(&[&[flush(X)]], [3, 2, 1], [1, 3]);
     check_numbers(&[&[SFENCE]], [3, 2, 1], [1, 3]);
     check_numbers(&[&[load(X, 0)]], [2, 1, 1], [1, 2]);
     check_numbers(&[&[MFENCE]], [2, 1, 1], [1, 2]);
+    // Behind the load that they need.
+    check_numbers(&[&[load(X, 0), at(2, X, 0)]], [5, 4, 1], [1, 5]);
+    check_numbers(&[&[load(X, 0), compare(X, 0, 1)]], [4, 3, 1], [1, 4]);
 }
 
 /// The flush is issued while the store waits, while it is queued or behind that, and leaves last.
@@ -111,7 +113,7 @@ fn what_a_program_tells() {
         flush_opt(Y),
         exchange(Y, 0, 2),
         SFENCE,
-        at(2, X, 3),
+        at(2, X, 0),
     ];
     let known = Program::of(&program(&[&code, &[store(Y, 3), load(X, 1), MFENCE]]));
     assert_eq!(known.full, 3 + 3 + 2 + 2 + 3 + 3 + 1 + 1);
@@ -170,8 +172,8 @@ fn the_walk_has_as_many_runs_and_states() {
 /// word that a thread fixed last.
 #[test]
 fn states_that_are_nearly_the_same() {
-    check_walk(&program(&[&[at(2, X, 0)], &[flush_opt(X)]]));
-    let in_front = [load(X, 0), at(2, Y, 0), at(2, Y, 1), load(Y, 0)];
+    check_walk(&program(&[&[load(X, 0), at(2, X, 0)], &[flush_opt(X)]]));
+    let in_front = [load(Y, 1), load(X, 0), at(2, Y, 0), at(2, Y, 1), load(Y, 0)];
     check_walk(&program(&[&in_front, &[store(X, 1)]]));
     let fixed = [load(X, 0), at(2, Y, 0), load(Y, 0)];
     check_walk(&program(&[&fixed, &[store(X, 1), store(Y, 2)]]));
