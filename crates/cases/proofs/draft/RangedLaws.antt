@@ -1,12 +1,10 @@
 -- A sound draft's case has every number in range. Assumes nothing.
 use Prim.Native.Nat.{ℕ, _+_, _*_, _/_, _%_, _<_, _≤_}
 use mathlib.Core.Path.{_≡_, refl, _∙_}
-use mathlib.Core.Logic.{_≢_}
-use mathlib.Core.List.{List}
 use mathlib.Core.Bool.{Bool, true, false}
-use lib.ListN.{length, getD}
-use lib.Dec.{eqb, leb, ltb}
-use borrow.Author.Tests.{leb-false, ltb-false, ltb-true, lt-leb, eqb-true, eqb-false}
+use lib.ListN.{getD}
+use lib.Dec.{eqb, leb}
+use borrow.Author.Tests.{leb-false, ltb-false, lt-leb, eqb-true, eqb-false}
 use native.Mathlib.Omega.{arith}
 use Rattle.cases.specs.declared.case.Program.{Program}
 use Rattle.cases.specs.declared.case.Instruction.{Instruction}
