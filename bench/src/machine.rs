@@ -4,7 +4,7 @@
 use crate::case::{Case, Operation, Operation::*, Step};
 use crate::rows::{Row, Shape};
 
-#[derive(Clone, Copy)]
+#[derive(Clone, Copy, PartialEq, Eq, Hash)]
 pub enum Entry {
     Store(u8, u32),
     Flush(u8),
@@ -13,25 +13,26 @@ pub enum Entry {
 }
 
 /// What waits in a location's queue: a write of a word, or a marker of a thread.
-#[derive(Clone, Copy)]
+#[derive(Clone, Copy, PartialEq, Eq, Hash)]
 pub enum Slot {
     Write(u32),
     Marker(u8),
 }
 
-#[derive(Clone, Copy, Default)]
+#[derive(Clone, Copy, Default, PartialEq, Eq, Hash)]
 pub struct Location<Queue> {
     word: u32,
     queue: Queue,
 }
 
-#[derive(Clone, Copy, Default)]
+#[derive(Clone, Copy, Default, PartialEq, Eq, Hash)]
 pub struct Thread<Buffer> {
     issued: u8,
     registers: [u32; 4],
     buffer: Buffer,
 }
 
+#[derive(PartialEq, Eq, Hash)]
 pub struct State<S: Shape> {
     locations: S::Locations,
     threads: S::Threads,
@@ -72,6 +73,16 @@ impl<S: Shape> State<S> {
 
     pub fn waiting(&self, thread: u8) -> u8 {
         self.threads[thread as usize].buffer.length() as u8
+    }
+
+    /// Every step that there can be, in document 01's order.
+    pub fn steps(&self, case: &Case) -> impl Iterator<Item = Step> + use<'_, S> {
+        let (threads, locations) = (case.threads.len() as u8, case.locations);
+        let moves = |thread| (0..self.waiting(thread)).map(move |position| Step::Move(thread, position));
+        (0..threads)
+            .map(Step::Issue)
+            .chain((0..threads).flat_map(moves))
+            .chain((0..locations).map(Step::Persist))
     }
 
     /// May the step be taken here?

@@ -13,7 +13,9 @@ mod measure;
 mod pairs;
 mod replay;
 mod rows;
+mod states;
 mod table;
+mod twenty;
 mod walk;
 
 use case::Case;
@@ -36,6 +38,7 @@ pub extern "C" fn main() -> i32 {
     let done = match words[..] {
         [] => questions().and_then(|()| judged()),
         ["names"] => names(),
+        ["states"] => count_states(),
         ["question", which] => ask_once(which),
         ["judge", which] => judge_once(which),
         _ => Err(String::from("no such words")),
@@ -105,6 +108,14 @@ fn names() -> Result<(), String> {
     }
     for (which, pair) in pairs::pairs().iter().enumerate().filter(|(_, pair)| in_both(&pair.run)) {
         println!("judge {} {} {}", 2 * which, pair.counted, pair.run.name);
+    }
+    Ok(())
+}
+
+/// Of the twenty: how many distinct states each has.
+fn count_states() -> Result<(), String> {
+    for case in twenty::cases() {
+        println!("{} {}", states::distinct(&case), case.name);
     }
     Ok(())
 }

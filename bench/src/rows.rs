@@ -21,6 +21,7 @@ pub trait Shape: Sized {
 }
 
 /// Idiomatic Rust: vectors, and double-ended queues for the queues.
+#[derive(PartialEq, Eq, Hash)]
 pub struct Vectors;
 
 impl Shape for Vectors {
