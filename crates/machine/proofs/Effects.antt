@@ -1,22 +1,24 @@
 -- What each step does to each part of the state, with buffers and queues seen as lists, and to the words on their
 -- way to each location, whichever queue they go through: beside Promises, all that the layers above may cite of
 -- the machine. Each law is stated in full. Assumes nothing.
-use Prim.Native.Nat.{ℕ, suc, _<_}
+use Prim.Native.Nat.{ℕ, suc, _+_, _*_, _<_}
 use mathlib.Core.Path.{_≡_}
 use mathlib.Core.Logic.{_⊎_, _≢_}
 use mathlib.Core.Bool.{true}
 use mathlib.Core.List.{List, [], _∷_, _++_}
-use lib.ListN.{length, getD}
+use lib.ListN.{length, getD, set}
 use Rattle.cases.specs.declared.case.Location.{Location}
 use Rattle.cases.specs.declared.case.Instruction.{Instruction}
 use Rattle.cases.specs.declared.case.Step.{Step}
 use Rattle.cases.specs.declared.case.Program.{Program}
 use Rattle.cases.specs.Choice.{pick}
 use Rattle.cases.specs.Sizes.{mostThreads, mostLocations, mostRegisters}
-use Rattle.cases.specs.Checks.{limitsOf, linesOf, stepFault, countAt, instructionAt, setBy}
+use Rattle.cases.specs.Checks.{limitsOf, linesOf, stepFault, countAt, instructionAt, setsRegister}
+use Rattle.cases.specs.Checks.{setBy}
 use Rattle.machine.specs.declared.cells.State.{State}
 use Rattle.machine.specs.declared.cells.Entry.the-variants.{FlushOpt}
 use Rattle.machine.specs.View.{Slot, without, queue, buffer, wordOf, registerIn, issuedOf}
+use Rattle.machine.specs.Look.{wordOr}
 use Rattle.machine.specs.Rules.{isBarrier, entryAt, ruleOf, nextOf, startOf}
 use Rattle.machine.specs.Joins.{joins, exchanges, enters, takenBy, storeOf, swapOf, onWay, lastOr}
 use Rattle.machine.specs.Fit.{AllOf, Fits}
@@ -94,6 +96,14 @@ module _ (p : Program) (s : State) (fit : Fits p s) where
         → onWay p (nextOf p s (issueStep t)) l ≡ onWay p s l ++ swapOf p s t l (instructionAt p t (issuedOf s t))
     issue-words = WordEffectLaws.issue-words p s fit t low legal
 
+    -- all registers, and one by one
+    pub issue-registers : nextOf p s (issueStep t) .registers
+        ≡ pick (setsRegister (instructionAt p t (issuedOf s t) .operation))
+        (set (s .registers) (t * mostRegisters + instructionAt p t (issuedOf s t) .register .0)
+        (takenBy p s t (instructionAt p t (issuedOf s t))))
+        (s .registers)
+    issue-registers = RegisterEffectLaws.issue-registers p s fit t low legal
+
     pub issue-register : (r : ℕ) → r < mostRegisters
         → registerIn (nextOf p s (issueStep t) .registers) t r
         ≡ pick (setBy r (instructionAt p t (issuedOf s t))) (takenBy p s t (instructionAt p t (issuedOf s t)))
@@ -151,6 +161,11 @@ module _ (p : Program) (s : State) (fit : Fits p s) where
 
     pub persist-queue : (h : Slot) × (queue s q ≡ h ∷ queue (nextOf p s (persistStep q)) q)
     persist-queue = PersistEffectLaws.persist-queue p s fit q low legal
+
+    -- the oldest of the queue, and what it makes of each location's word
+    pub persist-taken : (h : Slot) × (queue s q ≡ h ∷ queue (nextOf p s (persistStep q)) q)
+        × ((l : ℕ) → l < mostLocations → wordOf (nextOf p s (persistStep q)) l ≡ wordOr l h (wordOf s l))
+    persist-taken = PersistEffectLaws.persist-taken p s fit q low legal
 
     pub persist-queue-other : (m : ℕ) → m < mostLocations → m ≢ q
         → queue (nextOf p s (persistStep q)) m ≡ queue s m

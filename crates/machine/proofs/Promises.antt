@@ -12,7 +12,7 @@ use Rattle.cases.specs.declared.case.Step.{Step}
 use Rattle.cases.specs.declared.case.Program.{Program}
 use Rattle.cases.specs.declared.case.Ask.{Ask}
 use Rattle.cases.specs.declared.case.Case.{Case}
-use Rattle.cases.specs.Sizes.{mostThreads, mostLocations, longest}
+use Rattle.cases.specs.Sizes.{mostThreads, mostLocations, allCode, longest}
 use Rattle.cases.specs.Bytes.{IsBytes}
 use Rattle.cases.specs.Checks.{limitsOf, linesOf, stepFault, countAt}
 use Rattle.cases.specs.Draft.{noStep, runWith, withAsk, withRun}
@@ -24,34 +24,35 @@ use Rattle.machine.specs.declared.cells.State.{State}
 use Rattle.machine.specs.declared.blocker.Blocker.{Blocker}
 use Rattle.machine.specs.declared.steps.Stepped.{Stepped}
 use Rattle.machine.specs.declared.runs.Verdict.the-variants.{Legal, Illegal}
-use Rattle.machine.specs.View.{lineOf, marksIn, queue, buffer, issuedOf, markOf}
+use Rattle.machine.specs.View.{lineOf, marksOf, marksIn, queue, queueLen, buffer, bufferLen, issuedOf, markOf}
 use Rattle.machine.specs.Behind.{BlankBehind, SameEntries}
 use Rattle.machine.specs.Look.{markerOf, isAt, foundQueue, foundPosition}
 use Rattle.machine.specs.Rules.{ruleOf, nextOf, startOf}
 use Rattle.machine.specs.Blocker.{blockerNumber, blockerPosition, blockerOf}
-use Rattle.machine.specs.Fit.{sumTo, misfits, Sized, Fits, Shallow}
+use Rattle.machine.specs.Fit.{sumTo, together, instructionsOf, misfits, Sized, Fits}
 use Rattle.cases.specs.Ranges.{ProgramFits}
 use Rattle.machine.specs.Work.{work, Unfinished, programWeight, Uncompared, cost, failuresFrom, failuresOf}
 use Rattle.machine.specs.Model.{Model, Lawful, spent, fullLength, Leads, Faultless, StopsAt}
 use Rattle.machine.specs.Model.{legalSteps, Listed, Ascending}
 use Rattle.machine.specs.Judge.{rulingNo, told, steppedOf, stepOf, verdictNo, verdictPlace, verdictBlocker}
 use Rattle.machine.specs.Judge.{judged, judgeFrom, runOf, judgeRun, stopped, judgeOf, judgeBytes}
-use Rattle.machine.specs.Next.{issueStep, moveStep, persistStep, rankOf, stepAt, nextSteps}
+use Rattle.machine.specs.Next.{issueStep, moveStep, persistStep, rankOf}
 use Rattle.machine.specs.Ptso.{ptso}
-use Rattle.machine.specs.Offer.{Movable}
-use Rattle.machine.specs.Sizes.{room, allSlots, mostCandidates, mostWork}
+use Rattle.machine.specs.Sizes.{room, mostCandidates, mostWork}
 use Rattle.machine.proofs.view.LineOfLaws as LineOfLaws
 use Rattle.machine.proofs.fit.StartLaws as StartLaws
 use Rattle.machine.proofs.steps.StepFaultLaws.{fault-none}
 use Rattle.machine.proofs.steps.StepLaws as StepLaws
+use Rattle.machine.proofs.steps.TogetherLaws as TogetherLaws
+use Rattle.machine.proofs.fit.FitLaws as FitLaws
+use Rattle.machine.proofs.fit.SpareLaws as SpareLaws
 use Rattle.machine.proofs.steps.FailureLaws as FailureLaws
 use Rattle.machine.proofs.work.CostLaws as CostLaws
 use Rattle.machine.proofs.steps.ProgressLaws as ProgressLaws
 use Rattle.machine.proofs.runs.RerunLaws as RerunLaws
 use Rattle.machine.proofs.model.ModelLaws as ModelLaws
 use Rattle.machine.proofs.model.PtsoLaws as PtsoLaws
-use Rattle.machine.proofs.next.NextLaws as NextLaws
-use Rattle.machine.proofs.rules.ReadyLaws as ReadyLaws
+use Rattle.machine.proofs.next.CandidateLaws as CandidateLaws
 use Rattle.machine.proofs.rules.RuleLaws as RuleLaws
 use Rattle.machine.proofs.fit.FitTestLaws as FitTestLaws
 use Rattle.machine.proofs.look.MarkerLaws as MarkerLaws
@@ -135,6 +136,21 @@ module _ (p : Program) (fits : ProgramFits p) where
   -- "The sum at the start is the program's full length, at most 96."
   pub full-length-most : fullLength (ptso p) ≤ mostWork
   full-length-most = StartLaws.full-most p fits
+
+  -- after a legal run all entries in queues and buffers and all unissued instructions together are at most the
+  -- program's instructions, which are as many as there is room for at most
+  pub entries-together : (ks : List Step) (u : State) → Faultless (ptso p) ks → Leads (ptso p) (startOf p) ks u
+      → together p u ≤ instructionsOf p
+  entries-together ks u faultless leads =
+      let all = TogetherLaws.leads-together p (startOf p) ks u start-fits faultless leads in
+      let begun = TogetherLaws.start-together p fits in
+      omega arith
+
+  pub start-together : together p (startOf p) ≡ instructionsOf p
+  start-together = TogetherLaws.start-together p fits
+
+  pub instructions-most : instructionsOf p ≤ allCode
+  instructions-most = TogetherLaws.instructions-most p fits
 
   -- every state that a legal run from its start reaches is blank behind its entries
   pub run-blank : (ks : List Step) (u : State) → Faultless (ptso p) ks → Leads (ptso p) (startOf p) ks u
@@ -312,6 +328,22 @@ module _ (p : Program) (s : State) (fit : Fits p s) where
       → failuresFrom p s ks ≡ 0
   failures-none ks u plain = FailureLaws.failures-none p plain s ks u fit
 
+  -- a legal step makes all entries and all unissued instructions together no more
+  pub step-together : (k : Step) → stepFault (limitsOf p) k ≡ 0 → ruleOf p s k ≡ 0
+      → together p (nextOf p s k) ≤ together p s
+  step-together = TogetherLaws.step-together p s fit
+
+  -- a buffer and a queue have as many entries as is said
+  pub buffer-long : (t : ℕ) → t < mostThreads → length (buffer s t) ≡ bufferLen s t
+  buffer-long = FitLaws.fits-buffer-long p s fit
+
+  pub queue-long : (q : ℕ) → q < mostLocations → length (queue s q) ≡ queueLen s q
+  queue-long = FitLaws.fits-queue-long p s fit
+
+  -- the marks of a queue's entries, as a look for a marker goes through them
+  pub queue-marks : (q : ℕ) → q < mostLocations → marksOf (queue s q) ≡ marksIn (s .marks) (s .lengths) q
+  queue-marks = SpareLaws.marks-fit p s fit
+
   -- from a blank state a run leads to one that is
   pub leads-blank : (ks : List Step) (u : State) → BlankBehind s → Faultless (ptso p) ks → Leads (ptso p) s ks u
       → BlankBehind u
@@ -341,26 +373,10 @@ module _ (p : Program) (s : State) (fit : Fits p s) where
   pub work-some : 0 < work p s → Unfinished p s
   work-some = ProgressLaws.work-some p s fit
 
-  -- the array of ranks that the code makes stands for the list of next steps
-  pub next-steps-are : map stepAt (take (nextSteps p s .count) (nextSteps p s .ranks)) ≡ legalSteps (ptso p) s
-  next-steps-are = NextLaws.next-steps-are p s (fit .program)
-
-  -- the code's way through it: step i is the one of rank i, and the others stand behind it
-  pub next-step-here : (i : ℕ) → i < nextSteps p s .count
-      → drop i (legalSteps (ptso p) s)
-      ≡ stepAt (getD (nextSteps p s .ranks) i 0) ∷ drop (i + 1) (legalSteps (ptso p) s)
-  next-step-here = NextLaws.next-step-here p s (fit .program)
-
-  pub next-steps-few : nextSteps p s .count ≤ mostCandidates
-  next-steps-few = NextLaws.next-steps-few p s (fit .program)
-
-  pub next-steps-end : drop (nextSteps p s .count) (legalSteps (ptso p) s) ≡ []
-  next-steps-end = NextLaws.next-steps-end p s
-
-  -- and what the code that lists them asks for
-  pub next-asks : ProgramFits p × Movable (s .buffers) (s .waiting) × Shallow (s .lengths)
-      × (length (s .marks) ≡ allSlots)
-  next-asks = (fit .program, ReadyLaws.movable p s fit, ReadyLaws.shallow p s fit, fit .sized .marks-long)
+  -- there are no more next steps than there is room for
+  pub legal-few : length (legalSteps (ptso p) s) ≤ mostCandidates
+  unfolding legalSteps
+  legal-few = CandidateLaws.legal-few p (ruleOf p s) (fit .program)
 
 -- the test for 33 and the facts that proofs use are one: of a state whose arrays are as long as their types say
 pub fits-exactly : (p : Program) (s : State) → ProgramFits p → Sized s → (misfits p s ≡ false) ↔ Fits p s

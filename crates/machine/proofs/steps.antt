@@ -19,5 +19,7 @@ pub mod PersistEffectLaws
 pub mod WordEffectLaws
 -- issue-register, move-registers, persist-registers and their like; taken: the word that a register takes
 pub mod RegisterEffectLaws
+-- together: all entries and all unissued instructions; entries-together
+pub mod TogetherLaws
 -- progress: issue-legal, move-legal, persist-legal, work-some
 pub mod ProgressLaws

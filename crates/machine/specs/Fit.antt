@@ -4,6 +4,8 @@
 --   anyFrom i n f    f is true of one of the n numbers from i on
 --   anyOf f xs       f is true of one on the list xs
 --   AllOf P xs       P holds of each on it
+--   due p s          all entries in store buffers and all unissued instructions
+--   together p s     and all entries in queues; instructionsOf p: how many instructions the program has
 --   strays, strayed  an entry names a location that the program lacks; one that waits does
 --   foreign p q m    the mark m does not belong in queue q: its location or thread the program lacks, or the
 --                    location is of another line
@@ -29,7 +31,8 @@ use Rattle.machine.specs.declared.cells.Waiting.{Waiting}
 use Rattle.machine.specs.declared.cells.Entry.{Entry}
 use Rattle.machine.specs.declared.cells.Entry.the-variants.{Store, Flush, FlushOpt, Sfence}
 use Rattle.machine.specs.Sizes.{room, allSlots, allRegisters, firstMarker}
-use Rattle.machine.specs.View.{markOf, lineOf, queueLen, marksIn, buffer, bufferLen, issuedOf}
+use Rattle.machine.specs.View.{markOf, lineOf, queueLen, marksIn, bufferIn, buffer, bufferLen, issuedOf}
+use Rattle.machine.specs.Rules.{entryAt}
 
 unfoldable pub sumTo : ℕ → (ℕ → ℕ) → ℕ
 sumTo zero f = 0
@@ -64,6 +67,14 @@ unissued p s t = countAt p t - issuedOf s t
 -- "all entries in store buffers plus all unissued instructions"
 unfoldable pub due : Program → State → ℕ
 due p s = sumTo mostThreads (bufferLen s) + sumTo mostThreads (unissued p s)
+
+-- the entries of every queue too
+unfoldable pub together : Program → State → ℕ
+together p s = sumTo mostLocations (queueLen s) + due p s
+
+-- how many instructions a program has
+unfoldable pub instructionsOf : Program → ℕ
+instructionsOf p = sumTo mostThreads (countAt p)
 
 -- "more issued than the thread has"; an entry "that stands in the buffer .. of .. a thread .. the program
 -- lacks"; "a store buffer's entries plus that thread's unissued instructions above 8"
@@ -136,3 +147,9 @@ Shallow lengths = (q : ℕ) → q < mostLocations → getD lengths q 0 ≤ room
 -- no queue is full
 unfoldable pub Roomy : State → Type 0
 Roomy s = (q : ℕ) → q < mostLocations → queueLen s q < room
+
+-- every thread's buffer is within its depth, and its first entry names a location that there is
+unfoldable pub Movable : List Waiting → List ℕ → Type 0
+Movable buffers waiting =
+    (t : ℕ) → t < mostThreads
+    → (getD waiting t 0 ≤ mostInstructions) × Named mostLocations (entryAt (bufferIn buffers waiting t) 0)

@@ -14,4 +14,3 @@ pub mod Next
 pub mod Ptso
 pub mod Judge
 pub mod InTheWay
-pub mod Offer

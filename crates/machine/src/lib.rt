@@ -7,7 +7,6 @@ mod fit;
 mod issue;
 mod look;
 mod moves;
-pub mod next;
 pub mod runs;
 pub mod sizes;
 pub mod steps;

@@ -27,9 +27,8 @@ ghost use Rattle.cases.specs.Checks.{limitsOf, stepFault};
 ghost use Rattle.machine.specs.Sizes.{allSlots};
 ghost use Rattle.machine.specs.Parts.{lent};
 ghost use Rattle.machine.specs.Rules.{ruleIn, ruleOf, nextOf, startOf};
-ghost use Rattle.machine.specs.Fit.{Fits, Shallow};
+ghost use Rattle.machine.specs.Fit.{Fits, Shallow, Movable};
 ghost use Rattle.cases.specs.Ranges.{ProgramFits};
-ghost use Rattle.machine.specs.Offer.{Movable};
 ghost use Rattle.machine.specs.Judge.{rulingNo, rulingBlocker, steppedOf, stepOf, startedOf};
 ghost use Rattle.machine.specs.Ptso.{ptso};
 
@@ -115,8 +114,8 @@ pub(crate) fn rule<'a>(
     moves::persist_rule(lengths, Line(k.location.0))
 }
 
-// The state after a legal step. Not tested again: the walk takes millions of them.
-pub fn take_step(p: Program, s: State, k: Step) -> State
+// The state after a legal step, which was tested before.
+pub(crate) fn take_step(p: Program, s: State, k: Step) -> State
     requires { ⌜ Fits p s × (stepFault (limitsOf p) k ≡ 0) × (ruleOf p s k ≡ 0) ⌝ }
     ensures { λ r. ⌜ r ≡ nextOf p s k ⌝ }
 {

@@ -1,7 +1,8 @@
--- The laws of the search, in rooms: one for each module of src/ that they are about, and `seek`; a room's own
+-- The laws of the search, in rooms: one for each module of src/ that they are about, and two more; a room's own
 -- file says what it holds. Other crates can name Promises, and what to unfold so that a definition computes,
 -- alone.
 pub mod Promises
 pub mod Computing
--- a room beside those of src/: ask, shown and walk
+-- rooms beside those of src/: ask, listing, next, rows, shown, start, taken, walk and wants
 mod seek
+mod lanes

@@ -9,5 +9,9 @@ pub mod WalkModelLaws
 pub mod WalkLoopLaws
 -- turn: a turn of the loop
 pub mod WalkTurnLaws
--- walks, Walks, reaches: over the machine of document 01
-pub mod WalkPtsoLaws
+-- along, endsAlong: a machine that goes along with another
+pub mod AlongLaws
+-- walk-lanes, seek-lanes: over lanes
+pub mod WalkLanesLaws
+-- held, Held: what the code may ask of its lanes
+pub mod WalkHeldLaws

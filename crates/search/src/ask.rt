@@ -1,4 +1,6 @@
 // The question: can a power cut leave a given memory, with given instructions issued?
+use crate::listing;
+use crate::start;
 use crate::walk;
 use crate::walk::Walked;
 use cases::case::Ask;
@@ -13,6 +15,7 @@ ghost use Rattle.cases.specs.Ranges.{ProgramFits};
 ghost use Rattle.machine.specs.Ptso.{ptso};
 ghost use Rattle.search.specs.Question.{reaches, outcomeNo, outcomePlace, answerFor, shownFor};
 ghost use Rattle.search.specs.Question.{questionOf, shownOf};
+ghost use Rattle.search.specs.Held.{AskWithin};
 
 // Reached with the number of steps of the run that is shown; refused with the number and the offset.
 pub enum Outcome {
@@ -48,7 +51,7 @@ pub fn outcome_place(o: Outcome) -> usize
 
 // The question of a program that the machine can run: 31, then the walk.
 fn ask(p: Program, a: Ask, run: &mut [u8], budget: u32) -> Outcome
-    requires { ⌜ ProgramFits p ⌝ }
+    requires { ⌜ ProgramFits p × AskWithin p a ⌝ }
     ensures { λ r. ⌜ (r ≡ answerFor (ptso p) (reaches a) (length (now (run .entry))) budget)
         × (now (run .exit) ≡ shownFor (ptso p) (reaches a) budget (now (run .entry))) ⌝ }
 {
@@ -56,7 +59,10 @@ fn ask(p: Program, a: Ask, run: &mut [u8], budget: u32) -> Outcome
     if run.len() < STEP_SIZE * work::work_in(p, s) {
         return Outcome::Refused(31, 0);
     }
-    match walk::walk(p, a, s, budget, 0, run) {
+    let c = listing::listing(p);
+    let q = a;
+    let x = start::start_lanes(p, &c);
+    match walk::walk(&c, &q.wanted, &q.want, &q.passed, x, budget, 0, run) {
         Walked::Found(count) => Outcome::Reached(count),
         Walked::Finished(_) => Outcome::Unreachable,
         Walked::Stopped => Outcome::Undecided,

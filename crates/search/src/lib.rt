@@ -1,7 +1,13 @@
 // The search: the walk through all legal runs, and the question that it answers.
 // Document 01, "Work left and the walk"; specs/ has the definitions that the contracts cite.
 pub mod ask;
+mod listing;
+mod next;
+mod rows;
 mod shown;
+mod sizes;
+mod start;
+mod taken;
 mod walk;
 mod wants;
 

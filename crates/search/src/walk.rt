@@ -1,24 +1,22 @@
 // The walk: all legal runs, depth first, each counted against the budget, until one reaches the question. It
 // recurses on the next state, by value; the work left falls at each call.
+use crate::next;
 use crate::shown;
+use crate::sizes::LANES;
+use crate::sizes::LISTING;
+use crate::taken;
 use crate::wants;
-use cases::case::Ask;
-use cases::case::Program;
+use cases::sizes::LOCATIONS;
 use cases::sizes::STEP_SIZE;
-use machine::cells::State;
-use machine::next;
-use machine::steps;
+use cases::sizes::THREADS;
 ghost use mathlib.Core.Path.{_≡_};
-ghost use Prim.Native.Nat.{_+_, _*_, _≤_};
+ghost use Prim.Native.Nat.{suc, _-_};
 ghost use lib.ListN.{length};
-ghost use Rattle.cases.specs.Sizes.{stepSize};
 ghost use Rattle.machine.specs.Sizes.{mostWork};
-ghost use Rattle.machine.specs.Fit.{Fits};
-ghost use Rattle.machine.specs.Work.{work};
-ghost use Rattle.machine.specs.Ptso.{ptso};
-ghost use Rattle.search.specs.Walk.{walkOf};
-ghost use Rattle.search.specs.Question.{reaches};
+ghost use Rattle.search.specs.Walk as walks;
 ghost use Rattle.search.specs.Seek.{seek, walkedOf, storedOf};
+ghost use Rattle.search.specs.Taken.{lanesMachine, reachesLanes};
+ghost use Rattle.search.specs.Held.{Held};
 
 // A run that reaches, with its length; or none does, and so much of the budget is left; or it is used up.
 pub enum Walked {
@@ -28,35 +26,46 @@ pub enum Walked {
 }
 
 // The walk from a state that `depth` steps lead to. The run is written on the way up, and only if it reaches.
-pub(crate) fn walk(
-    p: Program,
-    a: Ask,
-    s: State,
+pub(crate) fn walk<'a>(
+    c: &[u32; LISTING],
+    wanted: &'a [bool; LOCATIONS],
+    want: &'a [u32; LOCATIONS],
+    passed: &'a [u8; THREADS],
+    x: [u32; LANES],
     budget: u32,
     depth: usize,
     run: &mut [u8],
 ) -> Walked
-    requires { ⌜ Fits p s × (depth + work p s ≤ mostWork)
-        × (stepSize * (depth + work p s) ≤ length (now run)) ⌝ }
-    ensures { λ r. ⌜ (r ≡ walkedOf depth (seek (reaches a) budget (walkOf (ptso p) s)))
-        × (now (run .exit) ≡ storedOf depth (seek (reaches a) budget (walkOf (ptso p) s))
-        (now (run .entry))) ⌝ }
+    requires { ⌜ Held (now c) x depth (length (now run)) ⌝ }
+    ensures { λ r. ⌜ (r ≡ walkedOf depth (seek
+        (reachesLanes (now (c .entry)) (now (wanted .entry)) (now (want .entry)) (now (passed .entry))) budget
+        (walks.walk (lanesMachine (now (c .entry))) (suc (mostWork - depth)) x)))
+        × (now (run .exit) ≡ storedOf depth (seek
+        (reachesLanes (now (c .entry)) (now (wanted .entry)) (now (want .entry)) (now (passed .entry))) budget
+        (walks.walk (lanesMachine (now (c .entry))) (suc (mostWork - depth)) x)) (now (run .entry))) ⌝ }
 {
     if budget == 0 {
         return Walked::Stopped;
     }
-    let q = a;
-    let u = s;
-    if wants::is_reached(&q.wanted, &q.want, &q.passed, &u.words, &u.issued) {
+    let u = x;
+    if wants::is_reached(c, wanted, want, passed, &u) {
         return Walked::Found(depth);
     }
-    let b = u.buffers;
-    let next = next::next_steps(p, b, &u.issued, &u.waiting, &u.marks, &u.lengths);
+    let next = next::next_steps(c, &u);
     let mut left = budget - 1;
     let mut i: u8 = 0;
     while i < next.count {
         let k = next::step_at(next.ranks[i as usize]);
-        let below = walk(p, a, steps::take_step(p, u, k), left, depth + 1, run);
+        let below = walk(
+            c,
+            wanted,
+            want,
+            passed,
+            taken::taken(c, u, k),
+            left,
+            depth + 1,
+            run,
+        );
         match below {
             Walked::Found(n) => {
                 shown::put_step(run, STEP_SIZE * depth, k);

@@ -22,7 +22,7 @@ module _ {ℓ} {A : Type ℓ} where
       ∙ rw (k, append-assoc, ← drop-drop n base xs, take-append-drop n (drop base xs))
       (take-append-drop base xs)
 
-  getD-sets-after : (xs : List A) (i : ℕ) (vs : List A) (j : ℕ) (d : A) → i + length vs ≤ j
+  pub getD-sets-after : (xs : List A) (i : ℕ) (vs : List A) (j : ℕ) (d : A) → i + length vs ≤ j
       → getD (sets xs i vs) j d ≡ getD xs j d
   getD-sets-after xs i [] j d h = refl
   getD-sets-after xs i (v ∷ vs) j d h =

@@ -2,7 +2,7 @@
 use Prim.Native.Nat.{ℕ, zero, suc, _+_, _≤_, _<_, _*_}
 use mathlib.Core.Path.{_≡_, refl, sym, ap, subst}
 use mathlib.Core.Logic.{_⊎_, inl, inr}
-use mathlib.Core.List.{_++_}
+use mathlib.Core.List.{List, [], _∷_, _++_}
 use native.Mathlib.Omega.{arith}
 use native.Mathlib.Nat.{eq-or-lt-of-le}
 use lib.ListN.{length, length-append}
@@ -11,13 +11,14 @@ use Rattle.cases.specs.declared.case.Program.{Program}
 use Rattle.cases.specs.Ranges.{ProgramFits}
 use Rattle.cases.specs.Checks.{limitsOf, linesOf, stepFault}
 use Rattle.cases.specs.Sizes.{mostInstructions}
+use Rattle.cases.proofs.ChoiceLaws.{pick-cases}
 use Rattle.machine.proofs.view.LineOfLaws.{few-lines}
 use Rattle.machine.proofs.lists.ListedLaws.{listed-left, listed-right, listed-either}
 use Rattle.machine.proofs.steps.StepFaultLaws.{InRange, fault-none, StepKinds, step-kinds, issue-fault}
 use Rattle.machine.proofs.steps.StepFaultLaws.{move-fault, persist-fault}
 use Rattle.machine.specs.Next.{issueStep, moveStep, persistStep, stepsFrom, movesFrom, candidates}
 use Rattle.machine.specs.Next.{movesOf}
-use Rattle.machine.specs.Model.{Listed}
+use Rattle.machine.specs.Model.{Listed, allowed}
 use Rattle.machine.specs.Sizes.{mostCandidates}
 
 -- A candidate of each kind is listed: one of those that a number tells, a move
@@ -138,3 +139,17 @@ module _ (p : Program) (g : ProgramFits p) where
       let f = g .sized .few-threads in
       let h = few-lines p g in
       omega arith
+
+-- so there is for those of them that are legal
+few-allowed : (rule : Step → ℕ) (ks : List Step) → length (allowed rule ks) ≤ length ks
+unfolding allowed
+few-allowed rule [] = omega arith
+few-allowed rule (k ∷ ks) =
+    let rest = few-allowed rule ks in
+    pick-cases (λ (js : List Step). length js ≤ suc (length ks)) _ _ _ (λ h. omega arith) (λ h. omega arith)
+
+pub legal-few : (p : Program) (rule : Step → ℕ) → ProgramFits p → length (allowed rule (candidates p)) ≤ mostCandidates
+legal-few p rule g =
+    let a = few-allowed rule (candidates p) in
+    let b = few-candidates p g in
+    omega arith

@@ -1,13 +1,16 @@
 -- A rule doesn't look at the parts of a state that its function is not lent: the rule over the parts that are
 -- lent, with [] for the others, is the rule over all. Assumes nothing.
-use Prim.Native.Nat.{ℕ}
+use Prim.Native.Nat.{ℕ, _<_}
 use mathlib.Core.Path.{_≡_, refl, _∙_}
 use mathlib.Core.Logic.{_≢_}
 use mathlib.Core.List.{[]}
-use borrow.Author.Tests.{eq-eqb, ne-eqb}
+use borrow.Author.Tests.{lt-leb, eq-eqb, ne-eqb}
+use lib.ListN.{getD}
 use Rattle.cases.specs.declared.case.Step.{Step}
 use Rattle.cases.specs.declared.case.Program.{Program}
 use Rattle.cases.specs.Operations.{issue, move}
+use Rattle.cases.specs.Choice.{refuse}
+use Rattle.cases.specs.Checks.{countAt, instructionAt}
 use Rattle.cases.proofs.ChoiceLaws.{pick-here, pick-next}
 use Rattle.machine.specs.declared.cells.Entry.{Entry}
 use Rattle.machine.specs.declared.cells.Entry.the-variants.{Store, Flush, FlushOpt, Sfence}
@@ -51,3 +54,12 @@ module _ (p : Program) (x : Parts) (k : Step) (r : ℕ) where
         → r ≡ ruleIn p x k
     unfolding ruleIn persistRule
     rule-persist-lent h e = pick-next _ _ _ _ (ne-eqb _ _ n) (pick-next _ _ _ _ (ne-eqb _ _ h) e)
+
+-- an issue of an instruction that is left: its operation decides, over what it is lent
+pub issue-rule-lent : (p : Program) (x : Parts) (t broken : ℕ) → getD (x .issued) t 0 < countAt p t
+    → broken
+    ≡ operationRule (instructionAt p t (getD (x .issued) t 0) .operation)
+    (lent [] [] (x .waiting) (x .marks) (x .lengths)) t
+    → broken ≡ issueRule p x t
+unfolding issueRule operationRule barrierRule refuse
+issue-rule-lent p x t broken h e = rw (lt-leb _ _ h) e

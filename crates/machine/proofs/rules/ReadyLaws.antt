@@ -23,8 +23,7 @@ use Rattle.machine.specs.View.{lineOf, queueLen, buffer, bufferIn, buffe
 use Rattle.machine.specs.Parts.{partsOf}
 use Rattle.machine.specs.Rules.{issueRule, moveRule, persistRule, ruleIn, ruleOf, entryAt}
 use Rattle.cases.specs.Ranges.{ProgramFits}
-use Rattle.machine.specs.Fit.{Fits, Named, Shallow, Roomy, unissued, due, AllOf, NamedBy}
-use Rattle.machine.specs.Offer.{Movable}
+use Rattle.machine.specs.Fit.{Fits, Named, Shallow, Roomy, unissued, due, AllOf, NamedBy, Movable}
 use Rattle.machine.proofs.lists.SumLaws.{sum-part}
 use Rattle.machine.proofs.view.LineOfLaws.{few-lines, line-low}
 use Rattle.machine.proofs.fit.FitLaws.{fits-queue-within, fits-buffer-within}

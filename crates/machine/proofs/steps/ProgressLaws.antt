@@ -27,11 +27,10 @@ use Rattle.machine.specs.Parts.{Parts, partsOf}
 use Rattle.machine.specs.Look.{markerAmong, markerFrom, markerOf, marked}
 use Rattle.machine.specs.Rules.{barrierRule, operationRule, issueRule, effectRule, moveRule, persistRule}
 use Rattle.machine.specs.Rules.{ruleIn, ruleOf}
-use Rattle.machine.specs.Fit.{unissued, Fits, Named}
+use Rattle.machine.specs.Fit.{unissued, Fits, Named, Movable}
 use Rattle.cases.specs.Ranges.{ProgramFits}
 use Rattle.machine.specs.Work.{unissuedCode, threadWork, work, Unfinished, weigh}
 use Rattle.machine.specs.Next.{issueStep, moveStep, persistStep}
-use Rattle.machine.specs.Offer.{Movable}
 use Rattle.machine.proofs.lists.SumLaws.{sum-none, some-or-none}
 use Rattle.machine.proofs.lists.PartLaws.{lt-or-ge}
 use Rattle.machine.proofs.view.LineOfLaws.{few-lines, line-low}

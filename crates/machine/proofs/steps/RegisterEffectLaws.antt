@@ -81,7 +81,7 @@ module _ (p : Program) (s : State) (f : Fits p s) (t : ℕ) (low : t < p .thread
   abbrev taken : List ℕ
   taken = set (s .registers) (t * mostRegisters + next .register .0) (takenBy p s t next)
 
-  issue-registers : nextOf p s (issueStep t) .registers
+  pub issue-registers : nextOf p s (issueStep t) .registers
       ≡ pick (setsRegister (next .operation)) taken (s .registers)
   unfolding nextOf pick issueOf withIssued takenBy loadOf queuedWord
   issue-registers =

@@ -1,5 +1,5 @@
 -- The question's code: 31, then what the walk leaves. Assumes nothing.
-use Prim.Native.Nat.{ℕ, _*_, _<_, _≤_}
+use Prim.Native.Nat.{ℕ, suc, _*_, _-_, _<_, _≤_}
 use mathlib.Core.Path.{_≡_, refl, sym, ap, subst, _∙_}
 use mathlib.Core.Logic.{_≢_, inl}
 use mathlib.Core.Bool.{Bool}
@@ -17,7 +17,7 @@ use Rattle.cases.specs.Reading.{numberOf, offsetOf, readOf}
 use Rattle.cases.specs.Seats.{stepsBytes}
 use Rattle.cases.proofs.ChoiceLaws.{pick-true, pick-false}
 use Rattle.cases.proofs.ArrayLaws.{sets-front}
-use Rattle.cases.proofs.Promises.{steps-bytes-length}
+use Rattle.cases.proofs.Promises.{steps-bytes-length, read-ranged}
 use Rattle.machine.specs.declared.cells.State.{State}
 use Rattle.machine.specs.Rules.{startOf}
 use Rattle.cases.specs.Ranges.{ProgramFits}
@@ -25,17 +25,23 @@ use Rattle.machine.specs.Fit.{Fits}
 use Rattle.machine.specs.Work.{work}
 use Rattle.machine.specs.Model.{Model, Lawful, fullLength, Listed}
 use Rattle.machine.specs.Ptso.{ptso}
-use Rattle.machine.proofs.Promises.{ptso-lawful, start-fits, full-length-most, read-fits}
+use Rattle.machine.proofs.Promises.{ptso-lawful, start-fits, full-length-most, start-together}
+use Rattle.machine.proofs.Promises.{instructions-most}
 use Rattle.search.specs.declared.walk.Walked.{Walked}
 use Rattle.search.specs.declared.walk.Walked.the-variants.{Found, Finished, Stopped}
 use Rattle.search.specs.declared.ask.Outcome.{Outcome}
 use Rattle.search.specs.declared.ask.Outcome.the-variants.{Reached, Unreachable, Undecided, Refused}
-use Rattle.search.specs.Walk.{Visit, walkOf, walkFrom}
+use Rattle.search.specs.Walk.{Visit, walk, walkOf, walkFrom}
 use Rattle.search.specs.Question.{reaches, reached, FirstThat, askOf, toldOf, short, answerFor}
 use Rattle.search.specs.Question.{questionOf, shownBy, shownFor, shownOf}
 use Rattle.search.specs.Seek.{Sought, hit, done, usedUp, seek, walkedOf, storedOf}
+use Rattle.search.specs.Lanes.{lanesOf}
+use Rattle.search.specs.Listing.{listingOf}
+use Rattle.search.specs.Taken.{padded, lanesMachine, reachesLanes}
+use Rattle.search.specs.Held.{AskWithin, Held}
 use Rattle.machine.proofs.lists.ListedLaws.{listed-right}
 use Rattle.search.proofs.walk.WalkModelLaws.{walk-short}
+use Rattle.search.proofs.walk.WalkLanesLaws.{seek-lanes}
 use Rattle.search.proofs.seek.SeekLaws.{comesTo, seek-decides, walked-found, walked-finished}
 use Rattle.search.proofs.seek.SeekLaws.{walked-stopped}
 use Rattle.search.proofs.seek.BudgetLaws.{budget-reached-is}
@@ -79,6 +85,47 @@ module _ (p : Program) (fits : ProgramFits p) (a : Ask) (b : ℕ) where
     full-is : fullLength (ptso p) ≡ w
     unfolding fullLength
     full-is = sym (w-is ∙ ap (work p) s-is)
+
+    -- the walk may begin with the start's lanes, and what it leaves over lanes is what it leaves over states
+    module _ (within : AskWithin p a) (c x : List ℕ) (c-is : c ≡ listingOf p)
+        (x-is : x ≡ padded (lanesOf p (startOf p))) where
+      pub ask-held : stepSize * w ≤ length out → Held c x 0 (length out)
+      unfolding fullLength
+      ask-held h =
+          let full = full-is in
+          let deep = full-length-most p fits in
+          let begun = start-together p fits in
+          let most = instructions-most p fits in
+          record {
+            program = p;
+            state = startOf p;
+            fits = start-fits p fits;
+            few = omega arith;
+            listed = c-is;
+            laid = x-is;
+            deep = omega arith;
+            roomy = omega arith;
+          }
+
+      same-sought : seek (reachesLanes c (a .wanted) (a .want) (a .passed)) b
+          (walk (lanesMachine c) (suc (mostWork - 0)) x)
+          ≡ seek (reaches a) b (walkOf (ptso p) s)
+      unfolding fullLength
+      same-sought =
+          let begun = start-together p fits in
+          let most = instructions-most p fits in
+          rw (c-is, x-is, s-is)
+          (seek-lanes p fits a within (startOf p) (start-fits p fits) (omega arith) (full-length-most p fits) b)
+
+      pub ask-walked : (r : Walked) (last : List ℕ)
+          → (r ≡ walkedOf 0 (seek (reachesLanes c (a .wanted) (a .want) (a .passed)) b
+          (walk (lanesMachine c) (suc (mostWork - 0)) x)))
+          × (last ≡ storedOf 0 (seek (reachesLanes c (a .wanted) (a .want) (a .passed)) b
+          (walk (lanesMachine c) (suc (mostWork - 0)) x)) out)
+          → (r ≡ walkedOf 0 (seek (reaches a) b (walkOf (ptso p) s)))
+          × (last ≡ storedOf 0 (seek (reaches a) b (walkOf (ptso p) s)) out)
+      ask-walked r last left =
+          (left .0 ∙ ap (walkedOf 0) same-sought, left .1 ∙ ap (λ y. storedOf 0 y out) same-sought)
 
     -- the buffer is too short
     pub ask-short : length out < stepSize * w
@@ -162,8 +209,10 @@ module _ (s : List ℕ) (r : Reading) (r-is : r ≡ readOf s) (n : ℕ) (n-is : 
       (same ∙ sym (pick-false _ _ _ t), sym (pick-false _ _ _ t))
 
   module _ (h : n ≡ 0) where
-    pub ask-fits : ProgramFits (r .case .program)
-    ask-fits = rw r-is (read-fits s (sym number-is ∙ h))
+    pub ask-fits : ProgramFits (r .case .program) × AskWithin (r .case .program) (r .case .ask)
+    ask-fits =
+        let ranged = read-ranged s (sym number-is ∙ h) in
+        rw r-is (ranged .program, record { wants = ranged .wants; passed = ranged .passed })
 
     pub ask-read : (b : ℕ) (out : List ℕ) (o : Outcome) (last : List ℕ)
         → (o ≡ answerFor (ptso (r .case .program)) (reaches (r .case .ask)) (length out) b)

@@ -1,4 +1,4 @@
--- The walk's code over any machine that can be walked, but for the turns of its loop (WalkTurnLaws): its ways
+-- The walk's code over any machine, but for the turns of its loop (WalkTurnLaws): its ways
 -- out, and where the loop begins and ends.
 --   Lists next ks    the array `next` stands for the steps ks
 --   restOf m n s ks  what is still to walk below the state s: everything that starts with one of the steps ks
@@ -15,16 +15,16 @@ use native.Mathlib.Omega.{arith}
 use Rattle.cases.specs.declared.case.Step.{Step}
 use Rattle.cases.specs.Seats.{stepsBytes}
 use Rattle.cases.specs.Record.{bytesOf}
-use Rattle.machine.specs.declared.next.Next.{Next}
-use Rattle.machine.specs.Next.{stepAt}
 use Rattle.machine.specs.Sizes.{mostCandidates}
+use Rattle.search.specs.declared.next.Ranks.{Ranks}
 use Rattle.search.specs.declared.walk.Walked.{Walked}
 use Rattle.search.specs.declared.walk.Walked.the-variants.{Found, Finished, Stopped}
-use Rattle.search.specs.Walk.{Machine, Visit, starting, walk, Walkable}
+use Rattle.search.specs.Barred.{stepAt}
+use Rattle.search.specs.Walk.{Machine, Visit, starting, walk}
 use Rattle.search.specs.Seek.{Sought, hit, done, usedUp, seek, walkedOf, storedOf}
 
 -- step i is the one of rank i, and the others stand behind it
-pub record Lists (next : Next) (ks : List Step) : Type 0 where
+pub record Lists (next : Ranks) (ks : List Step) : Type 0 where
   pub here : (i : ℕ) → i < next .count → drop i ks ≡ stepAt (getD (next .ranks) i 0) ∷ drop (i + 1) ks
   pub end : drop (next .count) ks ≡ []
   pub few : next .count ≤ mostCandidates
@@ -68,39 +68,33 @@ module _ {S : Type 0} (test : S → Bool) (b depth : ℕ) (out : List ℕ) where
 
 -- `next` lists the next steps; those from i on are still to be walked, with so much of the budget left, and
 -- nothing is stored yet
-pub record Walking {S : Type 0} (m : Machine S Step) (Fit : S → Type 0) (work : S → ℕ) (rank : Step → ℕ)
-    (test : S → Bool) (s : S) (b : ℕ) (next : Next) (before out : List ℕ) (left i : ℕ) : Type 0 where
-  pub laws : Walkable m Fit work rank
-  pub fit : Fit s
+pub record Walking {S : Type 0} (m : Machine S Step) (n : ℕ) (test : S → Bool) (s : S) (b : ℕ) (next : Ranks)
+    (before out : List ℕ) (left i : ℕ) : Type 0 where
   pub list : Lists next (m .nexts s)
   pub within : i ≤ next .count
   pub kept : out ≡ before
-  pub same : seek test left (restOf m (work s) s (drop i (m .nexts s)))
-      ≡ seek test b (walk m (suc (work s)) s)
+  pub same : seek test left (restOf m n s (drop i (m .nexts s))) ≡ seek test b (walk m (suc n) s)
 
-module _ {S : Type 0} {m : Machine S Step} {Fit : S → Type 0} {work : S → ℕ} {rank : Step → ℕ}
-    {test : S → Bool} {s : S} {b : ℕ} {next : Next} where
-  pub walking-start : (out : List ℕ) → Walkable m Fit work rank → Fit s → Lists next (m .nexts s) → b ≢ 0
-      → test s ≡ false
-      → Walking m Fit work rank test s b next out out (b - 1) 0
+module _ {S : Type 0} {m : Machine S Step} {n : ℕ} {test : S → Bool} {s : S} {b : ℕ} {next : Ranks} where
+  pub walking-start : (out : List ℕ) → Lists next (m .nexts s) → b ≢ 0 → test s ≡ false
+      → Walking m n test s b next out out (b - 1) 0
   unfolding walk seek
-  walking-start out laws f list some t =
-      record { laws = laws; fit = f; list = list; within = omega arith; kept = refl; same = go b some }
+  walking-start out list some t =
+      record { list = list; within = omega arith; kept = refl; same = go b some }
     where
-      go : (c : ℕ) → c ≢ 0
-          → seek test (c - 1) (restOf m (work s) s (m .nexts s)) ≡ seek test c (walk m (suc (work s)) s)
-      go zero n = absurd (n refl)
-      go (suc c) n = let e : suc c - 1 ≡ c = omega arith in rw (e, t, seek)
+      go : (c : ℕ) → c ≢ 0 → seek test (c - 1) (restOf m n s (m .nexts s)) ≡ seek test c (walk m (suc n) s)
+      go zero none = absurd (none refl)
+      go (suc c) none = let e : suc c - 1 ≡ c = omega arith in rw (e, t, seek)
 
   -- the loop ends
   pub walking-end : {before out : List ℕ} {left i : ℕ}
-      → Walking m Fit work rank test s b next before out left i
+      → Walking m n test s b next before out left i
       → (depth : ℕ) → next .count ≤ i
-      → Left test (walk m (suc (work s)) s) b depth before (Finished left) out
+      → Left test (walk m (suc n) s) b depth before (Finished left) out
   unfolding starting seek walkedOf storedOf
   walking-end {before} {out} {left} {i} o depth h =
       let w = o .within in
       let e : i ≡ next .count = omega arith in
-      let none = ap (λ n. drop n (m .nexts s)) e ∙ o .list .end in
-      let all = sym (o .same) ∙ ap (λ ks. seek test left (restOf m (work s) s ks)) none in
-      left-as test b depth before (walk m (suc (work s)) s) (done left) all (Finished left) out refl (o .kept)
+      let none = ap (λ j. drop j (m .nexts s)) e ∙ o .list .end in
+      let all = sym (o .same) ∙ ap (λ ks. seek test left (restOf m n s ks)) none in
+      left-as test b depth before (walk m (suc n) s) (done left) all (Finished left) out refl (o .kept)

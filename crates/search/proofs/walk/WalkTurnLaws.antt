@@ -12,78 +12,66 @@ use Rattle.cases.specs.declared.record.Record.the-variants.{Take}
 use Rattle.cases.specs.Record.{recordBytes}
 use Rattle.cases.specs.Seats.{stepsBytes}
 use Rattle.cases.specs.Sizes.{stepSize}
-use Rattle.machine.specs.declared.next.Next.{Next}
 use Rattle.machine.specs.Model.{Listed}
-use Rattle.machine.specs.Next.{stepAt}
 use Rattle.machine.proofs.lists.ListedLaws.{listed-drop}
+use Rattle.search.specs.declared.next.Ranks.{Ranks}
 use Rattle.search.specs.declared.walk.Walked.{Walked}
 use Rattle.search.specs.declared.walk.Walked.the-variants.{Found, Finished, Stopped}
+use Rattle.search.specs.Barred.{stepAt}
 use Rattle.search.specs.Walk.{Machine, under, starting, walk}
 use Rattle.search.specs.Seek.{Sought, hit, usedUp, seek, walkedOf, storedOf}
 use Rattle.search.proofs.seek.SeekLaws.{onward, behindStep, seek-append, seek-under, walked-found}
 use Rattle.search.proofs.seek.SeekLaws.{walked-finished, walked-stopped}
 use Rattle.search.proofs.shown.StoreLaws.{step-before, length-stored}
-use Rattle.search.proofs.walk.WalkLaws.{walk-enough}
 use Rattle.search.proofs.walk.WalkLoopLaws.{restOf, Left, left-as, Walking}
 
-module _ {S : Type 0} {m : Machine S Step} {Fit : S → Type 0} {work : S → ℕ} {rank : Step → ℕ}
-    {test : S → Bool} {s : S} {b : ℕ} {next : Next} {before out : List ℕ} {left i : ℕ}
-    (o : Walking m Fit work rank test s b next before out left i) where
+module _ {S : Type 0} {m : Machine S Step} {n : ℕ} {test : S → Bool} {s : S} {b : ℕ} {next : Ranks}
+    {before out : List ℕ} {left i : ℕ} (o : Walking m n test s b next before out left i) where
   -- a turn: k is the step of the rank at position i, and z the state behind it
   module _ (h : i < next .count) (k : Step) (k-is : k ≡ stepAt (getD (next .ranks) i 0)) where
     front : drop i (m .nexts s) ≡ k ∷ drop (i + 1) (m .nexts s)
     front = o .list .here i h ∙ ap (λ j. j ∷ drop (i + 1) (m .nexts s)) (sym k-is)
 
-    -- it is one of the next steps, so that the state behind it fits and has less work left
+    -- it is one of the next steps
     pub turn-listed : Listed k (m .nexts s)
     unfolding Listed
     turn-listed = listed-drop k i (m .nexts s) (subst (Listed k) (sym front) (inl refl))
 
     module _ (z : S) (z-is : z ≡ m .after s k) where
-      pub turn-fits : Fit z
-      turn-fits = rw z-is (o .laws .keeps s (o .fit) k turn-listed)
-
-      pub turn-work : work z < work s
-      turn-work = rw z-is (o .laws .lowers s (o .fit) k turn-listed)
-
       -- what the walk below z finds decides, or the walk goes on with what is left of the budget
-      turn-seek : seek test b (walk m (suc (work s)) s)
-          ≡ onward (behindStep k (seek test left (walk m (suc (work z)) z)))
-          (λ n. seek test n (restOf m (work s) s (drop (i + 1) (m .nexts s))))
+      turn-seek : seek test b (walk m (suc n) s)
+          ≡ onward (behindStep k (seek test left (walk m n z)))
+          (λ c. seek test c (restOf m n s (drop (i + 1) (m .nexts s))))
       unfolding starting
       turn-seek =
-          let fell = turn-work in
-          let below = ap (walk m (work s)) (sym z-is)
-          ∙ walk-enough m (o .laws) (work s) (suc (work z)) z turn-fits fell (omega arith) in
           sym (o .same)
-          ∙ ap (λ ks. seek test left (restOf m (work s) s ks)) front
-          ∙ seek-append test left (map (under k) (walk m (work s) (m .after s k)))
-          (restOf m (work s) s (drop (i + 1) (m .nexts s)))
-          ∙ ap (λ x. onward x (λ n. seek test n (restOf m (work s) s (drop (i + 1) (m .nexts s)))))
-          (seek-under test left k (walk m (work s) (m .after s k))
-          ∙ ap (λ vs. behindStep k (seek test left vs)) below)
+          ∙ ap (λ ks. seek test left (restOf m n s ks)) front
+          ∙ seek-append test left (map (under k) (walk m n (m .after s k)))
+          (restOf m n s (drop (i + 1) (m .nexts s)))
+          ∙ ap (λ x. onward x (λ c. seek test c (restOf m n s (drop (i + 1) (m .nexts s)))))
+          (seek-under test left k (walk m n (m .after s k))
+          ∙ ap (λ u. behindStep k (seek test left (walk m n u))) (sym z-is))
 
       module _ (depth : ℕ) (r : Walked) (last : List ℕ)
-          (below : (r ≡ walkedOf (depth + 1) (seek test left (walk m (suc (work z)) z)))
-          × (last ≡ storedOf (depth + 1) (seek test left (walk m (suc (work z)) z)) out)) where
+          (below : (r ≡ walkedOf (depth + 1) (seek test left (walk m n z)))
+          × (last ≡ storedOf (depth + 1) (seek test left (walk m n z)) out)) where
         abbrev sought : Sought Step
-        sought = seek test left (walk m (suc (work z)) z)
+        sought = seek test left (walk m n z)
 
         abbrev Leaves : Walked → List ℕ → Type 0
-        Leaves = Left test (walk m (suc (work s)) s) b depth before
+        Leaves = Left test (walk m (suc n) s) b depth before
 
         on-from : Sought Step → Sought Step
-        on-from x =
-            onward (behindStep k x) (λ n. seek test n (restOf m (work s) s (drop (i + 1) (m .nexts s))))
+        on-from x = onward (behindStep k x) (λ c. seek test c (restOf m n s (drop (i + 1) (m .nexts s))))
 
-        leaves-as : (x : Sought Step) → seek test b (walk m (suc (work s)) s) ≡ x
+        leaves-as : (x : Sought Step) → seek test b (walk m (suc n) s) ≡ x
             → (w : Walked) (final : List ℕ)
             → w ≡ walkedOf depth x
             → final ≡ storedOf depth x before
             → Leaves w final
-        leaves-as = left-as test b depth before (walk m (suc (work s)) s)
+        leaves-as = left-as test b depth before (walk m (suc n) s)
 
-        -- the lent bytes are as many as before, so that there is room for the step's record
+        -- the lent bytes are as many as before
         pub turn-length : length last ≡ length out
         turn-length = ap length (below .1) ∙ length-stored (depth + 1) sought out
 
@@ -92,20 +80,14 @@ module _ {S : Type 0} {m : Machine S Step} {Fit : S → Type 0} {work : S → �
         turn-put at final e =
             ap length e ∙ length-sets last at (recordBytes (Take k)) ∙ turn-length ∙ ap length (o .kept)
 
-        pub turn-room : stepSize * (depth + work s) ≤ length out → stepSize * depth + stepSize ≤ length last
-        turn-room h =
-            let e = turn-length in
-            let w = turn-work in
-            omega arith
-
         -- a run was found below: the step goes before it
-        pub turn-found : (n : ℕ) → r ≡ Found n
-            → Leaves (Found n) (sets last (stepSize * depth) (recordBytes (Take k)))
+        pub turn-found : (j : ℕ) → r ≡ Found j
+            → Leaves (Found j) (sets last (stepSize * depth) (recordBytes (Take k)))
         unfolding walkedOf storedOf on-from
-        turn-found n e =
-            let w = walked-found (depth + 1) sought n (sym (below .0) ∙ e) in
+        turn-found j e =
+            let w = walked-found (depth + 1) sought j (sym (below .0) ∙ e) in
             let long = w .2 in
-            leaves-as (hit (k ∷ w .0)) (turn-seek ∙ ap on-from (w .1)) (Found n) _
+            leaves-as (hit (k ∷ w .0)) (turn-seek ∙ ap on-from (w .1)) (Found j) _
             (ap Found (omega arith))
             (ap (λ y. sets y (stepSize * depth) (recordBytes (Take k)))
             (below .1 ∙ ap (λ y. storedOf (depth + 1) y out) (w .1))
@@ -122,13 +104,11 @@ module _ {S : Type 0} {m : Machine S Step} {Fit : S → Type 0} {work : S → �
 
         -- none was found below: the loop goes on with what is left of the budget
         pub turn-finished : (rest : ℕ) → r ≡ Finished rest
-            → Walking m Fit work rank test s b next before last rest (i + 1)
+            → Walking m n test s b next before last rest (i + 1)
         unfolding storedOf on-from
         turn-finished rest e =
             let w = walked-finished (depth + 1) sought rest (sym (below .0) ∙ e) in
             record {
-              laws = o .laws;
-              fit = o .fit;
               list = o .list;
               within = omega arith;
               kept = below .1 ∙ ap (λ y. storedOf (depth + 1) y out) w ∙ o .kept;

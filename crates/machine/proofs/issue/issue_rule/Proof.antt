@@ -1,7 +1,7 @@
 -- `issue_rule` meets its contract. Assumes nothing.
 use Rattle.machine.specs.Rules.{issueRule}
 use Rattle.cases.proofs.ChoiceLaws.{choices}
-use Rattle.machine.proofs.next.OfferLoopLaws.{offer-issue-some}
+use Rattle.machine.proofs.rules.LentLaws.{issue-rule-lent}
 use borrow.Author.Needs.{needs}
 use Rattle.machine.proofs.issue.issue_rule.Statement.{statement}
 use Rattle.machine.proofs.issue.issue_rule.Tie as tie
@@ -38,7 +38,7 @@ operation-rule-requires : tie.Need-operation-rule-requires
 operation-rule-requires c κs = search needs
 
 returns-2 : tie.Need-returns-2
-returns-2 c = offer-issue-some _ _ _ _ (c .before .before .if1 .left) (c .operation-rule .ensures)
+returns-2 c = issue-rule-lent _ _ _ _ (c .before .before .if1 .left) (c .operation-rule .ensures)
 
 pub issue-rule-spec : {M : Type 1} → statement M
 issue-rule-spec =

@@ -1,7 +1,7 @@
 -- `ask` meets its contract. Assumes nothing.
 use native.Mathlib.Omega.{arith}
-use Rattle.search.proofs.ask.AskLaws.{ask-start-fits, ask-start-few, ask-short, ask-found, ask-finished}
-use Rattle.search.proofs.ask.AskLaws.{ask-stopped}
+use Rattle.search.proofs.ask.AskLaws.{ask-start-fits, ask-start-few, ask-short, ask-held, ask-walked}
+use Rattle.search.proofs.ask.AskLaws.{ask-found, ask-finished, ask-stopped}
 use borrow.Author.Needs.{needs}
 use Rattle.search.proofs.ask.ask.Statement.{statement}
 use Rattle.search.proofs.ask.ask.Tie as tie
@@ -10,11 +10,11 @@ start-of-requires : tie.Need-start-of-requires
 start-of-requires c κs = search needs
 
 work-in-requires : tie.Need-work-in-requires
-work-in-requires c κs = ask-start-fits _ (c .before .before .pre) _ (c .start-of .ensures)
+work-in-requires c κs = ask-start-fits _ (c .before .before .pre .0) _ (c .start-of .ensures)
 
 mul-if1 : tie.Need-mul-if1
 mul-if1 c =
-    let few = ask-start-few _ (c .before .before .before .pre) _ (c .before .start-of .ensures) in
+    let few = ask-start-few _ (c .before .before .before .pre .0) _ (c .before .start-of .ensures) in
     let w = c .work-in .ensures in
     search needs
 
@@ -22,18 +22,24 @@ returns : tie.Need-returns
 returns c =
     let w = c .before in
     let s = w .before in
-    ask-short _ (s .before .before .pre) _ _ _ (s .start-of .ensures) _ (w .work-in .ensures) _
+    ask-short _ (s .before .before .pre .0) _ _ _ (s .start-of .ensures) _ (w .work-in .ensures) _
     (c .if1 .taken)
+
+listing-requires : tie.Need-listing-requires
+listing-requires c κs = search needs
+
+start-lanes-requires : tie.Need-start-lanes-requires
+start-lanes-requires c κs = search needs
 
 walk-requires : tie.Need-walk-requires
 walk-requires c κs =
-    let w = c .before .before in
+    let i = c .before .before .before .before .before .before .before .before .before in
+    let w = i .before in
     let s = w .before in
     let g = s .before .before .pre in
-    let few = ask-start-few _ g _ (s .start-of .ensures) in
-    let e = w .work-in .ensures in
-    let left = c .before .if1 .left in
-    (ask-start-fits _ g _ (s .start-of .ensures), omega arith, omega arith)
+    let a = s .before .before .args in
+    ask-held _ (g .0) _ (a .budget) _ (s .start-of .ensures) _ (w .work-in .ensures) (a .run .now) (g .1) _ _
+    (c .before .before .before .before .before .before .before .before .listing .ensures) (c .before .before .before .before .before .before .start-lanes .ensures) (i .if1 .left)
 
 enum-known-count : tie.Need-enum-known-count
 enum-known-count c = search needs
@@ -49,33 +55,45 @@ same-length c = search needs
 
 returns-2 : tie.Need-returns-2
 returns-2 c =
-    let i = c .before .before .before .before .before .before .before in
+    let v = c .before .before .before .before .before .before in
+    let i = v .before .before .before .before .before .before .before .before .before in
     let w = i .before in
     let s = w .before in
-    ask-found _ (s .before .before .pre) _ _ _ (s .start-of .ensures) _ (w .work-in .ensures) _
-    (i .if1 .left) _ _ (c .before .before .before .before .before .walk .ensures) _ (c .before .count .given .1)
+    let g = s .before .before .pre in
+    ask-found _ (g .0) _ _ _ (s .start-of .ensures) _ (w .work-in .ensures) _ (i .if1 .left) _ _
+    (ask-walked _ (g .0) _ _ _ (s .start-of .ensures) _ (w .work-in .ensures) _ (g .1) _ _
+    (v .before .before .before .before .before .before .before .before .listing .ensures) (v .before .before .before .before .before .before .start-lanes .ensures) _ _ (c .before .before .before .before .before .walk .ensures))
+    _ (c .before .count .given .1)
 
 same-length-2 : tie.Need-same-length-2
 same-length-2 c = search needs
 
 returns-3 : tie.Need-returns-3
 returns-3 c =
-    let i = c .before .before .before .before .before .before in
+    let v = c .before .before .before .before .before in
+    let i = v .before .before .before .before .before .before .before .before .before in
     let w = i .before in
     let s = w .before in
-    ask-finished _ (s .before .before .pre) _ _ _ (s .start-of .ensures) _ (w .work-in .ensures) _
-    (i .if1 .left) _ _ (c .before .before .before .before .walk .ensures) _ (c .enum-told .given .1)
+    let g = s .before .before .pre in
+    ask-finished _ (g .0) _ _ _ (s .start-of .ensures) _ (w .work-in .ensures) _ (i .if1 .left) _ _
+    (ask-walked _ (g .0) _ _ _ (s .start-of .ensures) _ (w .work-in .ensures) _ (g .1) _ _
+    (v .before .before .before .before .before .before .before .before .listing .ensures) (v .before .before .before .before .before .before .start-lanes .ensures) _ _ (c .before .before .before .before .walk .ensures))
+    _ (c .enum-told .given .1)
 
 same-length-3 : tie.Need-same-length-3
 same-length-3 c = search needs
 
 returns-4 : tie.Need-returns-4
 returns-4 c =
-    let i = c .before .before .before .before .before .before in
+    let v = c .before .before .before .before .before in
+    let i = v .before .before .before .before .before .before .before .before .before in
     let w = i .before in
     let s = w .before in
-    ask-stopped _ (s .before .before .pre) _ _ _ (s .start-of .ensures) _ (w .work-in .ensures) _
-    (i .if1 .left) _ _ (c .before .before .before .before .walk .ensures) (c .enum-told2 .given .1)
+    let g = s .before .before .pre in
+    ask-stopped _ (g .0) _ _ _ (s .start-of .ensures) _ (w .work-in .ensures) _ (i .if1 .left) _ _
+    (ask-walked _ (g .0) _ _ _ (s .start-of .ensures) _ (w .work-in .ensures) _ (g .1) _ _
+    (v .before .before .before .before .before .before .before .before .listing .ensures) (v .before .before .before .before .before .before .start-lanes .ensures) _ _ (c .before .before .before .before .walk .ensures))
+    (c .enum-told2 .given .1)
 
 pub ask-spec : {M : Type 1} → statement M
 ask-spec =
@@ -85,6 +103,8 @@ ask-spec =
     work-in-requires
     mul-if1
     returns
+    listing-requires
+    start-lanes-requires
     walk-requires
     enum-known-count
     enum-told

@@ -1,23 +1,32 @@
 -- `is_missed` meets its contract. Assumes nothing.
 use Prim.Native.Nat.{_-_}
-use mathlib.Core.Path.{sym, _∙_}
 use native.Mathlib.Omega.{arith}
-use Rattle.cases.specs.Sizes.{mostLocations}
 use Rattle.machine.proofs.lists.AnyLaws.{AskedSoFar, any-start, any-next, any-here, any-end}
-use Rattle.search.specs.Question.{missesAt}
+use Rattle.search.specs.Taken.{missesLane}
+use Rattle.search.specs.Listing.{locationsIn}
+use Rattle.search.proofs.wants.WantLoopLaws.{missed-told}
 use borrow.Author.Needs.{needs}
 use Rattle.search.proofs.wants.is_missed.Statement.{statement}
 use Rattle.search.proofs.wants.is_missed.Tie as tie
 
 -- the locations from l on say what all say
 abbrev Inv-loop : tie.InvT-loop
-Inv-loop wanted want words l₀ l = AskedSoFar (missesAt wanted want words) mostLocations l
+Inv-loop c wanted want x locations l₀ l = AskedSoFar (missesLane c wanted want x) (locationsIn c) l
 
 abbrev μ-loop : tie.MeasureT-loop
-μ-loop wanted want words l₀ l = mostLocations - l
+μ-loop c wanted want x locations l₀ l = locations - l
+
+element-copy-out-locations : tie.Need-element-copy-out-locations Inv-loop μ-loop
+element-copy-out-locations c = search needs
+
+cast-locations : tie.Need-cast-locations Inv-loop μ-loop
+cast-locations c = let w = c .before .pre .few-locations in omega arith
 
 loop-holds : tie.Need-loop-holds Inv-loop μ-loop
 loop-holds c = any-start _ _
+
+cast-at : tie.Need-cast-at Inv-loop μ-loop
+cast-at c = search needs
 
 element-copy-out-misses : tie.Need-element-copy-out-misses Inv-loop μ-loop
 element-copy-out-misses c = search needs
@@ -27,6 +36,9 @@ mul-misses c = search needs
 
 element-copy-out-misses-2 : tie.Need-element-copy-out-misses-2 Inv-loop μ-loop
 element-copy-out-misses-2 c = search needs
+
+word-at-requires : tie.Need-word-at-requires Inv-loop μ-loop
+word-at-requires c κs = search needs
 
 mul-misses-2 : tie.Need-mul-misses-2 Inv-loop μ-loop
 mul-misses-2 c = search needs
@@ -38,10 +50,9 @@ misses-requires : tie.Need-misses-requires Inv-loop μ-loop
 misses-requires c κs = search needs
 
 returns : tie.Need-returns Inv-loop μ-loop
-unfolding missesAt
 returns c =
-    any-here (c .before .before .before .before .before .before .loop .inv) (omega arith)
-    (sym (c .before .misses .ensures) ∙ c .if1 .taken)
+    any-here (c .before .before .before .before .before .before .before .loop .inv) (omega arith)
+    (missed-told _ _ _ _ _ _ _ _ (c .before .before .before .word-at .ensures) (c .before .misses .ensures) (c .if1 .taken))
 
 add-l : tie.Need-add-l Inv-loop μ-loop
 add-l c = search needs
@@ -50,10 +61,9 @@ loop-less : tie.Need-loop-less Inv-loop μ-loop
 loop-less c = search needs
 
 loop-again : tie.Need-loop-again Inv-loop μ-loop
-unfolding missesAt
 loop-again c =
-    any-next (c .before .before .before .before .before .before .loop .inv) (omega arith)
-    (sym (c .before .misses .ensures) ∙ c .if1 .left)
+    any-next (c .before .before .before .before .before .before .before .loop .inv) (omega arith)
+    (missed-told _ _ _ _ _ _ _ _ (c .before .before .before .word-at .ensures) (c .before .misses .ensures) (c .if1 .left))
 
 returns-2 : tie.Need-returns-2 Inv-loop μ-loop
 returns-2 c = any-end (c .before .loop .inv) (omega arith)
@@ -64,10 +74,14 @@ is-missed-spec =
     (tie.spec
     Inv-loop
     μ-loop
+    element-copy-out-locations
+    cast-locations
     loop-holds
+    cast-at
     element-copy-out-misses
     mul-misses
     element-copy-out-misses-2
+    word-at-requires
     mul-misses-2
     element-copy-out-misses-3
     misses-requires

@@ -1,0 +1,39 @@
+-- The lanes (specs/Lanes), seen apart from any state, and of a state.
+-- changed, Seen, lay, with: what lanes hold, as a view
+pub mod SeenLaws
+-- changed, joinTo, each: what stands one behind the other
+pub mod JoinLaws
+-- padded, inserted, carried: over any list
+pub mod ShiftLaws
+-- lay, see: what stands where, and what a change does
+pub mod LayLaws
+-- Even, sum: how many entries, where one joins or leaves
+pub mod EvenLaws
+-- rowJoined, rowLeft, rowCarried: what an entry that joins or leaves makes of a view
+pub mod LayRowLaws
+-- split, seenOf: of a state; spread
+pub mod StateLaws
+-- newest, queued, loaded, see: what the code's looks find is what the machine's find; laidOf
+pub mod LookLanesLaws
+-- marked: a thread's marker
+pub mod MarkLanesLaws
+-- broken, barred: a step breaks a rule
+pub mod RuleLanesLaws
+-- allowed, legal: the legal next steps
+pub mod NextLanesLaws
+-- reaches: what is asked
+pub mod ReachLanesLaws
+-- changed, spread, row, joined, same, kept: when a view's lanes are a state's; what a count leaves to the looks
+pub mod SameLanesLaws
+-- Issues, issues: what an instruction that is issued makes of a view
+pub mod IssueViewLaws
+-- made, issue: an issue over the lanes of a state
+pub mod IssueLanesLaws
+-- Moves, moves, move: a move over the lanes of a state
+pub mod MoveLanesLaws
+-- persist: a persist over the lanes of a state
+pub mod PersistLanesLaws
+-- step: a step over the lanes of a state, and what the code asks of it
+pub mod StepLanesLaws
+-- alike: equal lanes
+pub mod AlikeLaws

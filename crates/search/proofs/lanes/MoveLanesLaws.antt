@@ -1,0 +1,213 @@
+-- A move over the lanes of a state gives the lanes of the state that the machine's move leads to.
+--   Moves p s t i r w   w is the view of s without entry i of thread t's buffer, and with r q at the end of each
+--                     queue q
+-- Assumes nothing.
+use Prim.Native.Nat.{ℕ, _+_, _*_, _-_, _≤_, _<_}
+use mathlib.Core.Path.{_≡_, refl, sym, ap, _∙_}
+use mathlib.Core.Logic.{_≢_}
+use mathlib.Core.List.{List, [], _∷_, _++_, append-nil}
+use native.Mathlib.Omega.{arith}
+use native.Mathlib.Decide.{ℕ-discrete}
+use borrow.Author.Tests.{le-leb, lt-leb}
+use lib.Dec.{eqb}
+use lib.ListN.{length, getD}
+use Rattle.cases.specs.declared.case.Program.{Program}
+use Rattle.cases.specs.Choice.{pick}
+use Rattle.cases.specs.Sizes.{allCode}
+use Rattle.cases.specs.Checks.{linesOf}
+use Rattle.cases.proofs.Promises.{thread-low}
+use Rattle.machine.specs.declared.cells.State.{State}
+use Rattle.machine.specs.declared.cells.Entry.{Entry}
+use Rattle.machine.specs.declared.cells.Entry.the-variants.{Store, Flush, FlushOpt, Sfence}
+use Rattle.machine.specs.View.{Slot, lineOf, markOf, queueLen, buffer, bufferLen, wordOf, issuedOf, without}
+use Rattle.machine.specs.View.{blankWaiting}
+use Rattle.machine.specs.Rules.{entryAt, ruleOf, nextOf}
+use Rattle.machine.specs.Joins.{enters}
+use Rattle.machine.specs.Fit.{together, Named, NamedBy, Fits}
+use Rattle.machine.specs.Next.{moveStep}
+use Rattle.machine.proofs.lists.AllLaws.{all-get}
+use Rattle.machine.proofs.Promises.{buffer-long, few-lines, line-there}
+use Rattle.machine.proofs.Effects.{move-within, move-issued, move-buffer, move-buffer-other, move-queue, move-word}
+use Rattle.machine.proofs.Effects.{move-registers}
+use Rattle.search.specs.Sizes.{flushTag, flushOptTag, sfenceTag}
+use Rattle.search.specs.Lanes.{spread, entryLanes, waitingLanes, slotLanes, bufferLanes, queueLanes}
+use Rattle.search.specs.Lanes.{registerLane}
+use Rattle.search.specs.Listing.{threadsIn, lineIn, listingOf}
+use Rattle.search.specs.Rows.{queueRow, rowStart}
+use Rattle.search.specs.Taken.{padded, rowLeft, rowCarried, movedLane, moveLanes}
+use Rattle.search.proofs.listing.ListingLaws.{listing-threads, listing-lines, listing-line, listing-fits}
+use Rattle.search.proofs.lanes.SeenLaws.{Seen, Even, lay, withLeft, withJoined}
+use Rattle.search.proofs.lanes.JoinLaws.{changed-same, changed-other}
+use Rattle.search.proofs.lanes.EvenLaws.{even-joined, even-left}
+use Rattle.search.proofs.lanes.LayRowLaws.{leave-row, carry-row}
+use Rattle.search.proofs.lanes.StateLaws.{seenOf, split-left, spread-append, get-spread, waiting-two, slot-two}
+use Rattle.search.proofs.lanes.StateLaws.{even-of, few-of}
+use Rattle.search.proofs.lanes.LookLanesLaws.{laidOf, row-there, see-waiting}
+use Rattle.search.proofs.lanes.SameLanesLaws.{row-buffer, row-queue, joined-buffer, joined-queue, same-lanes}
+use Rattle.search.proofs.lanes.SameLanesLaws.{spread-without}
+
+record Moves (p : Program) (s : State) (t i : ℕ) (r : ℕ → List Slot) (w : Seen) : Type 0 where
+  even : Even (listingOf p) w
+  issued : (k : ℕ) → w .issued k ≡ issuedOf s k
+  word : (l : ℕ) → w .word l ≡ wordOf s l
+  register : (j : ℕ) → w .register j ≡ registerLane s j
+  own : w .row t ≡ spread waitingLanes (without i (buffer s t))
+  others : (k : ℕ) → k < p .threads → k ≢ t → w .row k ≡ bufferLanes s k
+  queued : (q : ℕ) → q < linesOf p → w .row (p .threads + q) ≡ queueLanes s q ++ spread slotLanes (r q)
+
+module _ (p : Program) (s : State) (fit : Fits p s) (t i : ℕ) (low : t < p .threads) where
+  abbrev c : List ℕ
+  c = listingOf p
+
+  abbrev v : Seen
+  v = seenOf p s
+
+  -- where that is what the entry does, they are the lanes of the state that the move leads to
+  moves-same : ruleOf p s (moveStep t i) ≡ 0 → Fits p (nextOf p s (moveStep t i))
+      → (w : Seen) → Moves p s t i (λ q. enters p t q (entryAt (buffer s t) i)) w
+      → lay c w ≡ lay c (seenOf p (nextOf p s (moveStep t i)))
+  unfolding registerLane
+  moves-same legal after w d =
+      same-lanes p u after w (d .even)
+      (λ k h. d .issued k ∙ sym (move-issued p s fit t i low legal k))
+      (λ l h. d .word l ∙ sym (move-word p s fit t i low legal l))
+      (λ j. d .register j ∙ sym (ap (λ (xs : List ℕ). getD xs j 0) (move-registers p s fit t i low legal)))
+      (λ k h. own k h (ℕ-discrete k t))
+      (λ q h. d .queued q h ∙ sym (queued q h))
+    where
+      u : State
+      u = nextOf p s (moveStep t i)
+
+      own : (k : ℕ) → k < p .threads → Dec (k ≡ t) → w .row k ≡ bufferLanes (nextOf p s (moveStep t i)) k
+      own k h (yes e) = unfold bufferLanes in rw (e, move-buffer p s fit t i low legal) (d .own)
+      own k h (no e) =
+          unfold bufferLanes in
+          rw (move-buffer-other p s fit t i low legal k (thread-low (fit .program) h) e) (d .others k h e)
+
+      queued : (q : ℕ) → q < linesOf p
+          → queueLanes (nextOf p s (moveStep t i)) q
+          ≡ queueLanes s q ++ spread slotLanes (enters p t q (entryAt (buffer s t) i))
+      queued q h =
+          let m = few-lines p (fit .program) in
+          unfold queueLanes in
+          rw (move-queue p s fit t i low legal q (omega arith)) (spread-append slotLanes slot-two _ _)
+
+  module _ (within : i < length (buffer s t)) where
+    inside : i < v .long t
+    inside =
+        let m = thread-low (fit .program) low in
+        let a = buffer-long p s fit t m in
+        rw (split-left (p .threads) (bufferLen s) (queueLen s) t low) (omega arith)
+
+    -- nothing else; and an entry more in a queue
+    moves-left : Moves p s t i (λ q. []) (withLeft v t i)
+    unfolding spread bufferLanes
+    moves-left =
+        record {
+          even = even-left c v (even-of p s fit) t i inside;
+          issued = λ k. refl;
+          word = λ l. refl;
+          register = λ j. refl;
+          own = changed-same (v .row) t _
+              ∙ rw (row-buffer p s t low) (spread-without waitingLanes waiting-two i (buffer s t));
+          others = λ k h e. changed-other (v .row) t _ k e ∙ row-buffer p s k h;
+          queued = λ q h.
+              changed-other (v .row) t _ (p .threads + q) (λ e. omega arith) ∙ row-queue p s q
+              ∙ sym (append-nil (queueLanes s q));
+        }
+
+    moves-carried : (q g a : ℕ)
+        → Moves p s t i (λ k. pick (eqb q k) (record { word = a; mark = g } ∷ []) [])
+        (withJoined (withLeft v t i) (queueRow c q) g a)
+    unfolding spread
+    moves-carried q g a =
+        let d = moves-left in
+        record {
+          even = even-joined c (withLeft v t i) (d .even) (queueRow c q) g a;
+          issued = d .issued;
+          word = d .word;
+          register = d .register;
+          own = joined-buffer p (withLeft v t i) q g a t low ∙ d .own;
+          others = λ k h o. joined-buffer p (withLeft v t i) q g a k h ∙ d .others k h o;
+          queued = joined-queue p (withLeft v t i) q g a s (λ k h. d .queued k h ∙ append-nil (queueLanes s k));
+        }
+
+    -- what each kind of entry makes of the view
+    module _ (few : together p s ≤ allCode) where
+      abbrev at : ℕ
+      at = rowStart c (laidOf p s) t + 2 * i
+
+      here : t < threadsIn c
+      here = rw (listing-threads p) low
+
+      left : rowLeft c (laidOf p s) t at ≡ padded (lay c (withLeft v t i))
+      left =
+          leave-row c (listing-fits p (fit .program)) v (even-of p s fit) (few-of p s fit few) t i
+          (row-there p s fit t low) inside
+
+      carried : (l g a : ℕ) → l < p .locations → getD (v .row t) (2 * i + 1) 0 ≡ a
+          → rowCarried c (laidOf p s) t at (lineIn c l) g
+          ≡ padded (lay c (withJoined (withLeft v t i) (queueRow c (lineOf p l)) g a))
+      carried l g a there word =
+          rw (← word, listing-line p (fit .program) l)
+          (carry-row c (listing-fits p (fit .program)) v (even-of p s fit) (few-of p s fit few) t i (lineOf p l) g
+          here (rw (listing-lines p) (line-there p (fit .program) l there)) inside)
+
+      moved : (e : Entry) → Named (p .locations) e → getD (v .row t) (2 * i + 1) 0 ≡ getD (entryLanes e) 1 0
+          → (w : Seen) × (movedLane c (laidOf p s) t at (getD (entryLanes e) 0 0) ≡ padded (lay c w))
+          × Moves p s t i (λ q. enters p t q e) w
+      unfolding movedLane pick Named entryLanes enters
+      moved (Store y) there word =
+          let m = fit .program .sized .few-locations in
+          let l : ℕ = y .location .0 in (
+            withJoined (withLeft v t i) (queueRow c (lineOf p l)) l (y .word),
+            rw (
+              lt-leb sfenceTag l (omega arith),
+              lt-leb flushOptTag l (omega arith),
+              lt-leb flushTag l (omega arith),
+            )
+                (carried l l (y .word) there word),
+            moves-carried (lineOf p l) l (y .word),
+          )
+      moved (Flush y) there word =
+          let m = fit .program .sized .few-locations in
+          let g : ℕ = flushTag + y .0 in (
+            withLeft v t i,
+            rw (
+              lt-leb sfenceTag g (omega arith),
+              lt-leb flushOptTag g (omega arith),
+              le-leb flushTag g (omega arith),
+            )
+                left,
+            moves-left,
+          )
+      moved (FlushOpt y) there word =
+          let m = fit .program .sized .few-locations in
+          let g : ℕ = flushOptTag + y .0 in
+          let back : g - flushOptTag ≡ y .0 = omega arith in (
+            withJoined (withLeft v t i) (queueRow c (lineOf p (y .0))) (markOf t) 0,
+            rw (lt-leb sfenceTag g (omega arith), le-leb flushOptTag g (omega arith), back)
+                (carried (y .0) (markOf t) 0 there word),
+            moves-carried (lineOf p (y .0)) (markOf t) 0,
+          )
+      moved Sfence there word = (withLeft v t i, left, moves-left)
+
+-- a move
+pub move-lanes : (p : Program) (s : State) → Fits p s → together p s ≤ allCode → (t i : ℕ) → t < p .threads
+    → ruleOf p s (moveStep t i) ≡ 0
+    → Fits p (nextOf p s (moveStep t i))
+    → moveLanes (listingOf p) (laidOf p s) t i ≡ laidOf p (nextOf p s (moveStep t i))
+unfolding moveLanes bufferLanes waitingLanes
+move-lanes p s fit few t i low legal after =
+    let x : List ℕ = laidOf p s in
+    let start : ℕ = rowStart (listingOf p) x t in
+    let m = thread-low (fit .program) low in
+    let within = move-within p s fit t i low legal in
+    let tag : getD x (start + 2 * i) 0 ≡ getD (entryLanes (entryAt (buffer s t) i)) 0 0
+    = ap (λ n. getD x n 0) (omega arith) ∙ see-waiting p s fit t low i 0 within (omega arith) in
+    let word : getD (seenOf p s .row t) (2 * i + 1) 0 ≡ getD (entryLanes (entryAt (buffer s t) i)) 1 0
+    = ap (λ (r : List ℕ). getD r (2 * i + 1) 0) (row-buffer p s t low)
+    ∙ get-spread waitingLanes waiting-two (buffer s t) i 1 blankWaiting within (omega arith) in
+    let named = all-get (NamedBy (p .locations)) (buffer s t) i blankWaiting (fit .named t m) within in
+    let done = moved p s fit t i low within few (entryAt (buffer s t) i) named word in
+    rw tag (done .1 ∙ ap padded (moves-same p s fit t i low legal after (done .0) (done .2)))

@@ -1,0 +1,204 @@
+-- The lanes of a state, as a view: what is seen of each thread, line and location is the state's.
+--   split n f g   f below n, g from n on
+--   seenOf p s    the view of the state s
+-- Assumes nothing.
+use Prim.Native.Nat.{ℕ, zero, suc, _+_, _*_, _-_, _≤_, _<_}
+use mathlib.Core.Path.{_≡_, refl, sym, ap, _∙_}
+use mathlib.Core.Logic.{⊎-elim}
+use mathlib.Core.List.{List, [], _∷_, _++_, append-assoc}
+use native.Mathlib.Omega.{arith}
+use native.Mathlib.Nat.{add-zero, add-suc, eq-or-lt-of-le, le-of-suc-le-suc}
+use borrow.Author.Tests.{lt-ltb, le-ltb}
+use lib.Dec.{ltb}
+use lib.ListN.{length, getD, length-append, List·getD-append}
+use lib.Seq.{getD-append-add}
+use Rattle.cases.specs.declared.case.Program.{Program}
+use Rattle.cases.specs.Choice.{pick}
+use Rattle.cases.specs.Sizes.{mostThreads, mostLocations, mostRegisters, allCode}
+use Rattle.cases.specs.Checks.{linesOf}
+use Rattle.cases.proofs.ChoiceLaws.{pick-true, pick-false}
+use Rattle.machine.specs.declared.cells.State.{State}
+use Rattle.machine.specs.declared.cells.Waiting.{Waiting}
+use Rattle.machine.specs.declared.cells.Entry.{Entry}
+use Rattle.machine.specs.declared.cells.Entry.the-variants.{Store, Flush, FlushOpt, Sfence}
+use Rattle.machine.specs.View.{Slot, queue, queueLen, buffer, bufferLen, wordOf, issuedOf}
+use Rattle.machine.specs.Fit.{sumTo, unissued, due, together, Fits}
+use Rattle.machine.proofs.lists.PartLaws.{lt-or-ge}
+use Rattle.machine.proofs.lists.SumLaws.{sum-same}
+use Rattle.machine.proofs.Promises.{buffer-long, queue-long, few-lines}
+use Rattle.search.specs.Lanes.{joinTo, each, spread, entryLanes, waitingLanes, slotLanes, bufferLanes}
+use Rattle.search.specs.Lanes.{queueLanes, registerLane, lanesOf}
+use Rattle.search.specs.Listing.{listingOf}
+use Rattle.search.specs.Rows.{rowsIn}
+use Rattle.search.proofs.listing.ListingLaws.{listing-threads, listing-lines}
+use Rattle.search.proofs.lanes.SeenLaws.{Seen, lay, Even}
+use Rattle.search.proofs.lanes.JoinLaws.{shifted, join-same, each-same, join-add, each-add}
+
+unfoldable pub split : {A : Type 0} → ℕ → (ℕ → A) → (ℕ → A) → ℕ → A
+split n f g r = pick (ltb r n) (f r) (g (r - n))
+
+module _ {A : Type 0} (n : ℕ) (f g : ℕ → A) where
+  pub split-left : (r : ℕ) → r < n → split n f g r ≡ f r
+  unfolding split
+  split-left r h = pick-true _ _ _ (lt-ltb r n h)
+
+  pub split-right : (r : ℕ) → split n f g (n + r) ≡ g r
+  unfolding split
+  split-right r =
+      pick-false _ _ _ (le-ltb (n + r) n (omega arith)) ∙ ap g (omega arith)
+
+  -- behind n it is g
+  shift-split : (r : ℕ) → shifted n (split n f g) r ≡ g r
+  unfolding shifted
+  shift-split r = split-right r
+
+abbrev pub seenOf : Program → State → Seen
+seenOf p s =
+    record {
+      issued = issuedOf s;
+      long = split (p .threads) (bufferLen s) (queueLen s);
+      word = wordOf s;
+      register = registerLane s;
+      row = split (p .threads) (bufferLanes s) (queueLanes s);
+    }
+
+-- its lanes are the state's
+pub lay-of : (p : Program) (s : State) → lay (listingOf p) (seenOf p s) ≡ lanesOf p s
+unfolding lay lanesOf listingOf
+lay-of p s =
+    rw (
+      each-add (p .threads) (linesOf p) (split (p .threads) (bufferLen s) (queueLen s)),
+      each-same (p .threads) (split (p .threads) (bufferLen s) (queueLen s)) (bufferLen s)
+          (split-left (p .threads) (bufferLen s) (queueLen s)),
+      each-same (linesOf p) (shifted (p .threads) (split (p .threads) (bufferLen s) (queueLen s))) (queueLen s)
+          (λ r h. shift-split (p .threads) (bufferLen s) (queueLen s) r),
+      join-add (p .threads) (linesOf p) (split (p .threads) (bufferLanes s) (queueLanes s)),
+      join-same (p .threads) (split (p .threads) (bufferLanes s) (queueLanes s)) (bufferLanes s)
+          (split-left (p .threads) (bufferLanes s) (queueLanes s)),
+      join-same (linesOf p) (shifted (p .threads) (split (p .threads) (bufferLanes s) (queueLanes s)))
+          (queueLanes s)
+          (λ r h. shift-split (p .threads) (bufferLanes s) (queueLanes s) r),
+    )
+    (simp append-assoc)
+
+-- entries of two lanes each
+module _ {A : Type 0} (f : A → List ℕ) (two : (a : A) → length (f a) ≡ 2) where
+  pub length-spread : (xs : List A) → length (spread f xs) ≡ 2 * length xs
+  unfolding spread
+  length-spread [] = refl
+  length-spread (x ∷ xs) =
+      let a = length-append (f x) (spread f xs) in
+      let b = length-spread xs in
+      let c = two x in
+      omega arith
+
+  -- lane j of entry i
+  pub get-spread : (xs : List A) (i j : ℕ) (d : A) → i < length xs → j < 2
+      → getD (spread f xs) (2 * i + j) 0 ≡ getD (f (getD xs i d)) j 0
+  unfolding spread
+  get-spread [] i j d h l = absurd (omega arith)
+  get-spread (x ∷ xs) zero j d h l =
+      let c = two x in
+      let e : 2 * 0 + j ≡ j = omega arith in
+      ap (λ n. getD (f x ++ spread f xs) n 0) e ∙ List·getD-append (f x) (spread f xs) 0 j (omega arith)
+  get-spread (x ∷ xs) (suc i) j d h l =
+      let c = two x in
+      let e : 2 * suc i + j ≡ length (f x) + (2 * i + j) = omega arith in
+      ap (λ n. getD (f x ++ spread f xs) n 0) e
+      ∙ getD-append-add (f x) (spread f xs) (2 * i + j) 0
+      ∙ get-spread xs i j d (omega arith) l
+
+  pub spread-append : (xs ys : List A) → spread f (xs ++ ys) ≡ spread f xs ++ spread f ys
+  unfolding spread
+  spread-append [] ys = refl
+  spread-append (x ∷ xs) ys = rw (spread-append xs ys) (sym (append-assoc (f x) (spread f xs) (spread f ys)))
+
+pub waiting-two : (w : Waiting) → length (waitingLanes w) ≡ 2
+unfolding waitingLanes entryLanes
+waiting-two w = two (w .entry)
+  where
+    two : (e : Entry) → length (entryLanes e) ≡ 2
+    two (Store x) = refl
+    two (Flush l) = refl
+    two (FlushOpt l) = refl
+    two Sfence = refl
+
+pub slot-two : (h : Slot) → length (slotLanes h) ≡ 2
+unfolding slotLanes
+slot-two h = refl
+
+-- sums: of both parts; of more terms
+sum-split : (m n : ℕ) (f g : ℕ → ℕ) → sumTo (m + n) (split m f g) ≡ sumTo m f + sumTo n g
+unfolding sumTo
+sum-split m zero f g =
+    rw add-zero (sum-same m (split m f g) f (split-left m f g)) ∙ sym (add-zero (sumTo m f))
+sum-split m (suc n) f g =
+    let e = sum-split m n f g in
+    let r = split-right m f g n in
+    rw (add-suc) (omega arith)
+
+sum-more : (n m : ℕ) (f : ℕ → ℕ) → n ≤ m → sumTo n f ≤ sumTo m f
+unfolding sumTo
+sum-more n zero f h = let e : n ≡ 0 = omega arith in rw e (omega arith)
+sum-more n (suc m) f h =
+    ⊎-elim (λ e. rw e (omega arith)) (λ l. let i = sum-more n m f (le-of-suc-le-suc l) in omega arith)
+    (eq-or-lt-of-le h)
+
+-- A state that fits its program
+module _ (p : Program) (s : State) (fit : Fits p s) where
+  few : p .threads ≤ mostThreads
+  few = fit .program .sized .few-threads
+
+  length-own : (t : ℕ) → t < p .threads → length (bufferLanes s t) ≡ 2 * bufferLen s t
+  unfolding bufferLanes
+  length-own t low =
+      let m = few in
+      let a = length-spread waitingLanes waiting-two (buffer s t) in
+      let b = buffer-long p s fit t (omega arith) in
+      omega arith
+
+  length-queued : (q : ℕ) → q < linesOf p → length (queueLanes s q) ≡ 2 * queueLen s q
+  unfolding queueLanes
+  length-queued q low =
+      let m = few-lines p (fit .program) in
+      let a = length-spread slotLanes slot-two (queue s q) in
+      let b = queue-long p s fit q (omega arith) in
+      omega arith
+
+  pub even-of : Even (listingOf p) (seenOf p s)
+  even-of = record { twice = λ r h. ⊎-elim (own r) (queued r h) (lt-or-ge r (p .threads)) }
+    where
+      own : (r : ℕ) → r < p .threads → length (seenOf p s .row r) ≡ 2 * seenOf p s .long r
+      own r low =
+          rw (
+            split-left (p .threads) (bufferLanes s) (queueLanes s) r low,
+            split-left (p .threads) (bufferLen s) (queueLen s) r low,
+          )
+          (length-own r low)
+
+      queued : (r : ℕ) → r < rowsIn (listingOf p) → p .threads ≤ r
+          → length (seenOf p s .row r) ≡ 2 * seenOf p s .long r
+      queued r h far =
+          let e : r ≡ p .threads + (r - p .threads) = omega arith in
+          let low : r - p .threads < linesOf p
+          = (let a = listing-threads p in let b = listing-lines p in omega arith) in
+          rw e
+          (rw (
+            split-right (p .threads) (bufferLanes s) (queueLanes s) (r - p .threads),
+            split-right (p .threads) (bufferLen s) (queueLen s) (r - p .threads),
+          )
+          (length-queued (r - p .threads) low))
+
+  -- with the unissued instructions all entries are no more than all together; so there is room for them
+  pub entries-of : sumTo (rowsIn (listingOf p)) (seenOf p s .long) + sumTo mostThreads (unissued p s) ≤ together p s
+  unfolding together due
+  entries-of =
+      let m = few in
+      let l = few-lines p (fit .program) in
+      let a = sum-split (p .threads) (linesOf p) (bufferLen s) (queueLen s) in
+      let b = sum-more (p .threads) mostThreads (bufferLen s) (omega arith) in
+      let c = sum-more (linesOf p) mostLocations (queueLen s) (omega arith) in
+      rw (listing-threads p, listing-lines p) (omega arith)
+
+  pub few-of : together p s ≤ allCode → sumTo (rowsIn (listingOf p)) (seenOf p s .long) ≤ allCode
+  few-of h = let e = entries-of in omega arith

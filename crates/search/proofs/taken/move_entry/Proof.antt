@@ -1,0 +1,58 @@
+-- `move_entry` meets its contract. Assumes nothing.
+use Prim.Native.Nat.{_+_, _*_}
+use native.Mathlib.Omega.{arith}
+use Rattle.search.specs.Taken.{moveLanes}
+use Rattle.search.proofs.taken.RowLenLaws.{EntryAt, entry-at}
+use borrow.Author.Needs.{needs}
+use Rattle.search.proofs.taken.move_entry.Statement.{statement}
+use Rattle.search.proofs.taken.move_entry.Tie as tie
+
+buffer-row-requires : tie.Need-buffer-row-requires
+buffer-row-requires c κs = search needs
+
+row-start-requires : tie.Need-row-start-requires
+row-start-requires c κs = search needs
+
+-- the entry stands within the lanes
+entry : (s : tie.After-row-start) → let o = s .before .before .before in
+    EntryAt (o .args .c .now) (o .args .x) (o .args .t .0) (s .row-start .result + 2 * o .args .i)
+entry s =
+    let p = s .before .before .before .pre in
+    entry-at _ _ (p .0) (p .1) _ _ _ _ (omega arith) (p .3) (s .before .buffer-row .ensures) (s .row-start .ensures)
+
+mul-at : tie.Need-mul-at
+mul-at c = let e = entry c in omega arith
+
+add-at : tie.Need-add-at
+add-at c = let e = entry c in omega arith
+
+mul-tag : tie.Need-mul-tag
+mul-tag c = let e = entry c in omega arith
+
+array-read-tag : tie.Need-array-read-tag
+array-read-tag c = let e = entry c in omega arith
+
+move-lane-requires : tie.Need-move-lane-requires
+move-lane-requires c κs =
+    let p = c .before .before .before .before .pre in
+    let e = entry (c .before) in
+    (p .0, p .1, p .2, omega arith, e .behind, e .before, search needs)
+
+returns : tie.Need-returns
+unfolding moveLanes
+returns c =
+    let s = c .before .before in
+    rw (c .move-lane .ensures, s .row-start .ensures, s .before .buffer-row .ensures)
+
+pub move-entry-spec : {M : Type 1} → statement M
+move-entry-spec =
+    tie.close
+    (tie.spec
+    buffer-row-requires
+    row-start-requires
+    mul-at
+    add-at
+    mul-tag
+    array-read-tag
+    move-lane-requires
+    returns)

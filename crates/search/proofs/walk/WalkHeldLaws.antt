@@ -1,0 +1,116 @@
+-- Lanes that the code holds: what its functions may ask of them, and that a next step leads to such lanes again.
+-- Assumes nothing.
+use Prim.Native.Nat.{ℕ, suc, _+_, _*_, _-_, _≤_, _<_}
+use mathlib.Core.Path.{_≡_, refl, sym, ap, subst, _∙_}
+use mathlib.Core.Logic.{_≢_}
+use mathlib.Core.Bool.{Bool, false}
+use mathlib.Core.List.{List}
+use native.Mathlib.Omega.{arith}
+use Rattle.cases.specs.declared.case.Step.{Step}
+use Rattle.cases.specs.Sizes.{stepSize}
+use Rattle.cases.specs.Checks.{limitsOf, stepFault}
+use Rattle.machine.specs.Sizes.{mostWork}
+use Rattle.machine.specs.Rules.{ruleOf, nextOf}
+use Rattle.machine.specs.Work.{work}
+use Rattle.machine.specs.Model.{Listed, legalSteps}
+use Rattle.machine.specs.Ptso.{ptso}
+use Rattle.machine.proofs.Promises.{ptso-lawful, next-legal, step-fits, step-together, step-lowers}
+use Rattle.search.specs.declared.next.Ranks.{Ranks}
+use Rattle.search.specs.declared.walk.Walked.{Walked}
+use Rattle.search.specs.Walk.{walk}
+use Rattle.search.specs.Seek.{seek, walkedOf, storedOf}
+use Rattle.search.specs.Listing.{ListingFits, listingOf}
+use Rattle.search.specs.Rows.{FewEntries}
+use Rattle.search.specs.Barred.{legalLanes, nextLanes}
+use Rattle.search.specs.Taken.{padded, stepLanes, lanesMachine, reachesLanes, Takes}
+use Rattle.search.specs.Held.{Held}
+use Rattle.search.proofs.listing.ListingLaws.{listing-fits}
+use Rattle.search.proofs.lanes.StateLaws.{lay-of}
+use Rattle.search.proofs.lanes.LookLanesLaws.{laidOf}
+use Rattle.search.proofs.lanes.NextLanesLaws.{legal-is}
+use Rattle.search.proofs.lanes.StepLanesLaws.{few-lanes, step-lanes, step-takes}
+use Rattle.search.proofs.next.RanksLaws.{pushAll, blank, next-pushed, ranks-lists}
+use Rattle.search.proofs.walk.WalkLoopLaws.{Lists, Walking, walking-start}
+
+-- what the walk's loop keeps, over lanes
+abbrev pub Walks : List ℕ → List Bool → List ℕ → List ℕ → List ℕ → ℕ → ℕ → Ranks → List ℕ → List ℕ → ℕ → ℕ → Type 0
+Walks c wanted want passed x depth =
+    Walking (lanesMachine c) (mostWork - depth) (reachesLanes c wanted want passed) x
+
+module _ {c x : List ℕ} {depth room : ℕ} (h : Held c x depth room) where
+  laid-is : x ≡ laidOf (h .program) (h .state)
+  laid-is = h .laid ∙ ap padded (sym (lay-of (h .program) (h .state)))
+
+  pub held-fits : ListingFits c
+  held-fits = rw (h .listed) (listing-fits (h .program) (h .fits .program))
+
+  pub held-few : FewEntries c x
+  held-few = rw (h .listed, laid-is) (few-lanes (h .program) (h .state) (h .fits) (h .few))
+
+  legal-held : legalLanes c x ≡ legalSteps (ptso (h .program)) (h .state)
+  legal-held = rw (h .listed, laid-is) (legal-is (h .program) (h .state) (h .fits))
+
+  -- the array of ranks lists the next steps
+  held-lists : Lists (nextLanes c x) (legalLanes c x)
+  held-lists =
+      rw (next-pushed c x, legal-held) (ranks-lists (h .program) (h .state) (h .fits))
+
+  -- the loop begins
+  pub walks-start : (wanted : List Bool) (want passed : List ℕ) (b : ℕ) (next : Ranks) (out : List ℕ)
+      → next ≡ nextLanes c x → b ≢ 0 → reachesLanes c wanted want passed x ≡ false
+      → Walks c wanted want passed x depth b next out out (b - 1) 0
+  walks-start wanted want passed b next out e some t =
+      walking-start out (rw e held-lists) some t
+
+  -- a next step
+  module _ (k : Step) (on : Listed k (legalLanes c x)) where
+    legal : (stepFault (limitsOf (h .program)) k ≡ 0) × (ruleOf (h .program) (h .state) k ≡ 0)
+    legal =
+        next-legal (ptso (h .program)) (ptso-lawful (h .program) (h .fits .program)) (h .state) k .0
+        (subst (Listed k) legal-held on)
+
+    less : work (h .program) (nextOf (h .program) (h .state) k) < work (h .program) (h .state)
+    less =
+        step-lowers (ptso (h .program)) (ptso-lawful (h .program) (h .fits .program)) (h .state) (h .fits) k
+        (legal .0) (legal .1)
+
+    pub held-takes : Takes c x k
+    held-takes =
+        rw (h .listed, laid-is) (step-takes (h .program) (h .state) (h .fits) (h .few) k (legal .0) (legal .1))
+
+    pub held-deep : depth < mostWork
+    held-deep = let w = less in let d = h .deep in omega arith
+
+    -- what the walk below leaves, one deeper
+    pub below-held : (test : List ℕ → Bool) (b : ℕ) (z : List ℕ) (r : Walked) (last out : List ℕ)
+        → (r ≡ walkedOf (depth + 1) (seek test b (walk (lanesMachine c) (suc (mostWork - (depth + 1))) z)))
+        × (last ≡ storedOf (depth + 1) (seek test b (walk (lanesMachine c) (suc (mostWork - (depth + 1))) z)) out)
+        → (r ≡ walkedOf (depth + 1) (seek test b (walk (lanesMachine c) (mostWork - depth) z)))
+        × (last ≡ storedOf (depth + 1) (seek test b (walk (lanesMachine c) (mostWork - depth) z)) out)
+    below-held test b z r last out l =
+        let d = held-deep in
+        let e : suc (mostWork - (depth + 1)) ≡ mostWork - depth = omega arith in
+        (rw e at (l .0), rw e at (l .1))
+
+    pub held-room : stepSize * depth + stepSize ≤ room
+    held-room = let w = less in let r = h .roomy in omega arith
+
+    pub held-next : (z : List ℕ) → z ≡ stepLanes c x k → Held c z (depth + 1) room
+    held-next z z-is =
+        record {
+          program = h .program;
+          state = nextOf (h .program) (h .state) k;
+          fits = step-fits (h .program) (h .state) (h .fits) k (legal .0) (legal .1);
+          few =
+              (let t = step-together (h .program) (h .state) (h .fits) k (legal .0) (legal .1) in
+              let f = h .few in
+              omega arith);
+          listed = h .listed;
+          laid =
+              z-is
+              ∙ rw (h .listed, laid-is)
+              (step-lanes (h .program) (h .state) (h .fits) (h .few) k (legal .0) (legal .1)
+              ∙ ap padded (lay-of (h .program) (nextOf (h .program) (h .state) k)));
+          deep = (let w = less in let d = h .deep in omega arith);
+          roomy = (let w = less in let r = h .roomy in omega arith);
+        }
