@@ -6,6 +6,7 @@ use mathlib.Core.Bool.{Bool, true, false}
 use mathlib.Core.List.{List, [], _∷_, _++_}
 use lib.ListN.{length, getD, take, drop}
 use Rattle.cases.specs.declared.case.Step.{Step}
+use Rattle.cases.specs.declared.case.Program.{Program}
 use Rattle.cases.specs.declared.case.Ask.{Ask}
 use Rattle.cases.specs.declared.case.Case.{Case}
 use Rattle.cases.specs.Sizes.{mostThreads, mostLocations, longest, stepSize}
@@ -17,6 +18,7 @@ use Rattle.cases.specs.Writing.{readsBack}
 use Rattle.machine.specs.declared.cells.State.{State}
 use Rattle.machine.specs.declared.runs.Verdict.the-variants.{Legal}
 use Rattle.machine.specs.View.{wordOf, issuedOf}
+use Rattle.machine.specs.Fit.{Fits}
 use Rattle.machine.specs.Model.{Model, Lawful, fullLength, Leads, Faultless, Listed}
 use Rattle.machine.specs.Judge.{judgeOf, judgeBytes}
 use Rattle.machine.specs.Ptso.{ptso}
@@ -25,6 +27,7 @@ use Rattle.search.specs.Walk.{Machine, Visit, here, walk, Runs, Walkable
 use Rattle.search.specs.Walk.{walkFrom}
 use Rattle.search.specs.Question.{reaches, reached, unreachable, undecided, None, FirstThat, askOf}
 use Rattle.search.specs.Question.{outcomeNo, outcomePlace, toldOf, questionOf, shownOf}
+use Rattle.search.specs.Lanes.{lanesOf, Alike}
 use Rattle.search.specs.Seek.{seek, walkedOf, walkedNo, walkedPlace, walkedRest}
 use Rattle.search.proofs.walk.WalkLaws as WalkLaws
 use Rattle.search.proofs.walk.WalkModelLaws as WalkModelLaws
@@ -34,6 +37,7 @@ use Rattle.search.proofs.seek.WalkedLaws as WalkedLaws
 use Rattle.search.proofs.ask.ReachLaws as ReachLaws
 use Rattle.search.proofs.shown.ShownLaws as ShownLaws
 use Rattle.search.proofs.ask.QuestionLaws as QuestionLaws
+use Rattle.search.proofs.lanes.AlikeLaws as AlikeLaws
 
 -- Machines: only some of a model's legal steps next, or all
 module _ {S K : Type 0} (m : Model S K) {Fit : S → Type 0} {rank : K → ℕ} (laws : Lawful m Fit rank) where
@@ -233,3 +237,8 @@ stored-passes s bytes read b out room run = ShownLaws.stored-legal s bytes read 
 pub question-low : (s : List ℕ) (room b : ℕ)
     → (outcomeNo (questionOf s room b) < 256) × (outcomePlace (questionOf s room b) ≤ longest)
 question-low = QuestionLaws.question-low
+
+-- Lanes: those of two states that fit are equal exactly where the states hold the same, of the program's threads,
+-- lines and locations
+pub alike-exactly : (p : Program) (s u : State) → Fits p s → Fits p u → (lanesOf p s ≡ lanesOf p u) ↔ Alike p s u
+alike-exactly = AlikeLaws.alike-exactly

@@ -1,6 +1,10 @@
 -- How the code lists a state's legal next steps over its lanes, in 01's order.
 --   barsTag c q g       an entry with the tag g keeps a flush-opt of line q behind it
---   issueBarred, moveBarred, persistBarred   a step breaks a rule
+--   barsAt c q x base i   so does entry i of those from lane `base` on
+--   operationBarred, issueBarred   an issue breaks a rule: by its operation; of thread t
+--   headBarred, passBarred, entryBarred, moveBarred   a move does: of the first entry, of one behind it, of either,
+--                       the row starting at a given lane; of thread t
+--   persistBarred       a persist does
 --   freeFrom barred step i n   of the n steps from `step i` on those that are not barred
 --   freeMoves c x t n   the moves of n threads from t on that are not barred
 --   legalLanes c x      the legal next steps

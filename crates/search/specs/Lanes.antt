@@ -1,9 +1,10 @@
 -- The search's own state: what a state holds of a program's threads, lines and locations, as one list of numbers,
 -- its lanes. What stands behind a queue's or a buffer's entries is no part of it.
 --   joinTo n f       what f says of each number below n, one behind the other
---   each n f         the same where f says one number
+--   single, each n f the same where f says one number
 --   spread f xs      what f says of each on the list xs, one behind the other
---   waitingLanes, slotLanes   an entry of a buffer, of a queue: two lanes, its tag and its word
+--   entryLanes, waitingLanes, slotLanes   an entry of a buffer, one that waits, one of a queue: two lanes, its tag and
+--                    its word
 --   bufferLanes s t, queueLanes s q   those of a buffer, of a queue, oldest first
 --   lanesOf p s      the lanes of the state s of the program p
 --   Alike p s u      the states s and u hold the same, of the program's threads, lines and locations
@@ -70,8 +71,8 @@ lanesOf p s =
     ++ joinTo (p .threads) (bufferLanes s)
     ++ joinTo (linesOf p) (queueLanes s)
 
--- "a state is all of persistent words, queues, buffers, registers, issued counts" of the program's threads, lines
--- and locations; what stands behind the entries is no part of it
+-- the same persistent words, queues, buffers, registers and issued counts, of the program's threads, lines and
+-- locations
 pub record Alike (p : Program) (s u : State) : Type 0 where
   pub same-issued : (t : ℕ) → t < p .threads → issuedOf s t ≡ issuedOf u t
   pub same-buffers : (t : ℕ) → t < p .threads → buffer s t ≡ buffer u t

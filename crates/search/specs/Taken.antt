@@ -7,9 +7,15 @@
 --   rowLeft c x r at             without its entry at lane `at`
 --   rowCarried c x r at q tag    the entry at lane `at` of row r goes to the end of line q's queue, with another tag
 --   entryTag, entryWord          the entry that an instruction puts into its thread's buffer
---   performedLanes, issueLanes   issue; moveLanes, persistLanes; stepLanes: a step by its code
+--   awaitedLanes, tookLanes, fetchedLanes, exchangedLanes, comparedLanes   what an instruction does: it waits; a load;
+--                                the word read goes into the register; an exchange; a compare
+--   performedLanes, issueLanes   by its operation; an issue
+--   movedLane, moveLanes         a move: by the entry's tag; of thread t, position i
+--   settledLane, persistLanes    a persist: what one entry does; of line q
+--   stepLanes c x k              a step by its code
 --   lanesMachine c               the machine over lanes
---   reachesLanes                 a crash leaves what is asked for, with what is asked for issued
+--   missesLane, reachesLanes     a location holds another word than is wanted; a crash leaves what is asked for, with
+--                                what is asked for issued
 --   padded x                     lanes as the code's array holds them: zeros behind
 --   CodeHere c x t at            an instruction of thread t stands at `at`, and there is room for an entry
 --   Takes c x k                  what the code asks of a step: an issue of an instruction that is left, with room for

@@ -116,21 +116,21 @@ fn carry_over(c: &[u32; LISTING], x: &mut [u32; LANES], t: Thread, at: usize, q:
 }
 
 // The tag of the entry that an instruction puts into its thread's buffer, and its word.
-fn entry_tag(op: u32, l: u32) -> u32
-    requires { ⌜ l < 256 ⌝ }
-    ensures { λ r. ⌜ r ≡ entryTag op l ⌝ }
+fn entry_tag(op: u32, l: Location) -> u32
+    ensures { λ r. ⌜ r ≡ entryTag op (l .0) ⌝ }
 {
+    let n = l.0 as u32;
     if op == (STORE_WORD as u32) {
-        return l;
+        return n;
     }
     if op == (STORE_REGISTER as u32) {
-        return l;
+        return n;
     }
     if op == (FLUSH as u32) {
-        return FLUSH_TAG + l;
+        return FLUSH_TAG + n;
     }
     if op == (FLUSH_OPT as u32) {
-        return FLUSH_OPT_TAG + l;
+        return FLUSH_OPT_TAG + n;
     }
     SFENCE_TAG
 }
@@ -153,7 +153,7 @@ fn await_entry(c: &[u32; LISTING], x: &mut [u32; LANES], t: Thread, at: usize)
     ensures { λ r. ⌜ now (x .exit) ≡ awaitedLanes (now (c .entry)) (now (x .entry)) (t .0) at ⌝ }
 {
     let r = rows::register_at(c, t, Register(c[at + 2] as u8));
-    let tag = entry_tag(c[at], c[at + 1]);
+    let tag = entry_tag(c[at], Location(c[at + 1] as u8));
     let word = entry_word(c[at], c[at + 3], x[r]);
     join(c, x, rows::buffer_row(t), tag, word);
 }

@@ -25,14 +25,17 @@ mul-entry-tag c = search needs
 element-copy-out-entry-tag : tie.Need-element-copy-out-entry-tag
 element-copy-out-entry-tag c = search needs
 
-add-entry-tag : tie.Need-add-entry-tag
-add-entry-tag c = search needs
+add-t9 : tie.Need-add-t9
+add-t9 c = search needs
 
-mul-entry-tag-2 : tie.Need-mul-entry-tag-2
-mul-entry-tag-2 c = search needs
+mul-t17 : tie.Need-mul-t17
+mul-t17 c = search needs
 
-element-copy-out-entry-tag-2 : tie.Need-element-copy-out-entry-tag-2
-element-copy-out-entry-tag-2 c = search needs
+element-copy-out-t20 : tie.Need-element-copy-out-t20
+element-copy-out-t20 c = search needs
+
+cast-t13-2 : tie.Need-cast-t13-2
+cast-t13-2 c = search needs
 
 entry-tag-requires : tie.Need-entry-tag-requires
 entry-tag-requires c κs = search needs
@@ -91,9 +94,10 @@ await-entry-spec =
     register-at-requires
     mul-entry-tag
     element-copy-out-entry-tag
-    add-entry-tag
-    mul-entry-tag-2
-    element-copy-out-entry-tag-2
+    add-t9
+    mul-t17
+    element-copy-out-t20
+    cast-t13-2
     entry-tag-requires
     mul-entry-word
     element-copy-out-entry-word

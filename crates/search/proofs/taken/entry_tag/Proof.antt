@@ -5,6 +5,9 @@ use borrow.Author.Needs.{needs}
 use Rattle.search.proofs.taken.entry_tag.Statement.{statement}
 use Rattle.search.proofs.taken.entry_tag.Tie as tie
 
+cast-n : tie.Need-cast-n
+cast-n c = search needs
+
 cast-if1 : tie.Need-cast-if1
 cast-if1 c = search needs
 
@@ -47,6 +50,7 @@ pub entry-tag-spec : {M : Type 1} → statement M
 entry-tag-spec =
     tie.close
     (tie.spec
+    cast-n
     cast-if1
     returns
     cast-if2
