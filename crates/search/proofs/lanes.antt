@@ -1,4 +1,6 @@
 -- The lanes (specs/Lanes), seen apart from any state, and of a state.
+-- any, sum, listed: over any test, sum or list
+pub mod GeneralLaws
 -- changed, Seen, lay, with: what lanes hold, as a view
 pub mod SeenLaws
 -- changed, joinTo, each: what stands one behind the other

@@ -16,16 +16,17 @@ use Rattle.cases.specs.Checks.{linesOf}
 use Rattle.machine.specs.declared.cells.State.{State}
 use Rattle.machine.specs.declared.look.Found.{Found}
 use Rattle.machine.specs.declared.look.Found.the-variants.{At}
-use Rattle.machine.specs.View.{Slot, markOf, marksOf, marksIn, queue, queueLen}
+use Rattle.machine.specs.View.{Slot, markOf, marksOf, marksIn, queue}
 use Rattle.machine.specs.Look.{markerAmong, markerFrom, markerOf, isAt, marked}
-use Rattle.machine.specs.Fit.{sumTo, anyFrom, anyOf, Fits}
-use Rattle.machine.proofs.lists.AnyLaws.{none-any}
+use Rattle.machine.specs.Fit.{anyFrom, anyOf, Fits}
 use Rattle.machine.proofs.lists.PartLaws.{part-none}
 use Rattle.machine.proofs.Promises.{queue-long, queue-marks, few-lines}
 use Rattle.search.specs.Lanes.{slotLanes}
 use Rattle.search.specs.Listing.{threadsIn, linesIn, listingOf}
 use Rattle.search.specs.Rows.{queueRow, rowLen, rowStart, markedAmong, markedFrom, markedLanes}
 use Rattle.search.proofs.listing.ListingLaws.{listing-lines}
+use Rattle.search.proofs.rows.RowLoopLaws.{row-next}
+use Rattle.search.proofs.lanes.GeneralLaws.{any-below}
 use Rattle.search.proofs.lanes.LookLanesLaws.{blankSlot, laidOf, see-queue-long, see-slot}
 
 unfoldable isMark : ℕ → ℕ → Bool
@@ -76,16 +77,6 @@ marked-among x mark (h ∷ q) at after stand =
     go true e = unfold pick either in refl
     go false e = unfold pick either in e
 
--- what is false of the rest is true of one where it is of one of the first
-pub any-front : (f : ℕ → Bool) (i n d : ℕ) → ((k : ℕ) → i + n ≤ k → k < i + n + d → f k ≡ false)
-    → anyFrom i (n + d) f ≡ anyFrom i n f
-unfolding anyFrom
-any-front f i zero d h = none-any f i (zero + d) (λ k a b. h k (omega arith) (omega arith))
-any-front f i (suc n) d h =
-    let e : suc n + d ≡ suc (n + d) = omega arith in
-    ap (λ m. anyFrom i m f) e
-    ∙ ap (either (f i)) (any-front f (suc i) n d (λ k a b. h k (omega arith) (omega arith)))
-
 -- A state that fits its program
 module _ (p : Program) (s : State) (fit : Fits p s) (t : ℕ) where
   abbrev c : List ℕ
@@ -93,10 +84,6 @@ module _ (p : Program) (s : State) (fit : Fits p s) (t : ℕ) where
 
   abbrev x : List ℕ
   x = laidOf p s
-
-  next-start : (r : ℕ) → rowStart c x r + 2 * rowLen c x r ≡ rowStart c x (suc r)
-  unfolding sumTo
-  next-start r = omega arith
 
   -- one queue, and what comes behind it
   marked-queue : (q : ℕ) → q < linesOf p → (after : Bool)
@@ -118,11 +105,11 @@ module _ (p : Program) (s : State) (fit : Fits p s) (t : ℕ) where
   marked-from zero q low = refl
   marked-from (suc k) q low =
       let to : suc (queueRow c q) ≡ queueRow c (suc q) = omega arith in
+      let start : rowStart c x (queueRow c q) + 2 * rowLen c x (queueRow c q) ≡ rowStart c x (queueRow c (suc q))
+      = row-next c x (queueRow c q) ∙ ap (λ r. rowStart c x r) (omega arith) in
       marked-queue q (omega arith) _
       ∙ ap (either (holdsMark (s .marks) (s .lengths) t q))
-      (ap (λ n. markedFrom c x (markOf t) n (suc (queueRow c q)) k) (next-start (queueRow c q))
-      ∙ ap (λ r. markedFrom c x (markOf t) (rowStart c x r) r k) to
-      ∙ marked-from k (suc q) (omega arith))
+      ((λ i. markedFrom c x (markOf t) (start i) (to i) k) ∙ marked-from k (suc q) (omega arith))
 
   -- no queue behind the program's holds any
   empty : (q : ℕ) → linesOf p ≤ q → q < mostLocations → holdsMark (s .marks) (s .lengths) t q ≡ false
@@ -133,11 +120,9 @@ module _ (p : Program) (s : State) (fit : Fits p s) (t : ℕ) where
   unfolding markedLanes marked markerOf
   marked-is =
       let m = few-lines p (fit .program) in
-      let all : linesOf p + (mostLocations - linesOf p) ≡ mostLocations = omega arith in
       ap (λ r. markedFrom c x (markOf t) (rowStart c x r) r (linesIn c)) (sym (add-zero (threadsIn c)))
       ∙ ap (markedFrom c x (markOf t) (rowStart c x (queueRow c 0)) (queueRow c 0)) (listing-lines p)
       ∙ marked-from (linesOf p) 0 (omega arith)
-      ∙ sym (any-front (holdsMark (s .marks) (s .lengths) t) 0 (linesOf p) (mostLocations - linesOf p)
-      (λ k far near. empty k (omega arith) (omega arith)))
-      ∙ ap (λ n. anyFrom 0 n (holdsMark (s .marks) (s .lengths) t)) all
+      ∙ any-below (holdsMark (s .marks) (s .lengths) t) (holdsMark (s .marks) (s .lengths) t) (linesOf p)
+      mostLocations m (λ k low. refl) empty
       ∙ sym (marker-from (s .marks) (s .lengths) t mostLocations 0)

@@ -1,7 +1,7 @@
 -- The test for what is asked, over the lanes of a state, says what it says of the state. Assumes nothing.
-use Prim.Native.Nat.{ℕ, zero, suc, _+_, _-_, _≤_, _<_}
-use mathlib.Core.Path.{_≡_, refl, sym, ap, _∙_}
-use mathlib.Core.Bool.{Bool, true, false, not}
+use Prim.Native.Nat.{ℕ, _≤_, _<_}
+use mathlib.Core.Path.{_≡_, refl, ap, _∙_}
+use mathlib.Core.Bool.{Bool, true, false}
 use mathlib.Core.List.{List}
 use native.Mathlib.Omega.{arith}
 use native.Mathlib.Nat.{eq-zero-or-pos}
@@ -11,7 +11,7 @@ use lib.Dec.{ltb}
 use lib.ListN.{getD}
 use Rattle.cases.specs.declared.case.Program.{Program}
 use Rattle.cases.specs.declared.case.Ask.{Ask}
-use Rattle.cases.specs.Choice.{both, either}
+use Rattle.cases.specs.Choice.{both}
 use Rattle.cases.specs.Sizes.{mostThreads, mostLocations}
 use Rattle.cases.specs.Checks.{countAt}
 use Rattle.machine.specs.declared.cells.State.{State}
@@ -21,26 +21,10 @@ use Rattle.search.specs.Listing.{threadsIn, locationsIn, listingOf}
 use Rattle.search.specs.Taken.{missesLane, reachesLanes}
 use Rattle.search.specs.Held.{AskWithin}
 use Rattle.search.proofs.listing.ListingLaws.{listing-threads, listing-locations}
+use Rattle.search.proofs.lanes.GeneralLaws.{any-below}
 use Rattle.search.proofs.lanes.LayLaws.{see-issued, see-word}
 use Rattle.search.proofs.lanes.StateLaws.{seenOf}
 use Rattle.search.proofs.lanes.LookLanesLaws.{laidOf}
-use Rattle.search.proofs.lanes.MarkLanesLaws.{any-front}
-
--- tests that agree below n, the second of which is true of nothing behind it
-any-agree : (f g : ℕ → Bool) (i n : ℕ) → ((k : ℕ) → i ≤ k → k < i + n → f k ≡ g k)
-    → anyFrom i n f ≡ anyFrom i n g
-unfolding anyFrom
-any-agree f g i zero h = refl
-any-agree f g i (suc n) h =
-    rw (h i (omega arith) (omega arith), any-agree f g (suc i) n (λ k a b. h k (omega arith) (omega arith)))
-
-any-below : (f g : ℕ → Bool) (n m : ℕ) → n ≤ m → ((k : ℕ) → k < n → f k ≡ g k)
-    → ((k : ℕ) → n ≤ k → k < m → g k ≡ false)
-    → anyFrom 0 n f ≡ anyFrom 0 m g
-any-below f g n m h same none =
-    any-agree f g 0 n (λ k a b. same k (omega arith))
-    ∙ sym (any-front g 0 n (m - n) (λ k a b. none k (omega arith) (omega arith)))
-    ∙ ap (λ j. anyFrom 0 j g) (omega arith)
 
 module _ (p : Program) (s : State) (fit : Fits p s) (a : Ask) (within : AskWithin p a) where
   abbrev c : List ℕ

@@ -38,6 +38,7 @@ use Rattle.search.specs.Rows.{queueRow, rowLen, rowStart, markedLanes}
 use Rattle.search.specs.Barred.{barsTag, barsAt, operationBarred, issueBarred, headBarred, passBarred}
 use Rattle.search.specs.Barred.{entryBarred, moveBarred, persistBarred}
 use Rattle.search.proofs.listing.ListingLaws.{listing-threads, listing-count, listing-line, listing-operation}
+use Rattle.search.proofs.lanes.GeneralLaws.{any-numbered}
 use Rattle.search.proofs.lanes.LayLaws.{see-issued}
 use Rattle.search.proofs.lanes.StateLaws.{seenOf}
 use Rattle.search.proofs.lanes.LookLanesLaws.{laidOf, see-buffer-long, see-queue-long, see-waiting}
@@ -64,16 +65,6 @@ either-none false = refl
 some-broken : (n : ℕ) → ltb 0 n ≡ broken n
 some-broken zero = refl
 some-broken (suc n) = lt-ltb 0 (suc n) (omega arith) ∙ sym (ap not (ne-eqb (suc n) 0 (λ e. omega arith)))
-
--- entries asked one after the other, by their number
-any-entries : {A : Type 0} (f : ℕ → Bool) (g : A → Bool) (b : List A) (d : A) (k : ℕ)
-    → ((j : ℕ) → j < length b → f (k + j) ≡ g (getD b j d))
-    → anyFrom k (length b) f ≡ anyOf g b
-unfolding anyFrom anyOf
-any-entries f g [] d k h = refl
-any-entries f g (e ∷ b) d k h =
-    let first : f k ≡ g e = ap f (omega arith) ∙ h 0 (omega arith) in
-    rw (first, any-entries f g b d (suc k) (λ j l. ap f (omega arith) ∙ h (suc j) (omega arith)))
 
 unfoldable barring : Program → ℕ → Waiting → Bool
 barring p q w = bars p q (w .entry)
@@ -224,7 +215,7 @@ module _ (p : Program) (s : State) (fit : Fits p s) where
     barred-before q i h =
         let n = length-take-le i (buffer s t) h in
         ap (λ n. anyFrom 0 n (barsAt c q x (rowStart c x t))) (sym n)
-        ∙ any-entries (barsAt c q x (rowStart c x t)) (barring p q) (take i (buffer s t)) blankWaiting 0
+        ∙ any-numbered (barsAt c q x (rowStart c x t)) (barring p q) (take i (buffer s t)) blankWaiting 0
         (λ j l.
         ap (barsAt c q x (rowStart c x t)) (zero-add j)
         ∙ ap (barsTag c q) (tag-is j (omega arith)) ∙ bars-is q (entryAt (buffer s t) j) (named-is j (omega arith))

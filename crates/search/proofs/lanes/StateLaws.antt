@@ -7,7 +7,7 @@ use mathlib.Core.Path.{_≡_, refl, sym, ap, _∙_}
 use mathlib.Core.Logic.{⊎-elim}
 use mathlib.Core.List.{List, [], _∷_, _++_, append-assoc}
 use native.Mathlib.Omega.{arith}
-use native.Mathlib.Nat.{add-zero, add-suc, eq-or-lt-of-le, le-of-suc-le-suc}
+use native.Mathlib.Nat.{add-zero, add-suc}
 use borrow.Author.Tests.{lt-ltb, le-ltb}
 use lib.Dec.{ltb}
 use lib.ListN.{length, getD, length-append, List·getD-append}
@@ -32,6 +32,7 @@ use Rattle.search.specs.Listing.{listingOf}
 use Rattle.search.specs.Rows.{rowsIn}
 use Rattle.search.proofs.listing.ListingLaws.{listing-threads, listing-lines}
 use Rattle.search.proofs.lanes.SeenLaws.{Seen, lay, Even}
+use Rattle.search.proofs.lanes.GeneralLaws.{sum-front}
 use Rattle.search.proofs.lanes.JoinLaws.{shifted, join-same, each-same, join-add, each-add}
 
 unfoldable pub split : {A : Type 0} → ℕ → (ℕ → A) → (ℕ → A) → ℕ → A
@@ -127,7 +128,7 @@ pub slot-two : (h : Slot) → length (slotLanes h) ≡ 2
 unfolding slotLanes
 slot-two h = refl
 
--- sums: of both parts; of more terms
+-- the sum of both parts
 sum-split : (m n : ℕ) (f g : ℕ → ℕ) → sumTo (m + n) (split m f g) ≡ sumTo m f + sumTo n g
 unfolding sumTo
 sum-split m zero f g =
@@ -136,13 +137,6 @@ sum-split m (suc n) f g =
     let e = sum-split m n f g in
     let r = split-right m f g n in
     rw (add-suc) (omega arith)
-
-sum-more : (n m : ℕ) (f : ℕ → ℕ) → n ≤ m → sumTo n f ≤ sumTo m f
-unfolding sumTo
-sum-more n zero f h = let e : n ≡ 0 = omega arith in rw e (omega arith)
-sum-more n (suc m) f h =
-    ⊎-elim (λ e. rw e (omega arith)) (λ l. let i = sum-more n m f (le-of-suc-le-suc l) in omega arith)
-    (eq-or-lt-of-le h)
 
 -- A state that fits its program
 module _ (p : Program) (s : State) (fit : Fits p s) where
@@ -196,8 +190,8 @@ module _ (p : Program) (s : State) (fit : Fits p s) where
       let m = few in
       let l = few-lines p (fit .program) in
       let a = sum-split (p .threads) (linesOf p) (bufferLen s) (queueLen s) in
-      let b = sum-more (p .threads) mostThreads (bufferLen s) (omega arith) in
-      let c = sum-more (linesOf p) mostLocations (queueLen s) (omega arith) in
+      let b = sum-front (bufferLen s) (p .threads) mostThreads (omega arith) in
+      let c = sum-front (queueLen s) (linesOf p) mostLocations (omega arith) in
       rw (listing-threads p, listing-lines p) (omega arith)
 
   pub few-of : together p s ≤ allCode → sumTo (rowsIn (listingOf p)) (seenOf p s .long) ≤ allCode

@@ -2,7 +2,7 @@
 --   pushAll ks n   the ranks n, with those of the steps ks behind them
 -- Assumes nothing.
 use Prim.Native.Nat.{ℕ, zero, suc, _+_, _*_, _-_, _/_, _%_, _≤_, _<_}
-use mathlib.Core.Path.{_≡_, refl, sym, ap, subst, _∙_}
+use mathlib.Core.Path.{_≡_, refl, sym, ap, _∙_}
 use mathlib.Core.Logic.{_⊎_, inl, inr}
 use mathlib.Core.Bool.{Bool, true, false}
 use mathlib.Core.List.{List, [], _∷_, _++_}
@@ -32,6 +32,7 @@ use Rattle.search.specs.Listing.{threadsIn, linesIn}
 use Rattle.search.specs.Rows.{rowLen}
 use Rattle.search.specs.Barred.{issueBarred, moveBarred, persistBarred, freeFrom, freeMoves}
 use Rattle.search.specs.Barred.{legalLanes, stepAt, nextWith, pushed, offered, offeredFrom, offeredMoves, nextLanes}
+use Rattle.search.proofs.lanes.GeneralLaws.{listed-get}
 use Rattle.search.proofs.walk.WalkLoopLaws.{Lists}
 
 unfoldable pub pushAll : List Step → Ranks → Ranks
@@ -105,12 +106,6 @@ push-here (k ∷ ks) n (suc i) h room =
     ap (λ j. getD (pushAll ks (pushed k n) .ranks) j 0) (omega arith)
     ∙ push-here ks (pushed k n) i (omega arith) (omega arith)
 
-get-listed : (js : List Step) (i : ℕ) → i < length js → Listed (getD js i noStep) js
-unfolding Listed
-get-listed [] i h = absurd (omega arith)
-get-listed (j ∷ js) zero h = inl refl
-get-listed (j ∷ js) (suc i) h = inr (get-listed js i (omega arith))
-
 -- a list whose every step comes back from its rank
 ranks-list : (ks : List Step) → length ks ≤ mostCandidates
     → ((k : Step) → Listed k ks → stepAt (rankOf k) ≡ k)
@@ -131,7 +126,7 @@ ranks-list ks few back =
         ∙ push-here ks blank i h (omega arith) in
         let one : suc i ≡ i + 1 = omega arith in
         drop-cons ks i noStep h
-        ∙ rw (e, back (getD ks i noStep) (get-listed ks i h)) (ap (λ j. getD ks i noStep ∷ drop j ks) one)
+        ∙ rw (e, back (getD ks i noStep) (listed-get ks i noStep h)) (ap (λ j. getD ks i noStep ∷ drop j ks) one)
 
 -- the step of a step's rank is that step: of each kind
 issue-back : (t : ℕ) → t < mostThreads → stepAt (rankOf (issueStep t)) ≡ issueStep t

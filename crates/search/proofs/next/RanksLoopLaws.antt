@@ -17,7 +17,7 @@ use Rattle.search.specs.Listing.{threadsIn, linesIn, ListingFits}
 use Rattle.search.specs.Rows.{rowsIn, rowLen, rowStart, FewEntries}
 use Rattle.search.specs.Barred.{issueBarred, entryBarred, moveBarred, persistBarred, nextWith}
 use Rattle.search.specs.Barred.{pushed, offered, offeredFrom, offeredMoves, nextLanes}
-use Rattle.search.proofs.rows.RowLoopLaws.{sum-front}
+use Rattle.search.proofs.lanes.GeneralLaws.{sum-front}
 
 -- offered: the step is barred; it is not; the list is longer by one at most
 module _ (barred : Bool) (k : Step) (count : ℕ) (ranks : List ℕ) where

@@ -3,10 +3,9 @@
 -- end). Assumes nothing.
 use Prim.Native.Nat.{ℕ, zero, suc, _+_, _*_, _-_, _≤_, _<_}
 use mathlib.Core.Path.{_≡_, refl, _∙_}
-use mathlib.Core.Logic.{_≢_, _⊎_, inl, inr}
+use mathlib.Core.Logic.{_≢_}
 use mathlib.Core.List.{List}
 use native.Mathlib.Omega.{arith}
-use native.Mathlib.Nat.{eq-or-lt-of-le, le-of-suc-le-suc}
 use native.Mathlib.Numerals.{add-one}
 use borrow.Author.Tests.{eq-eqb, ne-eqb, le-leb, lt-leb}
 use lib.Dec.{eqb}
@@ -19,6 +18,7 @@ use Rattle.search.specs.Sizes.{mostLanes, linesAt}
 use Rattle.search.specs.Listing.{threadsIn, linesIn, locationsIn, countIn, lineIn, ListingFits}
 use Rattle.search.specs.Rows.{rowsIn, queueRow, wordAt, rowLen, rowStart, FewEntries, newestLane}
 use Rattle.search.specs.Rows.{queuedLane, loadedLane}
+use Rattle.search.proofs.lanes.GeneralLaws.{sum-front}
 
 -- lineIn: there is no such location; there is
 pub line-none : (c : List ℕ) (l : ℕ) → mostLocations ≤ l → 0 ≡ lineIn c l
@@ -48,16 +48,6 @@ code-low c g t i h k =
     let l : t < mostThreads = omega arith in
     let f = g .few-instructions t l in
     (l, omega arith)
-
--- a sum of fewer terms is no greater
-pub sum-front : (f : ℕ → ℕ) (i n : ℕ) → i ≤ n → sumTo i f ≤ sumTo n f
-unfolding sumTo
-sum-front f i zero h = let e : i ≡ 0 = omega arith in rw e (omega arith)
-sum-front f i (suc n) h = go (eq-or-lt-of-le h) (sum-front f i n)
-  where
-    go : (i ≡ suc n) ⊎ (i < suc n) → (i ≤ n → sumTo i f ≤ sumTo n f) → sumTo i f ≤ sumTo (suc n) f
-    go (inl e) ih = rw e (omega arith)
-    go (inr l) ih = let w = ih (le-of-suc-le-suc l) in omega arith
 
 -- rowStart: the next row starts where one ends; every row ends within the lanes
 pub row-next : (c x : List ℕ) (r : ℕ) → rowStart c x r + 2 * rowLen c x r ≡ rowStart c x (r + 1)

@@ -15,7 +15,8 @@ use Rattle.search.specs.Listing.{threadsIn, countIn, codeAt, ListingFits
 use Rattle.search.specs.Rows.{rowsIn, rowLenAt, registerAt, poolAt, rowLen, rowStart, poolEnd}
 use Rattle.search.specs.Rows.{FewEntries, RoomForOne}
 use Rattle.search.specs.Taken.{inserted, carried, counted, discounted, fetchedLanes, CodeHere}
-use Rattle.search.proofs.rows.RowLoopLaws.{code-low, sum-front, row-low, row-next}
+use Rattle.search.proofs.lanes.GeneralLaws.{sum-front}
+use Rattle.search.proofs.rows.RowLoopLaws.{code-low, row-low, row-next}
 use Rattle.search.proofs.taken.InPlaceLaws.{inserted-before, carried-before}
 
 -- a row starts no further than a later one; two rows' lengths

@@ -6,7 +6,7 @@ use Prim.Native.Nat.{ℕ, zero, suc}
 use mathlib.Core.Path.{_≡_, refl, sym, ap, subst, _∙_}
 use mathlib.Core.Logic.{inl, inr}
 use mathlib.Core.Bool.{Bool, true, false}
-use mathlib.Core.List.{List, [], _∷_, _++_, map}
+use mathlib.Core.List.{List, [], _∷_, _++_, map, map-append}
 use Rattle.machine.specs.Model.{Listed}
 use Rattle.search.specs.Walk.{Machine, Visit, here, under, starting, walk, Runs}
 use Rattle.search.specs.Seek.{seek}
@@ -21,10 +21,6 @@ pub record Along {S T K : Type 0} (m : Machine S K) (w : Machine T K) (f : S →
 
 abbrev pub endsAlong : {S T K : Type 0} → (S → T) → Visit S K → Visit T K
 endsAlong f v = record { run = v .run; end = f (v .end) }
-
-map-append : {A B : Type 0} (f : A → B) (xs ys : List A) → map f (xs ++ ys) ≡ map f xs ++ map f ys
-map-append f [] ys = refl
-map-append f (x ∷ xs) ys = ap (λ l. f x ∷ l) (map-append f xs ys)
 
 map-under : {S T K : Type 0} (f : S → T) (k : K) (vs : List (Visit S K))
     → map (under k) (map (endsAlong f) vs) ≡ map (endsAlong f) (map (under k) vs)
