@@ -7,15 +7,17 @@ pub mod SeenLaws
 pub mod JoinLaws
 -- padded, inserted, carried: over any list
 pub mod ShiftLaws
+-- entry, waiting, slot, spread: entries, two lanes each
+pub mod SpreadLaws
 -- lay, see: what stands where, and what a change does
 pub mod LayLaws
 -- Even, sum: how many entries, where one joins or leaves
 pub mod EvenLaws
 -- rowJoined, rowLeft, rowCarried: what an entry that joins or leaves makes of a view
 pub mod LayRowLaws
--- split, seenOf: of a state; spread
+-- split, seenOf, row, long, even, entries, few, lay: of a state
 pub mod StateLaws
--- newest, queued, loaded, see: what the code's looks find is what the machine's find; laidOf
+-- newest, queued, loaded, see, named: what the code's looks find is what the machine's find; laidOf
 pub mod LookLanesLaws
 -- marked: a thread's marker
 pub mod MarkLanesLaws

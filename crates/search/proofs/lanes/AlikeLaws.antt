@@ -16,6 +16,7 @@ use Rattle.cases.specs.Choice.{pick}
 use Rattle.cases.specs.Sizes.{mostThreads, mostLocations, mostRegisters}
 use Rattle.cases.specs.Checks.{linesOf}
 use Rattle.cases.proofs.ChoiceLaws.{pick-true, pick-false}
+use Rattle.cases.proofs.Promises.{thread-low}
 use Rattle.machine.specs.declared.cells.State.{State}
 use Rattle.machine.specs.declared.cells.Waiting.{Waiting}
 use Rattle.machine.specs.declared.cells.Entry.{Entry}
@@ -23,7 +24,6 @@ use Rattle.machine.specs.declared.cells.Entry.the-variants.{Store, Flush, Flush
 use Rattle.machine.specs.View.{Slot, queue, queueLen, buffer, bufferLen, blankWaiting, wordOf, registerIn}
 use Rattle.machine.specs.View.{issuedOf}
 use Rattle.machine.specs.Fit.{Named, NamedBy, Fits}
-use Rattle.machine.proofs.lists.AllLaws.{all-get}
 use Rattle.machine.proofs.Promises.{buffer-long, queue-long, few-lines}
 use Rattle.search.specs.Sizes.{flushTag, flushOptTag, sfenceTag}
 use Rattle.search.specs.Lanes.{entryLanes, waitingLanes, slotLanes, bufferLanes, queueLanes}
@@ -35,7 +35,7 @@ use Rattle.search.proofs.lanes.JoinLaws.{join-same, each-same}
 use Rattle.search.proofs.lanes.LayLaws.{see-issued, see-word, see-register}
 use Rattle.search.proofs.lanes.StateLaws.{seenOf, lay-of}
 use Rattle.search.proofs.lanes.LookLanesLaws.{laidOf, blankSlot, see-buffer-long, see-queue-long}
-use Rattle.search.proofs.lanes.LookLanesLaws.{see-waiting, see-slot}
+use Rattle.search.proofs.lanes.LookLanesLaws.{see-waiting, see-slot, named-there}
 
 unfoldable entryTold : ℕ → ℕ → Entry
 entryTold tag word =
@@ -114,7 +114,7 @@ module _ (p : Program) (s u : State) (fit : Fits p s) (fits : Fits p u) where
     buffers-alike t low = ext-getD blankWaiting (buffer s t) (buffer u t) long entry
       where
         there : t < mostThreads
-        there = let m = fit .program .sized .few-threads in omega arith
+        there = thread-low (fit .program) low
 
         long : length (buffer s t) ≡ length (buffer u t)
         long =
@@ -129,8 +129,7 @@ module _ (p : Program) (s u : State) (fit : Fits p s) (fits : Fits p u) where
         entry i h =
             let k : i < length (buffer u t) = (let e = long in omega arith) in
             waiting-same (p .locations) (fit .program .sized .few-locations) _ _
-            (all-get (NamedBy (p .locations)) (buffer s t) i blankWaiting (fit .named t there) h)
-            (all-get (NamedBy (p .locations)) (buffer u t) i blankWaiting (fits .named t there) k)
+            (named-there p s fit t low i h) (named-there p u fits t low i k)
             (λ j l. sym (see-waiting p s fit t low i j h l)
             ∙ ap (λ x. getD x (rowStart c x t + (2 * i + j)) 0) same
             ∙ see-waiting p u fits t low i j k l)

@@ -20,7 +20,6 @@ use Rattle.cases.proofs.Promises.{thread-low}
 use Rattle.machine.specs.declared.cells.State.{State}
 use Rattle.machine.specs.declared.cells.Waiting.{Waiting}
 use Rattle.machine.specs.declared.cells.Entry.{Entry}
-use Rattle.machine.specs.declared.cells.Entry.the-variants.{Store, Flush, FlushOpt, Sfence}
 use Rattle.machine.specs.View.{Slot, writeSlot, wordOf, issuedOf}
 use Rattle.machine.specs.Rules.{ruleOf, nextOf}
 use Rattle.machine.specs.Joins.{joins, exchanges, takenBy}
@@ -34,11 +33,11 @@ use Rattle.search.specs.Lanes.{registerLane}
 use Rattle.search.specs.Listing.{listingOf}
 use Rattle.search.specs.Rows.{queueRow}
 use Rattle.search.proofs.lanes.SeenLaws.{Seen, Even, changed, lay, withIssued, withRegister, withJoined}
-use Rattle.search.proofs.lanes.JoinLaws.{changed-same, changed-other}
+use Rattle.search.proofs.lanes.JoinLaws.{changed-same, changed-other, changed-set}
 use Rattle.search.proofs.lanes.EvenLaws.{even-joined}
-use Rattle.search.proofs.lanes.StateLaws.{seenOf, spread-append, waiting-two, slot-two, even-of}
-use Rattle.search.proofs.lanes.SameLanesLaws.{changed-set, row-buffer, row-queue, same-lanes}
-use Rattle.search.proofs.lanes.SameLanesLaws.{joined-buffer, joined-queue}
+use Rattle.search.proofs.lanes.StateLaws.{seenOf, even-of, row-buffer, row-queue}
+use Rattle.search.proofs.lanes.SpreadLaws.{spread-append, entry-pair}
+use Rattle.search.proofs.lanes.SameLanesLaws.{same-lanes, joined-buffer, joined-queue}
 
 pub record Issues (p : Program) (s : State) (t : ℕ) (b : List Waiting) (r : ℕ → List Slot) (registers : List ℕ)
     (w : Seen) : Type 0 where
@@ -52,14 +51,6 @@ pub record Issues (p : Program) (s : State) (t : ℕ) (b : List Waiting) (r : �
 
 abbrev pub issuedSeen : Program → State → ℕ → Seen
 issuedSeen p s t = withIssued (seenOf p s) t (issuedOf s t + 1)
-
--- an entry's two lanes
-entry-pair : (e : Entry) → entryLanes e ≡ getD (entryLanes e) 0 0 ∷ getD (entryLanes e) 1 0 ∷ []
-unfolding entryLanes
-entry-pair (Store w) = refl
-entry-pair (Flush l) = refl
-entry-pair (FlushOpt l) = refl
-entry-pair Sfence = refl
 
 module _ (p : Program) (s : State) (fit : Fits p s) (t : ℕ) (low : t < p .threads) where
   abbrev c : List ℕ
@@ -167,7 +158,7 @@ module _ (p : Program) (s : State) (fit : Fits p s) (t : ℕ) (low : t < p .thre
         own : (k : ℕ) → k < p .threads → Dec (k ≡ t) → w .row k ≡ bufferLanes u k
         own k h (yes e) =
             unfold bufferLanes in
-            rw (e, issue-buffer p s fit t low legal, spread-append waitingLanes waiting-two) (d .own)
+            rw (e, issue-buffer p s fit t low legal, spread-append waitingLanes) (d .own)
         own k h (no e) =
             unfold bufferLanes in
             rw (issue-buffer-other p s fit t low legal k (thread-low (fit .program) h) e) (d .others k h e)
@@ -177,4 +168,4 @@ module _ (p : Program) (s : State) (fit : Fits p s) (t : ℕ) (low : t < p .thre
         queued q h =
             let m = few-lines p (fit .program) in
             unfold queueLanes in
-            rw (issue-queue p s fit t low legal q (omega arith)) (spread-append slotLanes slot-two _ _)
+            rw (issue-queue p s fit t low legal q (omega arith)) (spread-append slotLanes _ _)

@@ -2,14 +2,15 @@
 --   shifted m f   what f says from m on
 -- Assumes nothing.
 use Prim.Native.Nat.{ℕ, zero, suc, _+_, _-_, _*_, _<_}
-use mathlib.Core.Path.{_≡_, refl, _∙_}
+use mathlib.Core.Path.{_≡_, refl, _∙_, sym}
 use mathlib.Core.Logic.{_≢_}
 use mathlib.Core.List.{List, _∷_, _++_, append-nil, append-assoc}
 use native.Mathlib.Nat.{add-zero, add-suc}
 use native.Mathlib.Omega.{arith}
+use native.Mathlib.Decide.{ℕ-discrete}
 use borrow.Author.Tests.{eq-eqb, ne-eqb}
 use lib.ListN.{length, getD, set, length-append}
-use lib.Seq.{append-snoc, getD-at, set-at}
+use lib.Seq.{append-snoc, getD-at, set-at, getD-set-same, getD-set-other}
 use Rattle.cases.proofs.ChoiceLaws.{pick-true, pick-false}
 use Rattle.machine.specs.Fit.{sumTo}
 use Rattle.search.specs.Lanes.{joinTo, each, single}
@@ -23,6 +24,16 @@ changed-same f i a = pick-true _ _ _ (eq-eqb i i refl)
 pub changed-other : {A : Type 0} (f : ℕ → A) (i : ℕ) (a : A) (j : ℕ) → j ≢ i → changed f i a j ≡ f j
 unfolding changed
 changed-other f i a j h = pick-false _ _ _ (ne-eqb j i h)
+
+-- as `set` has it
+pub changed-set : (xs : List ℕ) (j a i : ℕ) → j < length xs
+    → changed (λ k. getD xs k 0) j a i ≡ getD (set xs j a) i 0
+changed-set xs j a i h = go (ℕ-discrete i j)
+  where
+    go : Dec (i ≡ j) → changed (λ k. getD xs k 0) j a i ≡ getD (set xs j a) i 0
+    go (yes e) = rw e (changed-same (λ k. getD xs k 0) j a ∙ sym (getD-set-same xs j a 0 h))
+    go (no e) =
+        changed-other (λ k. getD xs k 0) j a i e ∙ sym (getD-set-other xs j i a 0 e)
 
 unfoldable pub shifted : {A : Type 0} → ℕ → (ℕ → A) → ℕ → A
 shifted m f i = f (m + i)

@@ -1,10 +1,8 @@
 -- What the code's looks find among the lanes of a state is what the machine's definitions find in the state.
 --   newestOf f g es w   of the entries es, oldest first, the word of the newest with tag g, else w
 -- Assumes nothing.
-use Prim.Native.Nat.{ℕ, zero, suc, _+_, _*_, _-_, _≤_, _<_}
+use Prim.Native.Nat.{ℕ, zero, suc, _+_, _*_, _≤_, _<_}
 use mathlib.Core.Path.{_≡_, refl, sym, ap, _∙_}
-use mathlib.Core.Logic.{⊎-elim}
-use mathlib.Core.Bool.{Bool, true, false}
 use mathlib.Core.List.{List, [], _∷_, _++_}
 use native.Mathlib.Omega.{arith}
 use borrow.Author.Tests.{ne-eqb}
@@ -15,6 +13,7 @@ use Rattle.cases.specs.declared.case.Program.{Program}
 use Rattle.cases.specs.Choice.{pick}
 use Rattle.cases.specs.Checks.{linesOf}
 use Rattle.cases.proofs.ChoiceLaws.{pick-false}
+use Rattle.cases.proofs.Promises.{thread-low}
 use Rattle.machine.specs.declared.cells.State.{State}
 use Rattle.machine.specs.declared.cells.Waiting.{Waiting}
 use Rattle.machine.specs.declared.cells.Entry.{Entry}
@@ -22,19 +21,21 @@ use Rattle.machine.specs.declared.cells.Entry.the-variants.{Store, Flush, Flush
 use Rattle.machine.specs.View.{Slot, lineOf, queue, queueLen, buffer, bufferLen, wordOf, blankWaiting, writeSlot}
 use Rattle.machine.specs.Look.{wordOr, newestWrite, storedOr, newestStore, queuedWord, loadOf}
 use Rattle.machine.specs.Rules.{entryAt}
-use Rattle.machine.specs.Fit.{Fits}
+use Rattle.machine.specs.Fit.{Fits, Named, NamedBy}
+use Rattle.machine.proofs.lists.AllLaws.{all-get}
 use Rattle.machine.proofs.Promises.{buffer-long, queue-long, few-lines, line-there}
 use Rattle.search.specs.Sizes.{flushTag, flushOptTag, sfenceTag}
 use Rattle.search.specs.Lanes.{spread, entryLanes, waitingLanes, slotLanes, bufferLanes, queueLanes}
-use Rattle.search.specs.Listing.{lineIn, listingOf}
+use Rattle.search.specs.Listing.{listingOf}
 use Rattle.search.specs.Rows.{rowsIn, queueRow, wordAt, rowLen, rowStart, newestLane, queuedLane, loadedLane}
 use Rattle.search.specs.Taken.{padded}
 use Rattle.search.proofs.listing.ListingLaws.{listing-line, listing-threads, listing-lines}
 use Rattle.search.proofs.listing.ListingLaws.{listing-locations}
-use Rattle.search.proofs.lanes.SeenLaws.{Seen, lay}
+use Rattle.search.proofs.lanes.SeenLaws.{lay}
 use Rattle.search.proofs.lanes.LayLaws.{see-long, see-word, see-row}
-use Rattle.search.proofs.lanes.StateLaws.{seenOf, split-left, split-right, length-spread, get-spread}
-use Rattle.search.proofs.lanes.StateLaws.{waiting-two, slot-two, even-of}
+use Rattle.search.proofs.lanes.StateLaws.{seenOf, even-of, row-buffer, row-queue, long-buffer}
+use Rattle.search.proofs.lanes.StateLaws.{long-queue}
+use Rattle.search.proofs.lanes.SpreadLaws.{length-spread, get-spread, waiting-two, slot-two}
 
 abbrev pub blankSlot : Slot
 blankSlot = writeSlot 0 0
@@ -108,36 +109,45 @@ module _ (p : Program) (s : State) (fit : Fits p s) where
 
   -- how long the rows of a buffer and of a queue are, and what stands in them
   pub see-buffer-long : (t : ℕ) → t < p .threads → rowLen c x t ≡ bufferLen s t
-  see-buffer-long t low =
-      see-long c (seenOf p s) t (row-there t low) ∙ split-left (p .threads) (bufferLen s) (queueLen s) t low
+  see-buffer-long t low = see-long c (seenOf p s) t (row-there t low) ∙ long-buffer p s t low
 
   pub see-queue-long : (q : ℕ) → q < linesOf p → rowLen c x (queueRow c q) ≡ queueLen s q
   unfolding listingOf
-  see-queue-long q low =
-      see-long c (seenOf p s) (queueRow c q) (queue-there q low)
-      ∙ split-right (p .threads) (bufferLen s) (queueLen s) q
+  see-queue-long q low = see-long c (seenOf p s) (queueRow c q) (queue-there q low) ∙ long-queue p s q
+
+  see-entry : {A : Type 0} (f : A → List ℕ) → ((a : A) → length (f a) ≡ 2) → (es : List A) (d : A) (r : ℕ)
+      → r < rowsIn c → seenOf p s .row r ≡ spread f es
+      → (i j : ℕ) → i < length es → j < 2
+      → getD x (rowStart c x r + (2 * i + j)) 0 ≡ getD (f (getD es i d)) j 0
+  see-entry f two es d r low row i j h l =
+      let long = length-spread f two es in
+      let all = ap length row in
+      see-row c (seenOf p s) (even-of p s fit) r (2 * i + j) low (omega arith)
+      ∙ ap (λ e. getD e (2 * i + j) 0) row
+      ∙ get-spread f two es i j d h l
 
   pub see-waiting : (t : ℕ) → t < p .threads → (i j : ℕ) → i < length (buffer s t) → j < 2
       → getD x (rowStart c x t + (2 * i + j)) 0 ≡ getD (waitingLanes (getD (buffer s t) i blankWaiting)) j 0
   unfolding bufferLanes
-  see-waiting t low i j h l =
-      let row = split-left (p .threads) (bufferLanes s) (queueLanes s) t low in
-      let long = length-spread waitingLanes waiting-two (buffer s t) in
-      let all = ap length row in
-      see-row c (seenOf p s) (even-of p s fit) t (2 * i + j) (row-there t low) (omega arith)
-      ∙ ap (λ r. getD r (2 * i + j) 0) row
-      ∙ get-spread waitingLanes waiting-two (buffer s t) i j blankWaiting h l
+  see-waiting t low =
+      see-entry waitingLanes waiting-two (buffer s t) blankWaiting t (row-there t low) (row-buffer p s t low)
 
   pub see-slot : (q : ℕ) → q < linesOf p → (i j : ℕ) → i < length (queue s q) → j < 2
       → getD x (rowStart c x (queueRow c q) + (2 * i + j)) 0 ≡ getD (slotLanes (getD (queue s q) i blankSlot)) j 0
   unfolding queueLanes listingOf
-  see-slot q low i j h l =
-      let row = split-right (p .threads) (bufferLanes s) (queueLanes s) q in
-      let long = length-spread slotLanes slot-two (queue s q) in
-      let all = ap length row in
-      see-row c (seenOf p s) (even-of p s fit) (queueRow c q) (2 * i + j) (queue-there q low) (omega arith)
-      ∙ ap (λ r. getD r (2 * i + j) 0) row
-      ∙ get-spread slotLanes slot-two (queue s q) i j blankSlot h l
+  see-slot q low =
+      see-entry slotLanes slot-two (queue s q) blankSlot (queueRow c q) (queue-there q low) (row-queue p s q)
+
+  -- of an entry of a buffer, its tag; the location that it names is there
+  pub see-tag : (t : ℕ) → t < p .threads → (i : ℕ) → i < length (buffer s t)
+      → getD x (rowStart c x t + 2 * i) 0 ≡ getD (entryLanes (entryAt (buffer s t) i)) 0 0
+  unfolding waitingLanes
+  see-tag t low i h = ap (λ n. getD x n 0) (omega arith) ∙ see-waiting t low i 0 h (omega arith)
+
+  pub named-there : (t : ℕ) → t < p .threads → (i : ℕ) → i < length (buffer s t)
+      → Named (p .locations) (entryAt (buffer s t) i)
+  named-there t low i =
+      all-get (NamedBy (p .locations)) (buffer s t) i blankWaiting (fit .named t (thread-low (fit .program) low))
 
   -- a location's word as it stands in its queue or in memory; what a load takes
   pub queued-is : (l : ℕ) → l < p .locations → queuedLane c x l ≡ queuedWord p s l

@@ -1,7 +1,7 @@
 -- The code's search for a thread's marker among the lanes of a state finds what the machine's finds in its queues.
 --   isMark mark m, holdsMark   the mark sought; a queue holds one
 -- Assumes nothing.
-use Prim.Native.Nat.{ℕ, zero, suc, _+_, _*_, _-_, _≤_, _<_}
+use Prim.Native.Nat.{ℕ, zero, suc, _+_, _*_, _≤_, _<_}
 use mathlib.Core.Path.{_≡_, refl, sym, ap, _∙_}
 use mathlib.Core.Bool.{Bool, true, false}
 use mathlib.Core.List.{List, [], _∷_}

@@ -19,13 +19,11 @@ use Rattle.cases.proofs.Promises.{thread-low}
 use Rattle.machine.specs.declared.cells.State.{State}
 use Rattle.machine.specs.declared.cells.Entry.{Entry}
 use Rattle.machine.specs.declared.cells.Entry.the-variants.{Store, Flush, FlushOpt, Sfence}
-use Rattle.machine.specs.View.{Slot, lineOf, markOf, queueLen, buffer, bufferLen, wordOf, issuedOf, without}
-use Rattle.machine.specs.View.{blankWaiting}
+use Rattle.machine.specs.View.{Slot, lineOf, markOf, buffer, wordOf, issuedOf, without, blankWaiting}
 use Rattle.machine.specs.Rules.{entryAt, ruleOf, nextOf}
 use Rattle.machine.specs.Joins.{enters}
-use Rattle.machine.specs.Fit.{together, Named, NamedBy, Fits}
+use Rattle.machine.specs.Fit.{together, Named, Fits}
 use Rattle.machine.specs.Next.{moveStep}
-use Rattle.machine.proofs.lists.AllLaws.{all-get}
 use Rattle.machine.proofs.Promises.{buffer-long, few-lines, line-there}
 use Rattle.machine.proofs.Effects.{move-within, move-issued, move-buffer, move-buffer-other, move-queue, move-word}
 use Rattle.machine.proofs.Effects.{move-registers}
@@ -40,11 +38,10 @@ use Rattle.search.proofs.lanes.SeenLaws.{Seen, Even, lay, withLeft, wit
 use Rattle.search.proofs.lanes.JoinLaws.{changed-same, changed-other}
 use Rattle.search.proofs.lanes.EvenLaws.{even-joined, even-left}
 use Rattle.search.proofs.lanes.LayRowLaws.{leave-row, carry-row}
-use Rattle.search.proofs.lanes.StateLaws.{seenOf, split-left, spread-append, get-spread, waiting-two, slot-two}
-use Rattle.search.proofs.lanes.StateLaws.{even-of, few-of}
-use Rattle.search.proofs.lanes.LookLanesLaws.{laidOf, row-there, see-waiting}
-use Rattle.search.proofs.lanes.SameLanesLaws.{row-buffer, row-queue, joined-buffer, joined-queue, same-lanes}
-use Rattle.search.proofs.lanes.SameLanesLaws.{spread-without}
+use Rattle.search.proofs.lanes.StateLaws.{seenOf, even-of, few-of, row-buffer, row-queue, long-buffer}
+use Rattle.search.proofs.lanes.SpreadLaws.{spread-append, get-spread, waiting-two, spread-without}
+use Rattle.search.proofs.lanes.LookLanesLaws.{laidOf, row-there, see-tag, named-there}
+use Rattle.search.proofs.lanes.SameLanesLaws.{joined-buffer, joined-queue, same-lanes}
 
 record Moves (p : Program) (s : State) (t i : ℕ) (r : ℕ → List Slot) (w : Seen) : Type 0 where
   even : Even (listingOf p) w
@@ -90,14 +87,14 @@ module _ (p : Program) (s : State) (fit : Fits p s) (t i : ℕ) (low : t < p .th
       queued q h =
           let m = few-lines p (fit .program) in
           unfold queueLanes in
-          rw (move-queue p s fit t i low legal q (omega arith)) (spread-append slotLanes slot-two _ _)
+          rw (move-queue p s fit t i low legal q (omega arith)) (spread-append slotLanes _ _)
 
   module _ (within : i < length (buffer s t)) where
     inside : i < v .long t
     inside =
         let m = thread-low (fit .program) low in
         let a = buffer-long p s fit t m in
-        rw (split-left (p .threads) (bufferLen s) (queueLen s) t low) (omega arith)
+        rw (long-buffer p s t low) (omega arith)
 
     -- nothing else; and an entry more in a queue
     moves-left : Moves p s t i (λ q. []) (withLeft v t i)
@@ -199,15 +196,10 @@ pub move-lanes : (p : Program) (s : State) → Fits p s → together p s ≤ all
     → moveLanes (listingOf p) (laidOf p s) t i ≡ laidOf p (nextOf p s (moveStep t i))
 unfolding moveLanes bufferLanes waitingLanes
 move-lanes p s fit few t i low legal after =
-    let x : List ℕ = laidOf p s in
-    let start : ℕ = rowStart (listingOf p) x t in
-    let m = thread-low (fit .program) low in
     let within = move-within p s fit t i low legal in
-    let tag : getD x (start + 2 * i) 0 ≡ getD (entryLanes (entryAt (buffer s t) i)) 0 0
-    = ap (λ n. getD x n 0) (omega arith) ∙ see-waiting p s fit t low i 0 within (omega arith) in
     let word : getD (seenOf p s .row t) (2 * i + 1) 0 ≡ getD (entryLanes (entryAt (buffer s t) i)) 1 0
     = ap (λ (r : List ℕ). getD r (2 * i + 1) 0) (row-buffer p s t low)
     ∙ get-spread waitingLanes waiting-two (buffer s t) i 1 blankWaiting within (omega arith) in
-    let named = all-get (NamedBy (p .locations)) (buffer s t) i blankWaiting (fit .named t m) within in
+    let named = named-there p s fit t low i within in
     let done = moved p s fit t i low within few (entryAt (buffer s t) i) named word in
-    rw tag (done .1 ∙ ap padded (moves-same p s fit t i low legal after (done .0) (done .2)))
+    rw (see-tag p s fit t low i within) (done .1 ∙ ap padded (moves-same p s fit t i low legal after (done .0) (done .2)))

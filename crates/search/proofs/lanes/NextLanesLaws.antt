@@ -1,6 +1,6 @@
 -- The steps that are not barred over the lanes of a state are the machine's legal steps, in the same order; and the
 -- array of ranks that the code makes stands for that list. Assumes nothing.
-use Prim.Native.Nat.{ℕ, zero, suc, _+_, _*_, _-_, _≤_, _<_}
+use Prim.Native.Nat.{ℕ, zero, suc, _+_, _-_, _≤_, _<_}
 use mathlib.Core.Path.{_≡_, refl, sym, ap, _∙_}
 use mathlib.Core.Bool.{Bool, true, false, not}
 use mathlib.Core.List.{List, [], _∷_, _++_}
@@ -11,11 +11,11 @@ use lib.ListN.{length}
 use Rattle.cases.specs.declared.case.Step.{Step}
 use Rattle.cases.specs.declared.case.Program.{Program}
 use Rattle.cases.specs.Choice.{pick}
-use Rattle.cases.specs.Sizes.{mostThreads, mostInstructions}
+use Rattle.cases.specs.Sizes.{mostInstructions}
 use Rattle.cases.specs.Checks.{linesOf}
 use Rattle.cases.proofs.ChoiceLaws.{never-both}
 use Rattle.machine.specs.declared.cells.State.{State}
-use Rattle.machine.specs.View.{buffer, bufferLen}
+use Rattle.machine.specs.View.{buffer}
 use Rattle.machine.specs.Rules.{ruleOf}
 use Rattle.machine.specs.Model.{allowed, legalSteps}
 use Rattle.machine.specs.Next.{issueStep, moveStep, persistStep, stepsFrom, movesOf, movesFrom, candidates}

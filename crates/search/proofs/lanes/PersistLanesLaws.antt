@@ -14,7 +14,7 @@ use Rattle.cases.specs.Sizes.{mostLocations, allCode}
 use Rattle.cases.specs.Checks.{linesOf}
 use Rattle.cases.proofs.ChoiceLaws.{pick-true, pick-false}
 use Rattle.machine.specs.declared.cells.State.{State}
-use Rattle.machine.specs.View.{Slot, queue, queueLen, bufferLen, wordOf}
+use Rattle.machine.specs.View.{Slot, queue, queueLen, wordOf}
 use Rattle.machine.specs.Look.{wordOr}
 use Rattle.machine.specs.Rules.{ruleOf, nextOf}
 use Rattle.machine.specs.Fit.{together, Fits}
@@ -33,9 +33,9 @@ use Rattle.search.proofs.lanes.JoinLaws.{changed-same, changed-other}
 use Rattle.search.proofs.lanes.EvenLaws.{even-left}
 use Rattle.search.proofs.lanes.LayLaws.{set-word}
 use Rattle.search.proofs.lanes.LayRowLaws.{leave-row}
-use Rattle.search.proofs.lanes.StateLaws.{seenOf, split-right, even-of, few-of}
+use Rattle.search.proofs.lanes.StateLaws.{seenOf, even-of, few-of, row-buffer, row-queue, long-queue}
 use Rattle.search.proofs.lanes.LookLanesLaws.{blankSlot, laidOf, queue-there, see-slot}
-use Rattle.search.proofs.lanes.SameLanesLaws.{row-buffer, row-queue, same-lanes}
+use Rattle.search.proofs.lanes.SameLanesLaws.{same-lanes}
 
 abbrev settledSeen : Program → State → ℕ → (ℕ → ℕ) → Seen
 settledSeen p s q words =
@@ -76,7 +76,7 @@ module _ (p : Program) (s : State) (fit : Fits p s) (q : ℕ) (low : q < linesOf
   -- its row is there, and what stands first in it
   inside : 0 < v .long r
   unfolding listingOf
-  inside = rw (split-right (p .threads) (bufferLen s) (queueLen s) q) queue-some
+  inside = rw (long-queue p s q) queue-some
 
   see-first : (j : ℕ) → j < 2 → getD x (rowStart c x r + j) 0 ≡ getD (slotLanes h) j 0
   see-first j few =

@@ -1,22 +1,22 @@
 -- A step is barred over the lanes of a state exactly where it breaks a rule in the state.
 --   broken r   a rule's number that is not 0
 -- Assumes nothing.
-use Prim.Native.Nat.{ℕ, zero, suc, _+_, _*_, _-_, _≤_, _<_}
+use Prim.Native.Nat.{ℕ, zero, suc, _+_, _-_, _≤_, _<_}
 use mathlib.Core.Path.{_≡_, refl, sym, ap, _∙_}
 use mathlib.Core.Logic.{⊎-elim}
 use mathlib.Core.Bool.{Bool, true, false, not}
 use mathlib.Core.List.{List, [], _∷_}
 use native.Mathlib.Omega.{arith}
 use native.Mathlib.Nat.{zero-add}
-use borrow.Author.Tests.{lt-ltb, le-ltb, lt-leb, le-leb, leb-false, leb-true, eq-eqb, ne-eqb}
+use borrow.Author.Tests.{lt-ltb, le-ltb, lt-leb, le-leb, leb-false, ne-eqb}
 use lib.Dec.{eqb, leb, ltb}
 use lib.ListN.{length, getD, take}
 use lib.Seq.{getD-take, length-take-le}
 use Rattle.cases.specs.declared.case.Program.{Program}
-use Rattle.cases.specs.Choice.{pick, both, either, refuse}
-use Rattle.cases.specs.Sizes.{mostThreads, mostInstructions}
+use Rattle.cases.specs.Choice.{pick, either, refuse}
+use Rattle.cases.specs.Sizes.{mostThreads}
 use Rattle.cases.specs.Checks.{linesOf, countAt, instructionAt}
-use Rattle.cases.proofs.ChoiceLaws.{pick-true, pick-false}
+use Rattle.cases.proofs.Promises.{thread-low}
 use Rattle.machine.specs.declared.cells.State.{State}
 use Rattle.machine.specs.declared.cells.Waiting.{Waiting}
 use Rattle.machine.specs.declared.cells.Entry.{Entry}
@@ -26,22 +26,22 @@ use Rattle.machine.specs.Parts.{partsOf}
 use Rattle.machine.specs.Look.{marked, bars, firstBar}
 use Rattle.machine.specs.Rules.{isBarrier, barrierRule, operationRule, issueRule, effectRule, passRule, entryAt}
 use Rattle.machine.specs.Rules.{moveRule, persistRule, ruleIn, ruleOf}
-use Rattle.machine.specs.Fit.{anyFrom, anyOf, AllOf, Named, NamedBy, Fits}
+use Rattle.machine.specs.Fit.{anyFrom, anyOf, Named, Fits}
 use Rattle.machine.specs.Next.{issueStep, moveStep, persistStep}
-use Rattle.machine.proofs.lists.AllLaws.{all-get}
 use Rattle.machine.proofs.lists.PartLaws.{lt-or-ge}
 use Rattle.machine.proofs.Promises.{buffer-long, line-there}
 use Rattle.search.specs.Sizes.{flushTag, flushOptTag, sfenceTag}
-use Rattle.search.specs.Lanes.{entryLanes, waitingLanes}
-use Rattle.search.specs.Listing.{lineIn, countIn, codeAt, listingOf}
-use Rattle.search.specs.Rows.{queueRow, rowLen, rowStart, markedLanes}
+use Rattle.search.specs.Lanes.{entryLanes}
+use Rattle.search.specs.Listing.{lineIn, codeAt, listingOf}
+use Rattle.search.specs.Rows.{rowStart}
 use Rattle.search.specs.Barred.{barsTag, barsAt, operationBarred, issueBarred, headBarred, passBarred}
 use Rattle.search.specs.Barred.{entryBarred, moveBarred, persistBarred}
 use Rattle.search.proofs.listing.ListingLaws.{listing-threads, listing-count, listing-line, listing-operation}
 use Rattle.search.proofs.lanes.GeneralLaws.{any-numbered}
 use Rattle.search.proofs.lanes.LayLaws.{see-issued}
 use Rattle.search.proofs.lanes.StateLaws.{seenOf}
-use Rattle.search.proofs.lanes.LookLanesLaws.{laidOf, see-buffer-long, see-queue-long, see-waiting}
+use Rattle.search.proofs.lanes.LookLanesLaws.{laidOf, see-buffer-long, see-queue-long, see-tag}
+use Rattle.search.proofs.lanes.LookLanesLaws.{named-there}
 use Rattle.search.proofs.lanes.MarkLanesLaws.{marked-is}
 
 abbrev pub broken : ℕ → Bool
@@ -96,7 +96,7 @@ module _ (p : Program) (s : State) (fit : Fits p s) where
 
   module _ (t : ℕ) (low : t < p .threads) where
     in-range : t < mostThreads
-    in-range = let m = fit .program .sized .few-threads in omega arith
+    in-range = thread-low (fit .program) low
 
     -- Issue
     operation-barred : (op : ℕ) → operationBarred c x t op ≡ broken (operationRule op (partsOf s) t)
@@ -199,16 +199,6 @@ module _ (p : Program) (s : State) (fit : Fits p s) where
         rw (lt-leb sfenceTag g (omega arith), le-leb flushOptTag g (omega arith)) (unfold pick in refl)
     bars-is q Sfence there = rw (le-leb sfenceTag sfenceTag (omega arith)) (unfold pick in refl)
 
-    -- what stands at a position of the buffer
-    module _ (i : ℕ) (within : i < length (buffer s t)) where
-      tag-is : getD x (rowStart c x t + 2 * i) 0 ≡ getD (entryLanes (entryAt (buffer s t) i)) 0 0
-      unfolding waitingLanes
-      tag-is = ap (λ n. getD x n 0) (omega arith) ∙ see-waiting p s fit t low i 0 within (omega arith)
-
-      named-is : Named (p .locations) (entryAt (buffer s t) i)
-      named-is =
-          all-get (NamedBy (p .locations)) (buffer s t) i blankWaiting (fit .named t in-range) within
-
     barred-before : (q i : ℕ) → i ≤ length (buffer s t)
         → anyFrom 0 i (barsAt c q x (rowStart c x t)) ≡ ltb (firstBar p q (take i (buffer s t))) i
     unfolding barsAt barring
@@ -218,7 +208,7 @@ module _ (p : Program) (s : State) (fit : Fits p s) where
         ∙ any-numbered (barsAt c q x (rowStart c x t)) (barring p q) (take i (buffer s t)) blankWaiting 0
         (λ j l.
         ap (barsAt c q x (rowStart c x t)) (zero-add j)
-        ∙ ap (barsTag c q) (tag-is j (omega arith)) ∙ bars-is q (entryAt (buffer s t) j) (named-is j (omega arith))
+        ∙ ap (barsTag c q) (see-tag p s fit t low j (omega arith)) ∙ bars-is q (entryAt (buffer s t) j) (named-there p s fit t low j (omega arith))
         ∙ ap (barring p q) (sym (getD-take i (buffer s t) j blankWaiting (omega arith))))
         ∙ any-first p q (take i (buffer s t))
         ∙ ap (ltb (firstBar p q (take i (buffer s t)))) n
@@ -261,9 +251,9 @@ module _ (p : Program) (s : State) (fit : Fits p s) where
         let n = buffer-long p s fit t in-range in
         rw (
           rule-is i,
-          tag-is i h,
-          head-barred (entryAt (buffer s t) i) (named-is i h),
-          pass-barred i (omega arith) (entryAt (buffer s t) i) (named-is i h),
+          see-tag p s fit t low i h,
+          head-barred (entryAt (buffer s t) i) (named-there p s fit t low i h),
+          pass-barred i (omega arith) (entryAt (buffer s t) i) (named-there p s fit t low i h),
           lt-leb (bufferLen s t) i (omega arith),
         )
         (go (eqb i 0))

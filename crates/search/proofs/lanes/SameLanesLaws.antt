@@ -8,13 +8,13 @@ use native.Mathlib.Omega.{arith}
 use native.Mathlib.Decide.{ℕ-discrete}
 use borrow.Author.Tests.{eq-eqb, ne-eqb}
 use lib.Dec.{eqb}
-use lib.ListN.{length, getD, set, take, drop}
-use lib.Seq.{getD-set-same, getD-set-other, take-nil, drop-nil, take-append-add, drop-append-add}
+use lib.ListN.{length, getD, set}
+use lib.Seq.{getD-set-other}
 use Rattle.cases.specs.declared.case.Program.{Program}
 use Rattle.cases.specs.Choice.{pick}
 use Rattle.cases.specs.Checks.{linesOf}
 use Rattle.machine.specs.declared.cells.State.{State}
-use Rattle.machine.specs.View.{wordOf, issuedOf, without}
+use Rattle.machine.specs.View.{wordOf, issuedOf}
 use Rattle.machine.specs.Fit.{sumTo, Fits}
 use Rattle.machine.proofs.lists.PartLaws.{lt-or-ge}
 use Rattle.machine.proofs.lists.SumLaws.{sum-same}
@@ -25,50 +25,7 @@ use Rattle.search.proofs.listing.ListingLaws.{listing-threads, listing-
 use Rattle.search.proofs.lanes.SeenLaws.{Seen, Even, changed, lay, withJoined}
 use Rattle.search.proofs.lanes.JoinLaws.{changed-same, changed-other}
 use Rattle.search.proofs.lanes.LayLaws.{lay-same}
-use Rattle.search.proofs.lanes.StateLaws.{seenOf, split-left, split-right, spread-append, even-of}
-
--- changed: as `set` has it
-pub changed-set : (xs : List ℕ) (j a i : ℕ) → j < length xs
-    → changed (λ k. getD xs k 0) j a i ≡ getD (set xs j a) i 0
-changed-set xs j a i h = go (ℕ-discrete i j)
-  where
-    go : Dec (i ≡ j) → changed (λ k. getD xs k 0) j a i ≡ getD (set xs j a) i 0
-    go (yes e) = rw e (changed-same (λ k. getD xs k 0) j a ∙ sym (getD-set-same xs j a 0 h))
-    go (no e) =
-        changed-other (λ k. getD xs k 0) j a i e ∙ sym (getD-set-other xs j i a 0 e)
-
--- entries of two lanes each: the first n; those behind; all but one
-module _ {A : Type 0} (f : A → List ℕ) (two : (a : A) → length (f a) ≡ 2) where
-  spread-take : (n : ℕ) (xs : List A) → take (2 * n) (spread f xs) ≡ spread f (take n xs)
-  unfolding spread
-  spread-take zero xs = refl
-  spread-take (suc n) [] = take-nil (2 * suc n)
-  spread-take (suc n) (x ∷ xs) =
-      let e : 2 * suc n ≡ length (f x) + 2 * n = (let c = two x in omega arith) in
-      ap (λ m. take m (f x ++ spread f xs)) e ∙ take-append-add (f x) (spread f xs) (2 * n) ∙ rw (spread-take n xs)
-
-  spread-drop : (n : ℕ) (xs : List A) → drop (2 * n) (spread f xs) ≡ spread f (drop n xs)
-  unfolding spread
-  spread-drop zero xs = refl
-  spread-drop (suc n) [] = drop-nil (2 * suc n)
-  spread-drop (suc n) (x ∷ xs) =
-      let e : 2 * suc n ≡ length (f x) + 2 * n = (let c = two x in omega arith) in
-      ap (λ m. drop m (f x ++ spread f xs)) e ∙ drop-append-add (f x) (spread f xs) (2 * n) ∙ spread-drop n xs
-
-  pub spread-without : (i : ℕ) (xs : List A)
-      → take (2 * i) (spread f xs) ++ drop (2 * i + 2) (spread f xs) ≡ spread f (without i xs)
-  unfolding without
-  spread-without i xs =
-      let e : 2 * i + 2 ≡ 2 * (i + 1) = omega arith in
-      rw (e, spread-take i xs, spread-drop (i + 1) xs) (sym (spread-append f two (take i xs) (drop (i + 1) xs)))
-
--- the row of a buffer; of a queue
-module _ (p : Program) (s : State) where
-  pub row-buffer : (t : ℕ) → t < p .threads → seenOf p s .row t ≡ bufferLanes s t
-  row-buffer t low = split-left (p .threads) (bufferLanes s) (queueLanes s) t low
-
-  pub row-queue : (q : ℕ) → seenOf p s .row (p .threads + q) ≡ queueLanes s q
-  row-queue q = split-right (p .threads) (bufferLanes s) (queueLanes s) q
+use Rattle.search.proofs.lanes.StateLaws.{seenOf, even-of, row-buffer, row-queue}
 
 -- an entry more at the end of line q's row: the rows of buffers stay, and the queues' rows have it
 module _ (p : Program) (w : Seen) (q g a : ℕ) where

@@ -3,37 +3,33 @@
 --   seenOf p s    the view of the state s
 -- Assumes nothing.
 use Prim.Native.Nat.{ℕ, zero, suc, _+_, _*_, _-_, _≤_, _<_}
-use mathlib.Core.Path.{_≡_, refl, sym, ap, _∙_}
+use mathlib.Core.Path.{_≡_, sym, ap, _∙_}
 use mathlib.Core.Logic.{⊎-elim}
-use mathlib.Core.List.{List, [], _∷_, _++_, append-assoc}
+use mathlib.Core.List.{append-assoc}
 use native.Mathlib.Omega.{arith}
 use native.Mathlib.Nat.{add-zero, add-suc}
 use borrow.Author.Tests.{lt-ltb, le-ltb}
 use lib.Dec.{ltb}
-use lib.ListN.{length, getD, length-append, List·getD-append}
-use lib.Seq.{getD-append-add}
+use lib.ListN.{length}
 use Rattle.cases.specs.declared.case.Program.{Program}
 use Rattle.cases.specs.Choice.{pick}
-use Rattle.cases.specs.Sizes.{mostThreads, mostLocations, mostRegisters, allCode}
+use Rattle.cases.specs.Sizes.{mostThreads, mostLocations, allCode}
 use Rattle.cases.specs.Checks.{linesOf}
 use Rattle.cases.proofs.ChoiceLaws.{pick-true, pick-false}
 use Rattle.machine.specs.declared.cells.State.{State}
-use Rattle.machine.specs.declared.cells.Waiting.{Waiting}
-use Rattle.machine.specs.declared.cells.Entry.{Entry}
-use Rattle.machine.specs.declared.cells.Entry.the-variants.{Store, Flush, FlushOpt, Sfence}
-use Rattle.machine.specs.View.{Slot, queue, queueLen, buffer, bufferLen, wordOf, issuedOf}
+use Rattle.machine.specs.View.{queue, queueLen, buffer, bufferLen, wordOf, issuedOf}
 use Rattle.machine.specs.Fit.{sumTo, unissued, due, together, Fits}
 use Rattle.machine.proofs.lists.PartLaws.{lt-or-ge}
 use Rattle.machine.proofs.lists.SumLaws.{sum-same}
 use Rattle.machine.proofs.Promises.{buffer-long, queue-long, few-lines}
-use Rattle.search.specs.Lanes.{joinTo, each, spread, entryLanes, waitingLanes, slotLanes, bufferLanes}
-use Rattle.search.specs.Lanes.{queueLanes, registerLane, lanesOf}
+use Rattle.search.specs.Lanes.{waitingLanes, slotLanes, bufferLanes, queueLanes, registerLane, lanesOf}
 use Rattle.search.specs.Listing.{listingOf}
 use Rattle.search.specs.Rows.{rowsIn}
 use Rattle.search.proofs.listing.ListingLaws.{listing-threads, listing-lines}
 use Rattle.search.proofs.lanes.SeenLaws.{Seen, lay, Even}
 use Rattle.search.proofs.lanes.GeneralLaws.{sum-front}
 use Rattle.search.proofs.lanes.JoinLaws.{shifted, join-same, each-same, join-add, each-add}
+use Rattle.search.proofs.lanes.SpreadLaws.{length-spread, waiting-two, slot-two}
 
 unfoldable pub split : {A : Type 0} → ℕ → (ℕ → A) → (ℕ → A) → ℕ → A
 split n f g r = pick (ltb r n) (f r) (g (r - n))
@@ -63,70 +59,36 @@ seenOf p s =
       row = split (p .threads) (bufferLanes s) (queueLanes s);
     }
 
+-- the rows of a buffer and of a queue, and how long they are
+module _ (p : Program) (s : State) where
+  pub row-buffer : (t : ℕ) → t < p .threads → seenOf p s .row t ≡ bufferLanes s t
+  row-buffer = split-left (p .threads) (bufferLanes s) (queueLanes s)
+
+  pub row-queue : (q : ℕ) → seenOf p s .row (p .threads + q) ≡ queueLanes s q
+  row-queue = split-right (p .threads) (bufferLanes s) (queueLanes s)
+
+  pub long-buffer : (t : ℕ) → t < p .threads → seenOf p s .long t ≡ bufferLen s t
+  long-buffer = split-left (p .threads) (bufferLen s) (queueLen s)
+
+  pub long-queue : (q : ℕ) → seenOf p s .long (p .threads + q) ≡ queueLen s q
+  long-queue = split-right (p .threads) (bufferLen s) (queueLen s)
+
 -- its lanes are the state's
 pub lay-of : (p : Program) (s : State) → lay (listingOf p) (seenOf p s) ≡ lanesOf p s
 unfolding lay lanesOf listingOf
 lay-of p s =
     rw (
       each-add (p .threads) (linesOf p) (split (p .threads) (bufferLen s) (queueLen s)),
-      each-same (p .threads) (split (p .threads) (bufferLen s) (queueLen s)) (bufferLen s)
-          (split-left (p .threads) (bufferLen s) (queueLen s)),
+      each-same (p .threads) (split (p .threads) (bufferLen s) (queueLen s)) (bufferLen s) (long-buffer p s),
       each-same (linesOf p) (shifted (p .threads) (split (p .threads) (bufferLen s) (queueLen s))) (queueLen s)
           (λ r h. shift-split (p .threads) (bufferLen s) (queueLen s) r),
       join-add (p .threads) (linesOf p) (split (p .threads) (bufferLanes s) (queueLanes s)),
-      join-same (p .threads) (split (p .threads) (bufferLanes s) (queueLanes s)) (bufferLanes s)
-          (split-left (p .threads) (bufferLanes s) (queueLanes s)),
+      join-same (p .threads) (split (p .threads) (bufferLanes s) (queueLanes s)) (bufferLanes s) (row-buffer p s),
       join-same (linesOf p) (shifted (p .threads) (split (p .threads) (bufferLanes s) (queueLanes s)))
           (queueLanes s)
           (λ r h. shift-split (p .threads) (bufferLanes s) (queueLanes s) r),
     )
     (simp append-assoc)
-
--- entries of two lanes each
-module _ {A : Type 0} (f : A → List ℕ) (two : (a : A) → length (f a) ≡ 2) where
-  pub length-spread : (xs : List A) → length (spread f xs) ≡ 2 * length xs
-  unfolding spread
-  length-spread [] = refl
-  length-spread (x ∷ xs) =
-      let a = length-append (f x) (spread f xs) in
-      let b = length-spread xs in
-      let c = two x in
-      omega arith
-
-  -- lane j of entry i
-  pub get-spread : (xs : List A) (i j : ℕ) (d : A) → i < length xs → j < 2
-      → getD (spread f xs) (2 * i + j) 0 ≡ getD (f (getD xs i d)) j 0
-  unfolding spread
-  get-spread [] i j d h l = absurd (omega arith)
-  get-spread (x ∷ xs) zero j d h l =
-      let c = two x in
-      let e : 2 * 0 + j ≡ j = omega arith in
-      ap (λ n. getD (f x ++ spread f xs) n 0) e ∙ List·getD-append (f x) (spread f xs) 0 j (omega arith)
-  get-spread (x ∷ xs) (suc i) j d h l =
-      let c = two x in
-      let e : 2 * suc i + j ≡ length (f x) + (2 * i + j) = omega arith in
-      ap (λ n. getD (f x ++ spread f xs) n 0) e
-      ∙ getD-append-add (f x) (spread f xs) (2 * i + j) 0
-      ∙ get-spread xs i j d (omega arith) l
-
-  pub spread-append : (xs ys : List A) → spread f (xs ++ ys) ≡ spread f xs ++ spread f ys
-  unfolding spread
-  spread-append [] ys = refl
-  spread-append (x ∷ xs) ys = rw (spread-append xs ys) (sym (append-assoc (f x) (spread f xs) (spread f ys)))
-
-pub waiting-two : (w : Waiting) → length (waitingLanes w) ≡ 2
-unfolding waitingLanes entryLanes
-waiting-two w = two (w .entry)
-  where
-    two : (e : Entry) → length (entryLanes e) ≡ 2
-    two (Store x) = refl
-    two (Flush l) = refl
-    two (FlushOpt l) = refl
-    two Sfence = refl
-
-pub slot-two : (h : Slot) → length (slotLanes h) ≡ 2
-unfolding slotLanes
-slot-two h = refl
 
 -- the sum of both parts
 sum-split : (m n : ℕ) (f g : ℕ → ℕ) → sumTo (m + n) (split m f g) ≡ sumTo m f + sumTo n g
@@ -163,12 +125,7 @@ module _ (p : Program) (s : State) (fit : Fits p s) where
   even-of = record { twice = λ r h. ⊎-elim (own r) (queued r h) (lt-or-ge r (p .threads)) }
     where
       own : (r : ℕ) → r < p .threads → length (seenOf p s .row r) ≡ 2 * seenOf p s .long r
-      own r low =
-          rw (
-            split-left (p .threads) (bufferLanes s) (queueLanes s) r low,
-            split-left (p .threads) (bufferLen s) (queueLen s) r low,
-          )
-          (length-own r low)
+      own r low = rw (row-buffer p s r low, long-buffer p s r low) (length-own r low)
 
       queued : (r : ℕ) → r < rowsIn (listingOf p) → p .threads ≤ r
           → length (seenOf p s .row r) ≡ 2 * seenOf p s .long r
@@ -177,11 +134,7 @@ module _ (p : Program) (s : State) (fit : Fits p s) where
           let low : r - p .threads < linesOf p
           = (let a = listing-threads p in let b = listing-lines p in omega arith) in
           rw e
-          (rw (
-            split-right (p .threads) (bufferLanes s) (queueLanes s) (r - p .threads),
-            split-right (p .threads) (bufferLen s) (queueLen s) (r - p .threads),
-          )
-          (length-queued (r - p .threads) low))
+          (rw (row-queue p s (r - p .threads), long-queue p s (r - p .threads)) (length-queued (r - p .threads) low))
 
   -- with the unissued instructions all entries are no more than all together; so there is room for them
   pub entries-of : sumTo (rowsIn (listingOf p)) (seenOf p s .long) + sumTo mostThreads (unissued p s) ≤ together p s

@@ -9,14 +9,14 @@ use mathlib.Core.List.{List, [], _∷_, _++_}
 use native.Mathlib.Omega.{arith}
 use native.Mathlib.Nat.{add-zero, zero-add}
 use borrow.Author.Tests.{lt-ltb, le-ltb}
-use lib.ListN.{length, getD, set, drop, replicate, length-set, length-replicate}
+use lib.ListN.{length, getD, drop, replicate, length-set, length-replicate}
 use lib.Seq.{drop-length, drop-cons, getD-set-same, getD-set-other}
 use Rattle.cases.specs.declared.case.Step.{Step}
 use Rattle.cases.specs.declared.case.Program.{Program}
 use Rattle.cases.specs.Choice.{pick}
 use Rattle.cases.specs.Sizes.{mostThreads, mostInstructions}
 use Rattle.cases.specs.Draft.{noStep}
-use Rattle.cases.specs.Checks.{limitsOf, linesOf, stepFault}
+use Rattle.cases.specs.Checks.{linesOf}
 use Rattle.cases.proofs.ChoiceLaws.{pick-true, pick-false}
 use Rattle.machine.specs.declared.cells.State.{State}
 use Rattle.machine.specs.Sizes.{mostCandidates, kindRanks}

@@ -1,7 +1,7 @@
 -- Laws of lines and rows: where they stand, and for each look that is one loop a record of what it has found so
 -- far, made where the loop begins (start), with a law for each point of the loop that uses it (next, here,
 -- end). Assumes nothing.
-use Prim.Native.Nat.{ℕ, zero, suc, _+_, _*_, _-_, _≤_, _<_}
+use Prim.Native.Nat.{ℕ, suc, _+_, _*_, _-_, _≤_, _<_}
 use mathlib.Core.Path.{_≡_, refl, _∙_}
 use mathlib.Core.Logic.{_≢_}
 use mathlib.Core.List.{List}

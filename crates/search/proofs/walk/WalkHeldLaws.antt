@@ -1,7 +1,7 @@
 -- Lanes that the code holds: what its functions may ask of them, and that a next step leads to such lanes again.
 -- Assumes nothing.
 use Prim.Native.Nat.{ℕ, suc, _+_, _*_, _-_, _≤_, _<_}
-use mathlib.Core.Path.{_≡_, refl, sym, ap, subst, _∙_}
+use mathlib.Core.Path.{_≡_, sym, ap, subst, _∙_}
 use mathlib.Core.Logic.{_≢_}
 use mathlib.Core.Bool.{Bool, false}
 use mathlib.Core.List.{List}
@@ -19,7 +19,7 @@ use Rattle.search.specs.declared.next.Ranks.{Ranks}
 use Rattle.search.specs.declared.walk.Walked.{Walked}
 use Rattle.search.specs.Walk.{walk}
 use Rattle.search.specs.Seek.{seek, walkedOf, storedOf}
-use Rattle.search.specs.Listing.{ListingFits, listingOf}
+use Rattle.search.specs.Listing.{ListingFits}
 use Rattle.search.specs.Rows.{FewEntries}
 use Rattle.search.specs.Barred.{legalLanes, nextLanes}
 use Rattle.search.specs.Taken.{padded, stepLanes, lanesMachine, reachesLanes, Takes}
@@ -29,7 +29,7 @@ use Rattle.search.proofs.lanes.StateLaws.{lay-of}
 use Rattle.search.proofs.lanes.LookLanesLaws.{laidOf}
 use Rattle.search.proofs.lanes.NextLanesLaws.{legal-is}
 use Rattle.search.proofs.lanes.StepLanesLaws.{few-lanes, step-lanes, step-takes}
-use Rattle.search.proofs.next.RanksLaws.{pushAll, blank, next-pushed, ranks-lists}
+use Rattle.search.proofs.next.RanksLaws.{next-pushed, ranks-lists}
 use Rattle.search.proofs.walk.WalkLoopLaws.{Lists, Walking, walking-start}
 
 -- what the walk's loop keeps, over lanes

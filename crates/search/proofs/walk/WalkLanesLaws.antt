@@ -1,8 +1,8 @@
 -- The walk over lanes is the machine's walk: the same runs in the same order, each ending in the lanes of the state
 -- where the other ends. Assumes nothing.
-use Prim.Native.Nat.{ℕ, suc, _-_, _≤_}
+use Prim.Native.Nat.{ℕ, suc, _≤_}
 use mathlib.Core.Path.{_≡_, sym, ap, _∙_}
-use mathlib.Core.List.{List, map}
+use mathlib.Core.List.{map}
 use native.Mathlib.Omega.{arith}
 use Rattle.cases.specs.declared.case.Step.{Step}
 use Rattle.cases.specs.declared.case.Program.{Program}
@@ -18,7 +18,7 @@ use Rattle.machine.specs.Work.{work}
 use Rattle.machine.specs.Model.{Listed, legalSteps}
 use Rattle.machine.specs.Ptso.{ptso}
 use Rattle.machine.proofs.Promises.{ptso-lawful, next-legal, step-fits, step-together}
-use Rattle.search.specs.Walk.{Visit, walk, machineOf, walkOf}
+use Rattle.search.specs.Walk.{walk, machineOf, walkOf}
 use Rattle.search.specs.Question.{reaches}
 use Rattle.search.specs.Seek.{seek}
 use Rattle.search.specs.Lanes.{lanesOf}
