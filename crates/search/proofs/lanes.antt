@@ -9,9 +9,11 @@ pub mod JoinLaws
 pub mod ShiftLaws
 -- entry, waiting, slot, spread: entries, two lanes each
 pub mod SpreadLaws
+-- byTag, tag: a choice by an entry's tag
+pub mod TagLaws
 -- lay, see: what stands where, and what a change does
 pub mod LayLaws
--- Even, sum: how many entries, where one joins or leaves
+-- even, length: rows of two lanes an entry, where one joins or leaves
 pub mod EvenLaws
 -- rowJoined, rowLeft, rowCarried: what an entry that joins or leaves makes of a view
 pub mod LayRowLaws

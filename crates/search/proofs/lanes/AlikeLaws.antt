@@ -3,19 +3,15 @@
 --   entryTold tag word   the entry with these two lanes
 -- Assumes nothing.
 use Prim.Native.Nat.{ℕ, _+_, _*_, _-_, _/_, _%_, _≤_, _<_}
-use mathlib.Core.Path.{_≡_, refl, sym, ap, _∙_}
+use mathlib.Core.Path.{_≡_, sym, ap, _∙_}
 use mathlib.Core.Logic.{_↔_}
 use mathlib.Core.List.{List}
 use native.Mathlib.Omega.{arith}
-use borrow.Author.Tests.{lt-ltb, le-ltb}
-use lib.Dec.{ltb}
 use lib.ListN.{length, getD}
 use lib.Seq.{ext-getD}
 use Rattle.cases.specs.declared.case.Program.{Program}
-use Rattle.cases.specs.Choice.{pick}
 use Rattle.cases.specs.Sizes.{mostThreads, mostLocations, mostRegisters}
 use Rattle.cases.specs.Checks.{linesOf}
-use Rattle.cases.proofs.ChoiceLaws.{pick-true, pick-false}
 use Rattle.cases.proofs.Promises.{thread-low}
 use Rattle.machine.specs.declared.cells.State.{State}
 use Rattle.machine.specs.declared.cells.Waiting.{Waiting}
@@ -32,6 +28,7 @@ use Rattle.search.specs.Listing.{listingOf}
 use Rattle.search.specs.Rows.{queueRow, wordAt, registerAt, rowLen, rowStart}
 use Rattle.search.specs.Taken.{padded}
 use Rattle.search.proofs.lanes.JoinLaws.{join-same, each-same}
+use Rattle.search.proofs.lanes.TagLaws.{byTag, tag-sfence, tag-flush-opt, tag-flush, tag-store}
 use Rattle.search.proofs.lanes.LayLaws.{see-issued, see-word, see-register}
 use Rattle.search.proofs.lanes.StateLaws.{seenOf, lay-of}
 use Rattle.search.proofs.lanes.LookLanesLaws.{laidOf, blankSlot, see-buffer-long, see-queue-long}
@@ -39,27 +36,21 @@ use Rattle.search.proofs.lanes.LookLanesLaws.{see-waiting, see-slot, na
 
 unfoldable entryTold : ℕ → ℕ → Entry
 entryTold tag word =
-    pick (ltb tag flushTag) (Store (record { location = record { 0 = tag }; word = word }))
-    (pick (ltb tag flushOptTag) (Flush (record { 0 = tag - flushTag }))
-    (pick (ltb tag sfenceTag) (FlushOpt (record { 0 = tag - flushOptTag })) Sfence))
+    byTag tag Sfence (FlushOpt (record { 0 = tag - flushOptTag })) (Flush (record { 0 = tag - flushTag }))
+    (Store (record { location = record { 0 = tag }; word = word }))
 
 -- an entry that names a location is the one with its lanes
 told-entry : (n : ℕ) → n ≤ mostLocations → (e : Entry) → Named n e
     → entryTold (getD (entryLanes e) 0 0) (getD (entryLanes e) 1 0) ≡ e
-unfolding entryTold entryLanes Named pick
-told-entry n few (Store w) low = pick-true _ _ _ (lt-ltb (w .location .0) flushTag (omega arith))
+unfolding entryTold entryLanes Named
+told-entry n few (Store w) low = tag-store (w .location .0) _ _ _ _ (omega arith)
 told-entry n few (Flush l) low =
     let e : flushTag + l .0 - flushTag ≡ l .0 = omega arith in
-    pick-false _ _ _ (le-ltb (flushTag + l .0) flushTag (omega arith))
-    ∙ pick-true _ _ _ (lt-ltb (flushTag + l .0) flushOptTag (omega arith))
-    ∙ (λ i. Flush (record { 0 = e i }))
+    tag-flush (flushTag + l .0) _ _ _ _ (omega arith) (omega arith) ∙ (λ i. Flush (record { 0 = e i }))
 told-entry n few (FlushOpt l) low =
     let e : flushOptTag + l .0 - flushOptTag ≡ l .0 = omega arith in
-    pick-false _ _ _ (le-ltb (flushOptTag + l .0) flushTag (omega arith))
-    ∙ pick-false _ _ _ (le-ltb (flushOptTag + l .0) flushOptTag (omega arith))
-    ∙ pick-true _ _ _ (lt-ltb (flushOptTag + l .0) sfenceTag (omega arith))
-    ∙ (λ i. FlushOpt (record { 0 = e i }))
-told-entry n few Sfence low = refl
+    tag-flush-opt (flushOptTag + l .0) _ _ _ _ (omega arith) (omega arith) ∙ (λ i. FlushOpt (record { 0 = e i }))
+told-entry n few Sfence low = tag-sfence sfenceTag _ _ _ _ (omega arith)
 
 -- entries with equal lanes are equal: of a buffer; of a queue
 waiting-same : (n : ℕ) → n ≤ mostLocations → (a b : Waiting) → NamedBy n a → NamedBy n b

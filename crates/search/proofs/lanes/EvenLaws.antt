@@ -1,5 +1,5 @@
--- Laws of `Even` and of how many entries all rows have, where an entry joins a row or leaves one. Assumes nothing.
-use Prim.Native.Nat.{ℕ, suc, _+_, _*_, _-_, _<_}
+-- Laws of `Even`, where an entry joins a row or leaves one. Assumes nothing.
+use Prim.Native.Nat.{ℕ, _+_, _*_, _-_, _<_}
 use mathlib.Core.Path.{_≡_, refl}
 use mathlib.Core.Bool.{Bool, true, false}
 use mathlib.Core.List.{List, [], _∷_, _++_}
@@ -8,11 +8,8 @@ use borrow.Author.Tests.{eqb-true}
 use lib.Dec.{eqb}
 use lib.ListN.{length, take, drop, length-append, length-take, length-drop}
 use Rattle.cases.specs.Choice.{pick}
-use Rattle.machine.specs.Fit.{sumTo}
-use Rattle.machine.proofs.lists.SumLaws.{sum-change}
 use Rattle.search.specs.Rows.{rowsIn}
 use Rattle.search.proofs.lanes.SeenLaws.{Seen, Even, changed, withRow, withJoined, withLeft}
-use Rattle.search.proofs.lanes.JoinLaws.{changed-same, changed-other}
 
 module _ (c : List ℕ) (v : Seen) (even : Even c v) where
   -- another row of two lanes an entry keeps Even
@@ -42,20 +39,3 @@ module _ (c : List ℕ) (v : Seen) (even : Even c v) where
   even-left r i k =
       even-row r (v .long r - 1) (take (2 * i) (v .row r) ++ drop (2 * i + 2) (v .row r))
       (λ h. let e = even .twice r h in let d = length-left r i h k in omega arith)
-
-module _ (c : List ℕ) (v : Seen) where
-  -- all rows' entries change by what one row's do
-  sum-row : (r n : ℕ) → r < rowsIn c
-      → sumTo (rowsIn c) (changed (v .long) r n) + v .long r ≡ sumTo (rowsIn c) (v .long) + n
-  sum-row r n h =
-      rw (changed-same (v .long) r n) at
-      (sum-change (rowsIn c) r (changed (v .long) r n) (v .long) h (λ k l d. changed-other (v .long) r n k d))
-
-  -- an entry that joins is one more; one that leaves is one less
-  pub sum-joined : (r tag word : ℕ) → r < rowsIn c
-      → sumTo (rowsIn c) (withJoined v r tag word .long) ≡ suc (sumTo (rowsIn c) (v .long))
-  sum-joined r tag word h = let e = sum-row r (v .long r + 1) h in omega arith
-
-  pub sum-left : (r i : ℕ) → r < rowsIn c → i < v .long r
-      → suc (sumTo (rowsIn c) (withLeft v r i .long)) ≡ sumTo (rowsIn c) (v .long)
-  sum-left r i h k = let e = sum-row r (v .long r - 1) h in omega arith

@@ -9,19 +9,18 @@ use mathlib.Core.List.{List, [], _++_, append-assoc}
 use native.Mathlib.Nat.{zero-add}
 use native.Mathlib.Omega.{arith}
 use lib.ListN.{length, getD, set, length-append}
-use Rattle.cases.specs.Sizes.{mostRegisters, allCode}
+use Rattle.cases.specs.Sizes.{mostRegisters}
 use Rattle.machine.specs.Fit.{sumTo}
 use Rattle.machine.proofs.lists.SumLaws.{sum-same}
-use Rattle.search.specs.Sizes.{mostLanes}
 use Rattle.search.specs.Lanes.{joinTo, each}
-use Rattle.search.specs.Listing.{threadsIn, locationsIn, ListingFits}
+use Rattle.search.specs.Listing.{threadsIn, locationsIn}
 use Rattle.search.specs.Rows.{rowsIn, rowLenAt, wordAt, registerAt, poolAt, rowLen, rowStart}
 use Rattle.search.specs.Taken.{padded, counted, discounted}
 use Rattle.search.proofs.lanes.SeenLaws.{Seen, Even, changed, lay}
 use Rattle.search.proofs.lanes.SeenLaws.{withIssued, withLong, withWord, withRegister}
 use Rattle.search.proofs.lanes.JoinLaws.{shifted, join-same, each-same, join-split, length-join}
 use Rattle.search.proofs.lanes.JoinLaws.{length-each, get-each, set-each}
-use Rattle.search.proofs.lanes.ShiftLaws.{length-padded, get-amid, set-amid}
+use Rattle.search.proofs.lanes.ShiftLaws.{get-amid, set-amid}
 
 -- each, amid others: the number of i read; changed
 module _ (before after : List ℕ) (n base i : ℕ) (f : ℕ → ℕ) (e : length before ≡ base) (h : i < n) where
@@ -199,8 +198,3 @@ module _ (c : List ℕ) (v : Seen) (even : Even c v) where
   see-row r j h k =
       rw (← see-start r (omega arith), lay-front c v, front-split c v r (rowsIn c) h)
       (get-amid (front c v r) (v .row r) (behind v r (rowsIn c)) (length (front c v r)) j refl k)
-
--- with the zeros behind them, lanes fill the code's array
-module _ (c : List ℕ) (fits : ListingFits c) (v : Seen) (even : Even c v) where
-  pub laid-length : sumTo (rowsIn c) (v .long) ≤ allCode → length (padded (lay c v)) ≡ mostLanes
-  laid-length few = length-padded (lay c v) (rw (lay-length c v even) (omega arith))

@@ -8,7 +8,6 @@ use mathlib.Core.Logic.{_≢_}
 use mathlib.Core.List.{List, [], _∷_, _++_, append-nil}
 use native.Mathlib.Omega.{arith}
 use native.Mathlib.Decide.{ℕ-discrete}
-use borrow.Author.Tests.{le-leb, lt-leb}
 use lib.Dec.{eqb}
 use lib.ListN.{length, getD}
 use Rattle.cases.specs.declared.case.Program.{Program}
@@ -36,6 +35,7 @@ use Rattle.search.specs.Taken.{padded, rowLeft, rowCarried, movedLane, m
 use Rattle.search.proofs.listing.ListingLaws.{listing-threads, listing-lines, listing-line, listing-fits}
 use Rattle.search.proofs.lanes.SeenLaws.{Seen, Even, lay, withLeft, withJoined}
 use Rattle.search.proofs.lanes.JoinLaws.{changed-same, changed-other}
+use Rattle.search.proofs.lanes.TagLaws.{tag-sfence, tag-flush-opt, tag-flush, tag-store}
 use Rattle.search.proofs.lanes.EvenLaws.{even-joined, even-left}
 use Rattle.search.proofs.lanes.LayRowLaws.{leave-row, carry-row}
 use Rattle.search.proofs.lanes.StateLaws.{seenOf, even-of, few-of, row-buffer, row-queue, long-buffer}
@@ -153,29 +153,18 @@ module _ (p : Program) (s : State) (fit : Fits p s) (t i : ℕ) (low : t < p .th
       moved : (e : Entry) → Named (p .locations) e → getD (v .row t) (2 * i + 1) 0 ≡ getD (entryLanes e) 1 0
           → (w : Seen) × (movedLane c (laidOf p s) t at (getD (entryLanes e) 0 0) ≡ padded (lay c w))
           × Moves p s t i (λ q. enters p t q e) w
-      unfolding movedLane pick Named entryLanes enters
+      unfolding movedLane Named entryLanes enters
       moved (Store y) there word =
           let m = fit .program .sized .few-locations in
           let l : ℕ = y .location .0 in (
             withJoined (withLeft v t i) (queueRow c (lineOf p l)) l (y .word),
-            rw (
-              lt-leb sfenceTag l (omega arith),
-              lt-leb flushOptTag l (omega arith),
-              lt-leb flushTag l (omega arith),
-            )
-                (carried l l (y .word) there word),
+            tag-store l _ _ _ _ (omega arith) ∙ carried l l (y .word) there word,
             moves-carried (lineOf p l) l (y .word),
           )
       moved (Flush y) there word =
-          let m = fit .program .sized .few-locations in
-          let g : ℕ = flushTag + y .0 in (
+          let m = fit .program .sized .few-locations in (
             withLeft v t i,
-            rw (
-              lt-leb sfenceTag g (omega arith),
-              lt-leb flushOptTag g (omega arith),
-              le-leb flushTag g (omega arith),
-            )
-                left,
+            tag-flush (flushTag + y .0) _ _ _ _ (omega arith) (omega arith) ∙ left,
             moves-left,
           )
       moved (FlushOpt y) there word =
@@ -183,11 +172,10 @@ module _ (p : Program) (s : State) (fit : Fits p s) (t i : ℕ) (low : t < p .th
           let g : ℕ = flushOptTag + y .0 in
           let back : g - flushOptTag ≡ y .0 = omega arith in (
             withJoined (withLeft v t i) (queueRow c (lineOf p (y .0))) (markOf t) 0,
-            rw (lt-leb sfenceTag g (omega arith), le-leb flushOptTag g (omega arith), back)
-                (carried (y .0) (markOf t) 0 there word),
+            tag-flush-opt g _ _ _ _ (omega arith) (omega arith) ∙ rw back (carried (y .0) (markOf t) 0 there word),
             moves-carried (lineOf p (y .0)) (markOf t) 0,
           )
-      moved Sfence there word = (withLeft v t i, left, moves-left)
+      moved Sfence there word = (withLeft v t i, tag-sfence sfenceTag _ _ _ _ (omega arith) ∙ left, moves-left)
 
 -- a move
 pub move-lanes : (p : Program) (s : State) → Fits p s → together p s ≤ allCode → (t i : ℕ) → t < p .threads

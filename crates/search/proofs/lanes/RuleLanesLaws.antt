@@ -38,6 +38,7 @@ use Rattle.search.specs.Barred.{barsTag, barsAt, operationBarred, issueB
 use Rattle.search.specs.Barred.{entryBarred, moveBarred, persistBarred}
 use Rattle.search.proofs.listing.ListingLaws.{listing-threads, listing-count, listing-line, listing-operation}
 use Rattle.search.proofs.lanes.GeneralLaws.{any-numbered}
+use Rattle.search.proofs.lanes.TagLaws.{tag-sfence, tag-flush-opt, tag-flush, tag-store}
 use Rattle.search.proofs.lanes.LayLaws.{see-issued}
 use Rattle.search.proofs.lanes.StateLaws.{seenOf}
 use Rattle.search.proofs.lanes.LookLanesLaws.{laidOf, see-buffer-long, see-queue-long, see-tag}
@@ -47,20 +48,21 @@ use Rattle.search.proofs.lanes.MarkLanesLaws.{marked-is}
 abbrev pub broken : ℕ → Bool
 broken r = not (eqb r 0)
 
+-- broken: of a chain of checks; of its last check; of a choice; of a number that is above 0
 refuse-broken : (b : Bool) (n r : ℕ) → broken (refuse b (suc n) r) ≡ either b (broken r)
 unfolding refuse either
 refuse-broken true n r = ap not (ne-eqb (suc n) 0 (λ e. omega arith))
 refuse-broken false n r = refl
 
+refuse-last : (b : Bool) (n : ℕ) → broken (refuse b (suc n) 0) ≡ b
+unfolding refuse
+refuse-last true n = ap not (ne-eqb (suc n) 0 (λ e. omega arith))
+refuse-last false n = refl
+
 pick-broken : (b : Bool) (r : ℕ) → broken (pick b r 0) ≡ pick b (broken r) false
 unfolding pick
 pick-broken true r = refl
 pick-broken false r = refl
-
-either-none : (b : Bool) → either b false ≡ b
-unfolding either
-either-none true = refl
-either-none false = refl
 
 some-broken : (n : ℕ) → ltb 0 n ≡ broken n
 some-broken zero = refl
@@ -106,11 +108,7 @@ module _ (p : Program) (s : State) (fit : Fits p s) where
         (sym (pick-broken (isBarrier op) _
         ∙ ap (λ b. pick (isBarrier op) b false)
         (refuse-broken (ltb 0 (bufferLen s t)) 21 (refuse (marked (s .marks) (s .lengths) t) 23 0)
-        ∙ rw (
-          some-broken (bufferLen s t),
-          refuse-broken (marked (s .marks) (s .lengths) t) 22 0,
-          either-none (marked (s .marks) (s .lengths) t),
-        ))))
+        ∙ rw (some-broken (bufferLen s t), refuse-last (marked (s .marks) (s .lengths) t) 22))))
 
     pub issue-barred : issueBarred c x t ≡ broken (ruleOf p s (issueStep t))
     unfolding issueBarred ruleOf ruleIn pick issueRule
@@ -141,33 +139,23 @@ module _ (p : Program) (s : State) (fit : Fits p s) where
         → headBarred c x t (getD (entryLanes e) 0 0) ≡ broken (effectRule p (partsOf s) t e)
     unfolding headBarred effectRule entryLanes Named
     head-barred (Store w) there =
-        let k = fit .program .sized .few-locations in
-        let l = w .location .0 in
-        rw (lt-leb sfenceTag l (omega arith), lt-leb flushOptTag l (omega arith), lt-leb flushTag l (omega arith))
-        (unfold pick in refl)
+        let k = fit .program .sized .few-locations in tag-store (w .location .0) _ _ _ _ (omega arith)
     head-barred (Flush l) there =
         let k = fit .program .sized .few-locations in
         let g = flushTag + l .0 in
-        rw (
-          lt-leb sfenceTag g (omega arith),
-          lt-leb flushOptTag g (omega arith),
-          le-leb flushTag g (omega arith),
+        tag-flush g _ _ _ _ (omega arith) (omega arith)
+        ∙ rw (
           line-is (l .0) (g - flushTag) (omega arith),
           see-queue-long p s fit (lineOf p (l .0)) (line-there p (fit .program) (l .0) there),
         )
-        (unfold pick in
-        sym (refuse-broken (ltb 0 (queueLen s (lineOf p (l .0)))) 26 0
-        ∙ either-none (ltb 0 (queueLen s (lineOf p (l .0))))
-        ∙ some-broken (queueLen s (lineOf p (l .0)))))
+        (sym (refuse-last (ltb 0 (queueLen s (lineOf p (l .0)))) 26 ∙ some-broken (queueLen s (lineOf p (l .0)))))
     head-barred (FlushOpt l) there =
         let k = fit .program .sized .few-locations in
-        let g = flushOptTag + l .0 in
-        rw (lt-leb sfenceTag g (omega arith), le-leb flushOptTag g (omega arith)) (unfold pick in refl)
+        tag-flush-opt (flushOptTag + l .0) _ _ _ _ (omega arith) (omega arith)
     head-barred Sfence there =
-        rw (le-leb sfenceTag sfenceTag (omega arith), marked-is p s fit t)
-        (unfold pick in
-        sym (refuse-broken (marked (s .marks) (s .lengths) t) 27 0
-        ∙ either-none (marked (s .marks) (s .lengths) t)))
+        tag-sfence sfenceTag _ _ _ _ (omega arith)
+        ∙ marked-is p s fit t
+        ∙ sym (refuse-last (marked (s .marks) (s .lengths) t) 27)
 
     -- an entry before a flush-opt
     bars-is : (q : ℕ) (e : Entry) → Named (p .locations) e
@@ -176,28 +164,15 @@ module _ (p : Program) (s : State) (fit : Fits p s) where
     bars-is q (Store w) there =
         let k = fit .program .sized .few-locations in
         let l = w .location .0 in
-        rw (
-          lt-leb sfenceTag l (omega arith),
-          lt-leb flushOptTag l (omega arith),
-          lt-leb flushTag l (omega arith),
-          line-is l l refl,
-        )
-        (unfold pick in refl)
+        tag-store l _ _ _ _ (omega arith) ∙ rw (line-is l l refl)
     bars-is q (Flush l) there =
         let k = fit .program .sized .few-locations in
         let g = flushTag + l .0 in
-        rw (
-          lt-leb sfenceTag g (omega arith),
-          lt-leb flushOptTag g (omega arith),
-          le-leb flushTag g (omega arith),
-          line-is (l .0) (g - flushTag) (omega arith),
-        )
-        (unfold pick in refl)
+        tag-flush g _ _ _ _ (omega arith) (omega arith) ∙ rw (line-is (l .0) (g - flushTag) (omega arith))
     bars-is q (FlushOpt l) there =
         let k = fit .program .sized .few-locations in
-        let g = flushOptTag + l .0 in
-        rw (lt-leb sfenceTag g (omega arith), le-leb flushOptTag g (omega arith)) (unfold pick in refl)
-    bars-is q Sfence there = rw (le-leb sfenceTag sfenceTag (omega arith)) (unfold pick in refl)
+        tag-flush-opt (flushOptTag + l .0) _ _ _ _ (omega arith) (omega arith)
+    bars-is q Sfence there = tag-sfence sfenceTag _ _ _ _ (omega arith)
 
     barred-before : (q i : ℕ) → i ≤ length (buffer s t)
         → anyFrom 0 i (barsAt c q x (rowStart c x t)) ≡ ltb (firstBar p q (take i (buffer s t))) i
@@ -234,8 +209,7 @@ module _ (p : Program) (s : State) (fit : Fits p s) where
           barred-before (lineOf p (l .0)) i h,
         )
         (unfold pick in
-        sym (refuse-broken (ltb (firstBar p (lineOf p (l .0)) (take i (buffer s t))) i) 25 0
-        ∙ either-none (ltb (firstBar p (lineOf p (l .0)) (take i (buffer s t))) i)))
+        sym (refuse-last (ltb (firstBar p (lineOf p (l .0)) (take i (buffer s t))) i) 25))
     pass-barred i h Sfence there = rw (le-leb sfenceTag sfenceTag (omega arith)) (unfold pick in refl)
 
     rule-is : (i : ℕ) → ruleOf p s (moveStep t i)
@@ -279,4 +253,4 @@ module _ (p : Program) (s : State) (fit : Fits p s) where
   unfolding persistBarred ruleOf ruleIn pick persistRule
   persist-barred q low =
       rw (see-queue-long p s fit q low)
-      (sym (refuse-broken (eqb (queueLen s q) 0) 28 0 ∙ either-none (eqb (queueLen s q) 0)))
+      (sym (refuse-last (eqb (queueLen s q) 0) 28))

@@ -1,5 +1,4 @@
 -- `ask` meets its contract. Assumes nothing.
-use native.Mathlib.Omega.{arith}
 use Rattle.search.proofs.ask.AskLaws.{ask-start-fits, ask-start-few, ask-short, ask-held, ask-walked}
 use Rattle.search.proofs.ask.AskLaws.{ask-found, ask-finished, ask-stopped}
 use borrow.Author.Needs.{needs}
