@@ -1,7 +1,7 @@
 -- Over lists and numbers of any kind; other crates can name these too.
 -- part: a part of a list; its drop, take, getD and length; lt-or-ge
 pub mod PartLaws
--- put, part-put, shift, length-without: a list put into another, one left out
+-- put, part-put, shift, length-without: a list put into another, one left out; getD behind it
 pub mod PutLaws
 -- any, none-any: a test is true of one number, or of one on a list; AskedSoFar, AnySoFar
 pub mod AnyLaws

@@ -1,5 +1,5 @@
 -- The rules (specs/Rules).
--- rule, effect, move: what is lent is all that a rule looks at
+-- rule, effect, issue, move: what is lent is all that a rule looks at
 pub mod LentLaws
 -- issue-ready, move-ready, persist-ready, rule-ready: what functions ask for; shallow, movable, head-named
 pub mod ReadyLaws

@@ -19,7 +19,7 @@ pub mod PersistEffectLaws
 pub mod WordEffectLaws
 -- issue-register, move-registers, persist-registers and their like; taken: the word that a register takes
 pub mod RegisterEffectLaws
--- together: all entries and all unissued instructions; entries-together
+-- issue-together, move, persist, step, leads, start; instructions: all entries and all unissued instructions
 pub mod TogetherLaws
 -- progress: issue-legal, move-legal, persist-legal, work-some
 pub mod ProgressLaws

@@ -1,37 +1,37 @@
 -- The lanes (specs/Lanes), seen apart from any state, and of a state.
 -- any, sum, listed: over any test, sum or list
 pub mod GeneralLaws
--- changed, Seen, lay, with: what lanes hold, as a view
+-- Seen, lay, changed, Even, withIssued, withLong, withWord, withRegister, withRow, withJoined, withLeft: what lanes hold, as a view
 pub mod SeenLaws
--- changed, joinTo, each: what stands one behind the other
+-- changed, shifted, join, each; length, get, set: what stands one behind the other
 pub mod JoinLaws
--- padded, inserted, carried: over any list
+-- padded, inserted, carried; length, get, set, entry: over any list
 pub mod ShiftLaws
--- entry, waiting, slot, spread: entries, two lanes each
+-- entry, waiting, slot, spread; length, get: entries, two lanes each
 pub mod SpreadLaws
 -- byTag, tag: a choice by an entry's tag
 pub mod TagLaws
--- lay, see: what stands where, and what a change does
+-- lay, laid, see, set, count, discount, front, behind, length, Agree: what stands where, and what a change does
 pub mod LayLaws
 -- even, length: rows of two lanes an entry, where one joins or leaves
 pub mod EvenLaws
--- rowJoined, rowLeft, rowCarried: what an entry that joins or leaves makes of a view
+-- join, leave, carry: what an entry that joins or leaves makes of a view
 pub mod LayRowLaws
 -- split, seenOf, row, long, even, entries, few, lay: of a state
 pub mod StateLaws
--- newest, queued, loaded, see, named: what the code's looks find is what the machine's find; laidOf
+-- see, newest, queued, loaded, row, queue, named, laidOf, blankSlot: what the code's looks find is what the machine's find
 pub mod LookLanesLaws
 -- marked: a thread's marker
 pub mod MarkLanesLaws
--- broken, barred: a step breaks a rule
+-- broken; issue, move, persist barred: a step breaks a rule
 pub mod RuleLanesLaws
 -- allowed, legal: the legal next steps
 pub mod NextLanesLaws
 -- reaches: what is asked
 pub mod ReachLanesLaws
--- changed, spread, row, joined, same, kept: when a view's lanes are a state's; what a count leaves to the looks
+-- changed, spread, row, joined, same; queued, loaded: when a view's lanes are a state's; what a count leaves to the looks
 pub mod SameLanesLaws
--- Issues, issues: what an instruction that is issued makes of a view
+-- Issues, issues, issuedSeen, even: what an instruction that is issued makes of a view
 pub mod IssueViewLaws
 -- made, issue: an issue over the lanes of a state
 pub mod IssueLanesLaws
@@ -39,7 +39,7 @@ pub mod IssueLanesLaws
 pub mod MoveLanesLaws
 -- persist: a persist over the lanes of a state
 pub mod PersistLanesLaws
--- step: a step over the lanes of a state, and what the code asks of it
+-- step, few: a step over the lanes of a state, and what the code asks of it
 pub mod StepLanesLaws
 -- alike: equal lanes
 pub mod AlikeLaws

@@ -1,5 +1,5 @@
 -- The listing of a program (specs/Listing), and its code.
--- listing, in-listing: what stands where in it; it fits
+-- listing, join: what stands where in it; it fits
 pub mod ListingLaws
--- numbers, codes: the loops that make it; listing-made
+-- numbers, codes, NumbersSoFar, CodeSoFar: the loops that make it; listing
 pub mod ListingLoopLaws

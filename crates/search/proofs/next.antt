@@ -1,5 +1,5 @@
 -- The legal next steps over lanes (specs/Barred): the code.
--- offered: the loops that offer steps
+-- offered, turns, move, moves, persists, next, TurnsSoFar, OfferedSoFar, MovesSoFar: the loops that offer steps
 pub mod RanksLoopLaws
--- push, ranks, next: what the array of ranks stands for
+-- push, pushAll, blank, ranks, next: what the array of ranks stands for
 pub mod RanksLaws

@@ -1,5 +1,5 @@
 -- Where things stand among lanes, and looks (specs/Rows): the code.
--- line, queue, code, row: where things stand; rows, newest: the loops
+-- line, queue, code, row: where things stand; rows, newest, queued, loaded, RowsSoFar, NewestSoFar: the loops
 pub mod RowLoopLaws
--- marked: the loops
+-- marked, MarkedRowsSoFar, MarkedEntriesSoFar: the loops
 pub mod MarkedLoopLaws

@@ -1,7 +1,7 @@
 -- A step taken over lanes (specs/Taken): the code.
--- inserted, carried, counted: lanes changed in place
+-- opening, carrying, Opening, Carrying: the loops; inserted, carried: what stays before them
 pub mod InPlaceLaws
--- joined, carried: a change stays within the lanes, and a row's length has room; entries-same, code-here
+-- joined, carried, entry, EntryAt: a change stays within the lanes, and a row's length has room; fetched, counted, code
 pub mod RowLenLaws
 -- compared, persist, takes: one for each way of the code
 pub mod TakenLaws

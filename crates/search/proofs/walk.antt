@@ -9,9 +9,9 @@ pub mod WalkModelLaws
 pub mod WalkLoopLaws
 -- turn: a turn of the loop
 pub mod WalkTurnLaws
--- along, endsAlong: a machine that goes along with another
+-- Along, endsAlong, walk, seek: a machine that goes along with another
 pub mod AlongLaws
--- walk-lanes, seek-lanes: over lanes
+-- walk, seek: over lanes
 pub mod WalkLanesLaws
--- held, Held: what the code may ask of its lanes
+-- held, Walks, walks, below: what the code may ask of its lanes
 pub mod WalkHeldLaws
