@@ -163,10 +163,8 @@ module _ (p : Program) (s u : State) (fit : Fits p s) (fits : Fits p u) where
     -- their buffers and queues are as long
     waiting-long : (t : ℕ) → t < p .threads → bufferLen s t ≡ bufferLen u t
     waiting-long t low =
-        let m = fit .program .sized .few-threads in
-        sym (buffer-long p s fit t (omega arith))
-        ∙ ap length (alike .same-buffers t low)
-        ∙ buffer-long p u fits t (omega arith)
+        let m = thread-low (fit .program) low in
+        sym (buffer-long p s fit t m) ∙ ap length (alike .same-buffers t low) ∙ buffer-long p u fits t m
 
     queued-long : (q : ℕ) → q < linesOf p → queueLen s q ≡ queueLen u q
     queued-long q low =

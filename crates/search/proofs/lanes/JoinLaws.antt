@@ -5,7 +5,7 @@ use Prim.Native.Nat.{ℕ, zero, suc, _+_, _-_, _*_, _<_}
 use mathlib.Core.Path.{_≡_, refl, _∙_, sym}
 use mathlib.Core.Logic.{_≢_}
 use mathlib.Core.List.{List, _∷_, _++_, append-nil, append-assoc}
-use native.Mathlib.Nat.{add-zero, add-suc}
+use native.Mathlib.Nat.{add-zero, add-suc, zero-mul, suc-mul}
 use native.Mathlib.Omega.{arith}
 use native.Mathlib.Decide.{ℕ-discrete}
 use borrow.Author.Tests.{eq-eqb, ne-eqb}
@@ -76,11 +76,19 @@ join-other n r f g h o =
     join-same (n - suc r) (shifted (suc r) g) (shifted (suc r) f) (λ i l. o (suc r + i) (λ e. omega arith)) in
     join-split n r g h ∙ rw (before, behind)
 
+-- joinTo: how many, where each has w
+pub length-wide : (w n : ℕ) (f : ℕ → List ℕ) → ((i : ℕ) → length (f i) ≡ w) → length (joinTo n f) ≡ n * w
+unfolding joinTo
+length-wide w zero f h = sym (zero-mul w)
+length-wide w (suc n) f h =
+    let e = length-wide w n f h in
+    let d = h n in
+    simp length-append (omega (arith, suc-mul n w))
+
 -- each: how many; taken apart where only that of i is another; that of i read; that of i changed
 pub length-each : (n : ℕ) (f : ℕ → ℕ) → length (each n f) ≡ n
-unfolding each single joinTo
-length-each zero f = refl
-length-each (suc n) f = let e = length-each n f in simp length-append (omega arith)
+unfolding each single
+length-each n f = let e = length-wide 1 n (single f) (λ i. refl) in omega arith
 
 pub each-other : (n i : ℕ) (f g : ℕ → ℕ) → i < n → ((j : ℕ) → j ≢ i → g j ≡ f j)
     → each n g ≡ each i f ++ g i ∷ each (n - suc i) (shifted (suc i) f)

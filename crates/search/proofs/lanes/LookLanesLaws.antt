@@ -166,9 +166,8 @@ module _ (p : Program) (s : State) (fit : Fits p s) where
   pub loaded-is : (t l : ℕ) → t < p .threads → l < p .locations → loadedLane c x t l ≡ loadOf p s t l
   unfolding loadedLane loadOf
   loaded-is t l low there =
-      let m = fit .program .sized .few-threads in
       let k = fit .program .sized .few-locations in
-      let n = see-buffer-long t low ∙ sym (buffer-long p s fit t (omega arith)) in
+      let n = see-buffer-long t low ∙ sym (buffer-long p s fit t (thread-low (fit .program) low)) in
       rw (queued-is l there, n)
       (newest-all waitingLanes x (rowStart c x t) (buffer s t) blankWaiting (see-waiting t low) l (queuedWord p s l)
       ∙ newest-store l (omega arith) (buffer s t) (queuedWord p s l))

@@ -12,16 +12,18 @@ use Rattle.cases.specs.declared.case.Step.{Step}
 use Rattle.cases.specs.declared.case.Program.{Program}
 use Rattle.cases.specs.Choice.{pick}
 use Rattle.cases.specs.Sizes.{mostInstructions}
-use Rattle.cases.specs.Checks.{linesOf}
+use Rattle.cases.specs.Checks.{linesOf, limitsOf, stepFault}
+use Rattle.cases.specs.Ranges.{ProgramFits}
 use Rattle.cases.proofs.ChoiceLaws.{never-both}
+use Rattle.cases.proofs.Promises.{thread-low}
 use Rattle.machine.specs.declared.cells.State.{State}
 use Rattle.machine.specs.View.{buffer}
 use Rattle.machine.specs.Rules.{ruleOf}
-use Rattle.machine.specs.Model.{allowed, legalSteps}
+use Rattle.machine.specs.Model.{allowed, legalSteps, Listed}
 use Rattle.machine.specs.Next.{issueStep, moveStep, persistStep, stepsFrom, movesOf, movesFrom, candidates}
 use Rattle.machine.specs.Ptso.{ptso}
 use Rattle.machine.specs.Fit.{Fits}
-use Rattle.machine.proofs.Promises.{buffer-long}
+use Rattle.machine.proofs.Promises.{buffer-long, next-legal, ptso-lawful}
 use Rattle.search.specs.Listing.{listingOf}
 use Rattle.search.specs.Rows.{rowLen}
 use Rattle.search.specs.Barred.{issueBarred, moveBarred, persistBarred, freeFrom, freeMoves, legalLanes}
@@ -99,9 +101,9 @@ module _ (p : Program) (s : State) (fit : Fits p s) where
   moves-of : (t : ℕ) → t < p .threads
       → freeFrom (moveBarred c x t) (moveStep t) 0 (rowLen c x t) ≡ allowed (ruleOf p s) (movesOf t)
   moves-of t low =
-      let m = fit .program .sized .few-threads in
-      let w = fit .few-waiting t (omega arith) in
-      let n = buffer-long p s fit t (omega arith) in
+      let m = thread-low (fit .program) low in
+      let w = fit .few-waiting t m in
+      let n = buffer-long p s fit t m in
       let all : length (buffer s t) + (mostInstructions - length (buffer s t)) ≡ mostInstructions = omega arith in
       ap (freeFrom (moveBarred c x t) (moveStep t) 0) (see-buffer-long p s fit t low ∙ sym n)
       ∙ allowed-free (ruleOf p s) (moveStep t) (moveBarred c x t) 0 (length (buffer s t))
@@ -131,3 +133,8 @@ module _ (p : Program) (s : State) (fit : Fits p s) where
       (sym (allowed-append (ruleOf p s) (stepsFrom issueStep 0 (p .threads) ++ movesFrom 0 (p .threads))
       (stepsFrom persistStep 0 (linesOf p))
       ∙ rw (allowed-append (ruleOf p s) (stepsFrom issueStep 0 (p .threads)) (movesFrom 0 (p .threads)))))
+
+-- a step on that list is faultless and breaks no rule
+pub legal-listed : (p : Program) → ProgramFits p → (s : State) (k : Step) → Listed k (legalSteps (ptso p) s)
+    → (stepFault (limitsOf p) k ≡ 0) × (ruleOf p s k ≡ 0)
+legal-listed p fits s k = next-legal (ptso p) (ptso-lawful p fits) s k .0

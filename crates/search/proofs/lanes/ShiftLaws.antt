@@ -1,23 +1,18 @@
 -- Laws of lanes as lists: with zeros behind them (padded), amid others, and moved in place (inserted, carried).
 -- Assumes nothing.
-use Prim.Native.Nat.{ℕ, suc, _+_, _-_, _<_, _≤_}
+use Prim.Native.Nat.{ℕ, suc, _+_, _-_, _<_}
 use mathlib.Core.Path.{_≡_, ap, _∙_}
 use mathlib.Core.List.{List, [], _∷_, _++_, append-assoc}
 use native.Mathlib.Nat.{zero-add, suc-add}
 use native.Mathlib.Numerals.{add-one, add-two}
 use native.Mathlib.Omega.{arith}
-use lib.ListN.{length, getD, set, take, drop, replicate, length-append, length-replicate, length-set}
-use lib.ListN.{List·getD-append}
+use lib.ListN.{length, getD, set, take, drop, replicate, length-append, length-set, List·getD-append}
 use lib.Seq.{getD-append-add, set-append-left, sets-eq, take-at, drop-at, drop-cons, split-at}
 use Rattle.machine.specs.View.{part}
 use Rattle.search.specs.Sizes.{mostLanes}
 use Rattle.search.specs.Taken.{padded, inserted, carried}
 
--- padded: how many in all; read within; changed within
-pub length-padded : (x : List ℕ) → length x ≤ mostLanes → length (padded x) ≡ mostLanes
-unfolding padded
-length-padded x h = simp (length-append, length-replicate) (omega arith)
-
+-- padded: read within; changed within
 get-padded : (x : List ℕ) (i : ℕ) → i < length x → getD (padded x) i 0 ≡ getD x i 0
 unfolding padded
 get-padded x i h = List·getD-append x _ 0 i h

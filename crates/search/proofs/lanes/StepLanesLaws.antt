@@ -15,7 +15,7 @@ use Rattle.machine.specs.declared.cells.State.{State}
 use Rattle.machine.specs.Rules.{ruleOf, nextOf}
 use Rattle.machine.specs.Fit.{together, Fits}
 use Rattle.machine.specs.Next.{issueStep, moveStep, persistStep}
-use Rattle.machine.proofs.Promises.{step-fits, buffer-long}
+use Rattle.machine.proofs.Promises.{step-fits, buffer-long, step-together}
 use Rattle.machine.proofs.Effects.{step-kinds, issue-left, move-within}
 use Rattle.search.specs.Listing.{threadsIn, listingOf}
 use Rattle.search.specs.Rows.{rowsIn, FewEntries}
@@ -27,6 +27,13 @@ use Rattle.search.proofs.lanes.LookLanesLaws.{laidOf, see-buffer-long, 
 use Rattle.search.proofs.lanes.IssueLanesLaws.{issue-room, issue-lanes}
 use Rattle.search.proofs.lanes.MoveLanesLaws.{move-lanes}
 use Rattle.search.proofs.lanes.PersistLanesLaws.{persist-some, persist-lanes}
+
+-- a step is an issue of a thread, a move of one, or a persist of a line
+abbrev pub Kinds : Program → Step → Type 0
+Kinds p k =
+    ((t : ℕ) × (t < p .threads) × (k ≡ issueStep t))
+    ⊎ ((t : ℕ) × (i : ℕ) × (t < p .threads) × (k ≡ moveStep t i))
+    ⊎ ((q : ℕ) × (q < linesOf p) × (k ≡ persistStep q))
 
 -- A state that fits its program, with as many entries as there is room for at most
 module _ (p : Program) (s : State) (fit : Fits p s) (few : together p s ≤ allCode) where
@@ -40,19 +47,16 @@ module _ (p : Program) (s : State) (fit : Fits p s) (few : together p s ≤ allC
   pub few-lanes : FewEntries (listingOf p) (laidOf p s)
   few-lanes = rw (see-sum c (seenOf p s) (rowsIn c) (omega arith)) (few-of p s fit few)
 
-  abbrev Kinds : Step → Type 0
-  Kinds k =
-      ((t : ℕ) × (t < p .threads) × (k ≡ issueStep t))
-      ⊎ ((t : ℕ) × (i : ℕ) × (t < p .threads) × (k ≡ moveStep t i))
-      ⊎ ((q : ℕ) × (q < linesOf p) × (k ≡ persistStep q))
+  -- a step: it leads to no more entries; to the lanes of its state
+  pub step-few : (k : Step) → stepFault (limitsOf p) k ≡ 0 → ruleOf p s k ≡ 0 → together p (nextOf p s k) ≤ allCode
+  step-few k faultless legal = let t = step-together p s fit k faultless legal in omega arith
 
-  -- a step
   pub step-lanes : (k : Step) → stepFault (limitsOf p) k ≡ 0 → ruleOf p s k ≡ 0
       → stepLanes (listingOf p) (laidOf p s) k ≡ laidOf p (nextOf p s k)
   unfolding stepLanes pick
   step-lanes k faultless legal = go (step-kinds p k faultless) (step-fits p s fit k faultless legal)
     where
-      go : Kinds k → Fits p (nextOf p s k) → stepLanes c x k ≡ laidOf p (nextOf p s k)
+      go : Kinds p k → Fits p (nextOf p s k) → stepLanes c x k ≡ laidOf p (nextOf p s k)
       go (inl (t, low, e)) after =
           rw e (issue-lanes p s fit few t low (rw e at legal) (rw e at after))
       go (inr (inl (t, i, low, e))) after =
@@ -94,7 +98,7 @@ module _ (p : Program) (s : State) (fit : Fits p s) (few : together p s ≤ allC
       → Takes (listingOf p) (laidOf p s) k
   step-takes k faultless legal = go (step-kinds p k faultless)
     where
-      go : Kinds k → Takes c x k
+      go : Kinds p k → Takes c x k
       go (inl (t, low, e)) = rw e (issue-takes t low (rw e at legal))
       go (inr (inl (t, i, low, e))) = rw e (move-takes t i low (rw e at legal))
       go (inr (inr (q, low, e))) = rw e (persist-takes q low (rw e at legal))

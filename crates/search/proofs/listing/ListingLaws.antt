@@ -1,12 +1,11 @@
 -- What stands where in the listing of a program, and that it fits where the program does. Assumes nothing.
-use Prim.Native.Nat.{ℕ, zero, suc, _+_, _*_, _≤_, _<_}
+use Prim.Native.Nat.{ℕ, _+_, _*_, _≤_, _<_, suc, _-_}
 use mathlib.Core.Path.{_≡_, refl, sym, ap, _∙_}
-use mathlib.Core.Logic.{_⊎_, inl, inr, ⊎-elim}
-use mathlib.Core.List.{List, [], _∷_, _++_}
+use mathlib.Core.Logic.{⊎-elim}
+use mathlib.Core.List.{List, [], _∷_, _++_, append-assoc}
 use native.Mathlib.Omega.{arith}
-use native.Mathlib.Nat.{eq-or-lt-of-le, le-of-suc-le-suc}
 use borrow.Author.Tests.{le-leb, lt-leb}
-use lib.ListN.{length, getD, length-append, List·getD-append, List·getD-eq-default}
+use lib.ListN.{length, getD, List·getD-append, List·getD-eq-default}
 use lib.Seq.{getD-append-add}
 use Rattle.cases.specs.declared.case.Instruction.{Instruction}
 use Rattle.cases.specs.declared.case.Program.{Program}
@@ -20,40 +19,26 @@ use Rattle.search.specs.Sizes.{countsAt, linesAt, codesAt}
 use Rattle.search.specs.Lanes.{joinTo}
 use Rattle.search.specs.Listing.{instructionLanes, listingOf, threadsIn, linesIn, locationsIn, countIn}
 use Rattle.search.specs.Listing.{lineIn, codeAt, ListingFits}
+use Rattle.search.proofs.lanes.JoinLaws.{length-wide, join-split, shifted}
 
--- number j of instruction i
+-- instructions one behind the other: how many numbers; number j of instruction i
 module _ (code : List Instruction) where
-  four : (i : ℕ) → length (instructionLanes code i) ≡ 4
+  pub length-codes : (n : ℕ) → length (joinTo n (instructionLanes code)) ≡ 4 * n
   unfolding instructionLanes
-  four i = refl
+  length-codes n = let e = length-wide 4 n (instructionLanes code) (λ i. refl) in omega arith
 
-  pub join-wide : (n : ℕ) → length (joinTo n (instructionLanes code)) ≡ 4 * n
-  unfolding joinTo
-  join-wide zero = refl
-  join-wide (suc n) =
-      let a = length-append (joinTo n (instructionLanes code)) (instructionLanes code n) in
-      let b = join-wide n in
-      let c = four n in
-      omega arith
-
-  join-piece : (n i j : ℕ) → i < n → j < 4
+  get-codes : (n i j : ℕ) → i < n → j < 4
       → getD (joinTo n (instructionLanes code)) (4 * i + j) 0 ≡ getD (instructionLanes code i) j 0
-  unfolding joinTo
-  join-piece zero i j h l = absurd (omega arith)
-  join-piece (suc n) i j h l = go (eq-or-lt-of-le (le-of-suc-le-suc h)) (join-piece n i j)
-    where
-      go : (i ≡ n) ⊎ (i < n)
-          → (i < n → j < 4
-          → getD (joinTo n (instructionLanes code)) (4 * i + j) 0 ≡ getD (instructionLanes code i) j 0)
-          → getD (joinTo n (instructionLanes code) ++ instructionLanes code n) (4 * i + j) 0
-          ≡ getD (instructionLanes code i) j 0
-      go (inl e) ih =
-          rw (e, sym (join-wide n)) (getD-append-add (joinTo n (instructionLanes code)) (instructionLanes code n) j 0)
-      go (inr less) ih =
-          let long = join-wide n in
-          List·getD-append (joinTo n (instructionLanes code)) (instructionLanes code n) 0 (4 * i + j) (omega arith)
-          ∙ ih less l
+  unfolding instructionLanes
+  get-codes n i j h l =
+      let before : List ℕ = joinTo i (instructionLanes code) in
+      let after : List ℕ = joinTo (n - suc i) (shifted (suc i) (instructionLanes code)) in
+      rw (join-split n i (instructionLanes code) h, ← length-codes i)
+      (ap (λ (x : List ℕ). getD x (length before + j) 0) (append-assoc before (instructionLanes code i) after)
+      ∙ getD-append-add before (instructionLanes code i ++ after) j 0
+      ∙ List·getD-append (instructionLanes code i) after 0 j l)
 
+-- what stands first
 module _ (p : Program) where
   pub listing-threads : threadsIn (listingOf p) ≡ p .threads
   unfolding listingOf
@@ -114,7 +99,7 @@ module _ (p : Program) (fits : ProgramFits p) where
       ap (λ n. getD (listingOf p) n 0) e
       ∙ behind-counts (mostLocations + (4 * i + j))
       ∙ rw (sym long) (getD-append-add (p .line) code (4 * i + j) 0)
-      ∙ join-piece (p .code) allCode i j low less
+      ∙ get-codes (p .code) allCode i j low less
 
   module _ (t i : ℕ) (low : t < mostThreads) (few : i < mostInstructions) where
     there : t * mostInstructions + i < allCode

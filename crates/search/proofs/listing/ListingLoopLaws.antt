@@ -15,7 +15,7 @@ use Rattle.cases.proofs.ArrayLaws.{sets-append, sets-front}
 use Rattle.search.specs.Sizes.{countsAt, linesAt, codesAt, allListing}
 use Rattle.search.specs.Lanes.{joinTo}
 use Rattle.search.specs.Listing.{instructionLanes, listingOf}
-use Rattle.search.proofs.listing.ListingLaws.{join-wide}
+use Rattle.search.proofs.listing.ListingLaws.{length-codes}
 
 -- a loop has put the first i of some numbers
 pub record NumbersSoFar (before : List ℕ) (at : ℕ) (numbers row : List ℕ) (i : ℕ) : Type 0 where
@@ -82,7 +82,7 @@ module _ {before : List ℕ} {code : List Instruction} {row : List ℕ} {i : ℕ
               o .put,
               add-one i,
               sets-append before codesAt (joinTo i (instructionLanes code)),
-              join-wide code i,
+              length-codes code i,
               a,
               b,
               d,
@@ -102,7 +102,7 @@ module _ (p : Program) (fits : ProgramFits p) where
   listing-length =
       let a = fits .sized .counts-long in
       let b = fits .sized .line-long in
-      let w = join-wide (p .code) allCode in
+      let w = length-codes (p .code) allCode in
       simp length-append (omega arith)
 
   -- put into as many numbers as it has, it is all that there is

@@ -3,7 +3,7 @@
 -- Assumes nothing.
 use Prim.Native.Nat.{ℕ, zero, suc, _+_, _*_, _-_, _/_, _%_, _≤_, _<_}
 use mathlib.Core.Path.{_≡_, refl, sym, ap, _∙_}
-use mathlib.Core.Logic.{_⊎_, inl, inr}
+use mathlib.Core.Logic.{inl, inr}
 use mathlib.Core.Bool.{Bool, true, false}
 use mathlib.Core.List.{List, [], _∷_, _++_}
 use native.Mathlib.Omega.{arith}
@@ -16,8 +16,8 @@ use Rattle.cases.specs.declared.case.Program.{Program}
 use Rattle.cases.specs.Choice.{pick}
 use Rattle.cases.specs.Sizes.{mostThreads, mostInstructions}
 use Rattle.cases.specs.Draft.{noStep}
-use Rattle.cases.specs.Checks.{linesOf}
 use Rattle.cases.proofs.ChoiceLaws.{pick-true, pick-false}
+use Rattle.cases.proofs.Promises.{thread-low}
 use Rattle.machine.specs.declared.cells.State.{State}
 use Rattle.machine.specs.Sizes.{mostCandidates, kindRanks}
 use Rattle.machine.specs.Rules.{ruleOf}
@@ -25,7 +25,7 @@ use Rattle.machine.specs.Model.{Listed, legalSteps}
 use Rattle.machine.specs.Next.{issueStep, moveStep, persistStep, rankOf}
 use Rattle.machine.specs.Ptso.{ptso}
 use Rattle.machine.specs.Fit.{Fits}
-use Rattle.machine.proofs.Promises.{next-legal, ptso-lawful, legal-few, buffer-long}
+use Rattle.machine.proofs.Promises.{legal-few, buffer-long}
 use Rattle.machine.proofs.Effects.{step-kinds, move-within}
 use Rattle.search.specs.declared.next.Ranks.{Ranks}
 use Rattle.search.specs.Listing.{threadsIn, linesIn}
@@ -33,6 +33,8 @@ use Rattle.search.specs.Rows.{rowLen}
 use Rattle.search.specs.Barred.{issueBarred, moveBarred, persistBarred, freeFrom, freeMoves}
 use Rattle.search.specs.Barred.{legalLanes, stepAt, nextWith, pushed, offered, offeredFrom, offeredMoves, nextLanes}
 use Rattle.search.proofs.lanes.GeneralLaws.{listed-get}
+use Rattle.search.proofs.lanes.NextLanesLaws.{legal-listed}
+use Rattle.search.proofs.lanes.StepLanesLaws.{Kinds}
 use Rattle.search.proofs.walk.WalkLoopLaws.{Lists}
 
 unfoldable pub pushAll : List Step → Ranks → Ranks
@@ -156,22 +158,17 @@ persist-back q =
 module _ (p : Program) (s : State) (fit : Fits p s) where
   legal-back : (k : Step) → Listed k (legalSteps (ptso p) s) → stepAt (rankOf k) ≡ k
   legal-back k h =
-      let n = next-legal (ptso p) (ptso-lawful p (fit .program)) s k .0 h in
+      let n = legal-listed p (fit .program) s k h in
       go (step-kinds p k (n .0)) (n .1)
     where
-      few : (t : ℕ) → t < p .threads → t < mostThreads
-      few t low = let m = fit .program .sized .few-threads in omega arith
-
-      go : ((t : ℕ) × (t < p .threads) × (k ≡ issueStep t))
-          ⊎ ((t : ℕ) × (i : ℕ) × (t < p .threads) × (k ≡ moveStep t i))
-          ⊎ ((q : ℕ) × (q < linesOf p) × (k ≡ persistStep q))
-          → ruleOf p s k ≡ 0 → stepAt (rankOf k) ≡ k
-      go (inl (t, low, e)) legal = rw e (issue-back t (few t low))
+      go : Kinds p k → ruleOf p s k ≡ 0 → stepAt (rankOf k) ≡ k
+      go (inl (t, low, e)) legal = rw e (issue-back t (thread-low (fit .program) low))
       go (inr (inl (t, i, low, e))) legal =
           let there = move-within p s fit t i low (rw e at legal) in
-          let long = buffer-long p s fit t (few t low) in
-          let w = fit .few-waiting t (few t low) in
-          rw e (move-back t i (few t low) (omega arith))
+          let m = thread-low (fit .program) low in
+          let long = buffer-long p s fit t m in
+          let w = fit .few-waiting t m in
+          rw e (move-back t i m (omega arith))
       go (inr (inr (q, low, e))) legal = rw e (persist-back q)
 
   pub ranks-lists : Lists (pushAll (legalSteps (ptso p) s) blank) (legalSteps (ptso p) s)

@@ -14,7 +14,7 @@ use Rattle.machine.specs.Rules.{ruleOf, nextOf}
 use Rattle.machine.specs.Work.{work}
 use Rattle.machine.specs.Model.{Listed, legalSteps}
 use Rattle.machine.specs.Ptso.{ptso}
-use Rattle.machine.proofs.Promises.{ptso-lawful, next-legal, step-fits, step-together, step-lowers}
+use Rattle.machine.proofs.Promises.{ptso-lawful, step-fits, step-lowers}
 use Rattle.search.specs.declared.next.Ranks.{Ranks}
 use Rattle.search.specs.declared.walk.Walked.{Walked}
 use Rattle.search.specs.Walk.{walk}
@@ -27,8 +27,8 @@ use Rattle.search.specs.Held.{Held}
 use Rattle.search.proofs.listing.ListingLaws.{listing-fits}
 use Rattle.search.proofs.lanes.StateLaws.{lay-of}
 use Rattle.search.proofs.lanes.LookLanesLaws.{laidOf}
-use Rattle.search.proofs.lanes.NextLanesLaws.{legal-is}
-use Rattle.search.proofs.lanes.StepLanesLaws.{few-lanes, step-lanes, step-takes}
+use Rattle.search.proofs.lanes.NextLanesLaws.{legal-is, legal-listed}
+use Rattle.search.proofs.lanes.StepLanesLaws.{few-lanes, step-lanes, step-takes, step-few}
 use Rattle.search.proofs.next.RanksLaws.{next-pushed, ranks-lists}
 use Rattle.search.proofs.walk.WalkLoopLaws.{Lists, Walking, walking-start}
 
@@ -65,9 +65,7 @@ module _ {c x : List ℕ} {depth room : ℕ} (h : Held c x depth room) where
   -- a next step
   module _ (k : Step) (on : Listed k (legalLanes c x)) where
     legal : (stepFault (limitsOf (h .program)) k ≡ 0) × (ruleOf (h .program) (h .state) k ≡ 0)
-    legal =
-        next-legal (ptso (h .program)) (ptso-lawful (h .program) (h .fits .program)) (h .state) k .0
-        (subst (Listed k) legal-held on)
+    legal = legal-listed (h .program) (h .fits .program) (h .state) k (subst (Listed k) legal-held on)
 
     less : work (h .program) (nextOf (h .program) (h .state) k) < work (h .program) (h .state)
     less =
@@ -101,10 +99,7 @@ module _ {c x : List ℕ} {depth room : ℕ} (h : Held c x depth room) where
           program = h .program;
           state = nextOf (h .program) (h .state) k;
           fits = step-fits (h .program) (h .state) (h .fits) k (legal .0) (legal .1);
-          few =
-              (let t = step-together (h .program) (h .state) (h .fits) k (legal .0) (legal .1) in
-              let f = h .few in
-              omega arith);
+          few = step-few (h .program) (h .state) (h .fits) (h .few) k (legal .0) (legal .1);
           listed = h .listed;
           laid =
               z-is

@@ -4,20 +4,16 @@ use Prim.Native.Nat.{ℕ, suc, _≤_}
 use mathlib.Core.Path.{_≡_, sym, ap, _∙_}
 use mathlib.Core.List.{map}
 use native.Mathlib.Omega.{arith}
-use Rattle.cases.specs.declared.case.Step.{Step}
 use Rattle.cases.specs.declared.case.Program.{Program}
 use Rattle.cases.specs.declared.case.Ask.{Ask}
 use Rattle.cases.specs.Sizes.{allCode}
-use Rattle.cases.specs.Checks.{limitsOf, stepFault}
 use Rattle.cases.specs.Ranges.{ProgramFits}
 use Rattle.machine.specs.declared.cells.State.{State}
 use Rattle.machine.specs.Sizes.{mostWork}
-use Rattle.machine.specs.Rules.{ruleOf}
 use Rattle.machine.specs.Fit.{together, Fits}
 use Rattle.machine.specs.Work.{work}
-use Rattle.machine.specs.Model.{Listed, legalSteps}
 use Rattle.machine.specs.Ptso.{ptso}
-use Rattle.machine.proofs.Promises.{ptso-lawful, next-legal, step-fits, step-together}
+use Rattle.machine.proofs.Promises.{ptso-lawful, step-fits}
 use Rattle.search.specs.Walk.{walk, machineOf, walkOf}
 use Rattle.search.specs.Question.{reaches}
 use Rattle.search.specs.Seek.{seek}
@@ -27,8 +23,8 @@ use Rattle.search.specs.Taken.{padded, lanesMachine, reachesLanes}
 use Rattle.search.specs.Held.{AskWithin}
 use Rattle.search.proofs.lanes.StateLaws.{lay-of}
 use Rattle.search.proofs.lanes.LookLanesLaws.{laidOf}
-use Rattle.search.proofs.lanes.NextLanesLaws.{legal-is}
-use Rattle.search.proofs.lanes.StepLanesLaws.{step-lanes}
+use Rattle.search.proofs.lanes.NextLanesLaws.{legal-is, legal-listed}
+use Rattle.search.proofs.lanes.StepLanesLaws.{step-lanes, step-few}
 use Rattle.search.proofs.lanes.ReachLanesLaws.{reaches-is}
 use Rattle.search.proofs.walk.WalkLaws.{walk-enough}
 use Rattle.search.proofs.walk.WalkModelLaws.{walkable}
@@ -39,20 +35,14 @@ module _ (p : Program) (fits : ProgramFits p) where
   abbrev Good : State → Type 0
   Good s = Fits p s × (together p s ≤ allCode)
 
-  legal : (s : State) (k : Step) → Listed k (legalSteps (ptso p) s)
-      → (stepFault (limitsOf p) k ≡ 0) × (ruleOf p s k ≡ 0)
-  legal s k = next-legal (ptso p) (ptso-lawful p fits) s k .0
-
   lanes-along : Along (machineOf (ptso p)) (lanesMachine (listingOf p)) (laidOf p) Good
   lanes-along =
       record {
         keeps = λ s g k on.
-            let l = legal s k on in
-            let t = step-together p s (g .0) k (l .0) (l .1) in
-            let m = g .1 in
-            (step-fits p s (g .0) k (l .0) (l .1), omega arith);
+            let l = legal-listed p fits s k on in
+            (step-fits p s (g .0) k (l .0) (l .1), step-few p s (g .0) (g .1) k (l .0) (l .1));
         nexts = λ s g. legal-is p s (g .0);
-        after = λ s g k on. let l = legal s k on in step-lanes p s (g .0) (g .1) k (l .0) (l .1);
+        after = λ s g k on. let l = legal-listed p fits s k on in step-lanes p s (g .0) (g .1) k (l .0) (l .1);
       }
 
   pub walk-lanes : (n : ℕ) (s : State) → Fits p s → together p s ≤ allCode
