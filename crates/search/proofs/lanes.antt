@@ -39,7 +39,7 @@ pub mod IssueLanesLaws
 pub mod MoveLanesLaws
 -- persist: a persist over the lanes of a state
 pub mod PersistLanesLaws
--- step, few: a step over the lanes of a state, and what the code asks of it
+-- step, few, Kinds: a step over the lanes of a state, and what the code asks of it
 pub mod StepLanesLaws
 -- alike: equal lanes
 pub mod AlikeLaws
