@@ -16,9 +16,6 @@ use Rattle.machine.specs.Model.{Listed, legalSteps}
 use Rattle.machine.specs.Ptso.{ptso}
 use Rattle.machine.proofs.Promises.{ptso-lawful, step-fits, step-lowers}
 use Rattle.search.specs.declared.next.Ranks.{Ranks}
-use Rattle.search.specs.declared.walk.Walked.{Walked}
-use Rattle.search.specs.Walk.{walk}
-use Rattle.search.specs.Seek.{seek, walkedOf, storedOf}
 use Rattle.search.specs.Listing.{ListingFits}
 use Rattle.search.specs.Rows.{FewEntries}
 use Rattle.search.specs.Barred.{legalLanes, nextLanes}
@@ -57,10 +54,9 @@ module _ {c x : List ℕ} {depth room : ℕ} (h : Held c x depth room) where
 
   -- the loop begins
   pub walks-start : (wanted : List Bool) (want passed : List ℕ) (b : ℕ) (next : Ranks) (out : List ℕ)
-      → next ≡ nextLanes c x → b ≢ 0 → reachesLanes c wanted want passed x ≡ false
+      → next ≡ nextLanes c x → b ≢ 0 → (here : Bool) → here ≡ reachesLanes c wanted want passed x → here ≡ false
       → Walks c wanted want passed x depth b next out out (b - 1) 0
-  walks-start wanted want passed b next out e some t =
-      walking-start out (rw e held-lists) some t
+  walks-start wanted want passed b next out e = walking-start out (rw e held-lists)
 
   -- a next step
   module _ (k : Step) (on : Listed k (legalLanes c x)) where
@@ -79,16 +75,9 @@ module _ {c x : List ℕ} {depth room : ℕ} (h : Held c x depth room) where
     pub held-deep : depth < mostWork
     held-deep = let w = less in let d = h .deep in omega arith
 
-    -- what the walk below leaves, one deeper
-    pub below-held : (test : List ℕ → Bool) (b : ℕ) (z : List ℕ) (r : Walked) (last out : List ℕ)
-        → (r ≡ walkedOf (depth + 1) (seek test b (walk (lanesMachine c) (suc (mostWork - (depth + 1))) z)))
-        × (last ≡ storedOf (depth + 1) (seek test b (walk (lanesMachine c) (suc (mostWork - (depth + 1))) z)) out)
-        → (r ≡ walkedOf (depth + 1) (seek test b (walk (lanesMachine c) (mostWork - depth) z)))
-        × (last ≡ storedOf (depth + 1) (seek test b (walk (lanesMachine c) (mostWork - depth) z)) out)
-    below-held test b z r last out l =
-        let d = held-deep in
-        let e : suc (mostWork - (depth + 1)) ≡ mostWork - depth = omega arith in
-        (rw e at (l .0), rw e at (l .1))
+    -- how deep the walk below may go, one deeper
+    pub held-below : suc (mostWork - (depth + 1)) ≡ mostWork - depth
+    held-below = let d = held-deep in omega arith
 
     pub held-room : stepSize * depth + stepSize ≤ room
     held-room = let w = less in let r = h .roomy in omega arith

@@ -57,14 +57,15 @@ module _ {S : Type 0} (test : S → Bool) (b depth : ℕ) (out : List ℕ) where
     left-used-up e =
         left-as (walk m (suc n) s) usedUp (ap (λ c. seek test c (walk m (suc n) s)) e) Stopped out refl refl
 
-    pub left-here : b ≢ 0 → test s ≡ true → Left test (walk m (suc n) s) b depth out (Found depth) out
+    pub left-here : b ≢ 0 → (here : Bool) → here ≡ test s → here ≡ true
+        → Left test (walk m (suc n) s) b depth out (Found depth) out
     unfolding walk seek walkedOf storedOf stepsBytes bytesOf
-    left-here some t =
+    left-here some here e t =
         left-as (walk m (suc n) s) (hit []) (go b some) (Found depth) out (ap Found (omega arith)) refl
       where
         go : (c : ℕ) → c ≢ 0 → seek test c (walk m (suc n) s) ≡ hit []
         go zero n = absurd (n refl)
-        go (suc c) n = rw (t, seek)
+        go (suc c) n = rw (sym e ∙ t, seek)
 
 -- `next` lists the next steps; those from i on are still to be walked, with so much of the budget left, and
 -- nothing is stored yet
@@ -76,15 +77,15 @@ pub record Walking {S : Type 0} (m : Machine S Step) (n : ℕ) (test : S → Boo
   pub same : seek test left (restOf m n s (drop i (m .nexts s))) ≡ seek test b (walk m (suc n) s)
 
 module _ {S : Type 0} {m : Machine S Step} {n : ℕ} {test : S → Bool} {s : S} {b : ℕ} {next : Ranks} where
-  pub walking-start : (out : List ℕ) → Lists next (m .nexts s) → b ≢ 0 → test s ≡ false
+  pub walking-start : (out : List ℕ) → Lists next (m .nexts s) → b ≢ 0 → (here : Bool) → here ≡ test s → here ≡ false
       → Walking m n test s b next out out (b - 1) 0
   unfolding walk seek
-  walking-start out list some t =
+  walking-start out list some here d t =
       record { list = list; within = omega arith; kept = refl; same = go b some }
     where
       go : (c : ℕ) → c ≢ 0 → seek test (c - 1) (restOf m n s (m .nexts s)) ≡ seek test c (walk m (suc n) s)
       go zero none = absurd (none refl)
-      go (suc c) none = let e : suc c - 1 ≡ c = omega arith in rw (e, t, seek)
+      go (suc c) none = let e : suc c - 1 ≡ c = omega arith in rw (e, sym d ∙ t, seek)
 
   -- the loop ends
   pub walking-end : {before out : List ℕ} {left i : ℕ}

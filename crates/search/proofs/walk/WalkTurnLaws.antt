@@ -27,7 +27,7 @@ use Rattle.search.proofs.walk.WalkLoopLaws.{restOf, Left, left-as, Walk
 
 module _ {S : Type 0} {m : Machine S Step} {n : ℕ} {test : S → Bool} {s : S} {b : ℕ} {next : Ranks}
     {before out : List ℕ} {left i : ℕ} (o : Walking m n test s b next before out left i) where
-  -- a turn: k is the step of the rank at position i, and z the state behind it
+  -- a turn: k is the step of the rank at position i, z the state behind it, and j the depth of the walk below z
   module _ (h : i < next .count) (k : Step) (k-is : k ≡ stepAt (getD (next .ranks) i 0)) where
     front : drop i (m .nexts s) ≡ k ∷ drop (i + 1) (m .nexts s)
     front = o .list .here i h ∙ ap (λ j. j ∷ drop (i + 1) (m .nexts s)) (sym k-is)
@@ -37,10 +37,10 @@ module _ {S : Type 0} {m : Machine S Step} {n : ℕ} {test : S → Bool} {s : S}
     unfolding Listed
     turn-listed = listed-drop k i (m .nexts s) (subst (Listed k) (sym front) (inl refl))
 
-    module _ (z : S) (z-is : z ≡ m .after s k) where
+    module _ (z : S) (z-is : z ≡ m .after s k) (j : ℕ) (j-is : j ≡ n) where
       -- what the walk below z finds decides, or the walk goes on with what is left of the budget
       turn-seek : seek test b (walk m (suc n) s)
-          ≡ onward (behindStep k (seek test left (walk m n z)))
+          ≡ onward (behindStep k (seek test left (walk m j z)))
           (λ c. seek test c (restOf m n s (drop (i + 1) (m .nexts s))))
       unfolding starting
       turn-seek =
@@ -50,13 +50,14 @@ module _ {S : Type 0} {m : Machine S Step} {n : ℕ} {test : S → Bool} {s : S}
           (restOf m n s (drop (i + 1) (m .nexts s)))
           ∙ ap (λ x. onward x (λ c. seek test c (restOf m n s (drop (i + 1) (m .nexts s)))))
           (seek-under test left k (walk m n (m .after s k))
-          ∙ ap (λ u. behindStep k (seek test left (walk m n u))) (sym z-is))
+          ∙ ap (λ u. behindStep k (seek test left (walk m n u))) (sym z-is)
+          ∙ ap (λ d. behindStep k (seek test left (walk m d z))) (sym j-is))
 
       module _ (depth : ℕ) (r : Walked) (last : List ℕ)
-          (below : (r ≡ walkedOf (depth + 1) (seek test left (walk m n z)))
-          × (last ≡ storedOf (depth + 1) (seek test left (walk m n z)) out)) where
+          (below : (r ≡ walkedOf (depth + 1) (seek test left (walk m j z)))
+          × (last ≡ storedOf (depth + 1) (seek test left (walk m j z)) out)) where
         abbrev sought : Sought Step
-        sought = seek test left (walk m n z)
+        sought = seek test left (walk m j z)
 
         abbrev Leaves : Walked → List ℕ → Type 0
         Leaves = Left test (walk m (suc n) s) b depth before
@@ -81,13 +82,13 @@ module _ {S : Type 0} {m : Machine S Step} {n : ℕ} {test : S → Bool} {s : S}
             ap length e ∙ length-sets last at (recordBytes (Take k)) ∙ turn-length ∙ ap length (o .kept)
 
         -- a run was found below: the step goes before it
-        pub turn-found : (j : ℕ) → r ≡ Found j
-            → Leaves (Found j) (sets last (stepSize * depth) (recordBytes (Take k)))
+        pub turn-found : (f : ℕ) → r ≡ Found f
+            → Leaves (Found f) (sets last (stepSize * depth) (recordBytes (Take k)))
         unfolding walkedOf storedOf on-from
-        turn-found j e =
-            let w = walked-found (depth + 1) sought j (sym (below .0) ∙ e) in
+        turn-found f e =
+            let w = walked-found (depth + 1) sought f (sym (below .0) ∙ e) in
             let long = w .2 in
-            leaves-as (hit (k ∷ w .0)) (turn-seek ∙ ap on-from (w .1)) (Found j) _
+            leaves-as (hit (k ∷ w .0)) (turn-seek ∙ ap on-from (w .1)) (Found f) _
             (ap Found (omega arith))
             (ap (λ y. sets y (stepSize * depth) (recordBytes (Take k)))
             (below .1 ∙ ap (λ y. storedOf (depth + 1) y out) (w .1))

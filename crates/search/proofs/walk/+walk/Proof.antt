@@ -1,6 +1,6 @@
 -- `walk` meets its contract. Assumes nothing.
 use Prim.Native.Nat.{ℕ, _-_, _<_}
-use mathlib.Core.Path.{sym, ap, _∙_}
+use mathlib.Core.Path.{ap, _∙_}
 use native.Mathlib.Omega.{arith}
 use lib.ListN.{length}
 use Rattle.machine.specs.Sizes.{mostWork}
@@ -9,7 +9,7 @@ use Rattle.search.proofs.walk.WalkLoopLaws.{left-used-up, left-here, wa
 use Rattle.search.proofs.walk.WalkTurnLaws.{turn-listed, turn-length, turn-put, turn-found, turn-stopped}
 use Rattle.search.proofs.walk.WalkTurnLaws.{turn-finished}
 use Rattle.search.proofs.walk.WalkHeldLaws.{Walks, walks-start, held-fits, held-few, held-takes, held-deep}
-use Rattle.search.proofs.walk.WalkHeldLaws.{held-room, held-next, below-held}
+use Rattle.search.proofs.walk.WalkHeldLaws.{held-room, held-next, held-below}
 use borrow.Author.Needs.{needs}
 use borrow.Fn.Kinds.{In}
 use borrow.Fn.PlainCycle.{Measures, is, falls, and}
@@ -74,8 +74,8 @@ walk-returns-2 : (t : ℕ)
 walk-returns-2 t c =
     let g = c .before .before .before in
     let a = g .before .before .args in
-    let r = sym (c .before .is-reached .ensures) ∙ c .if2 .taken in
-    let l = left-here _ (a .budget) (a .depth) (a .run .now) _ _ (a .x) (g .if1 .left) r in
+    let e = c .before .is-reached .ensures in
+    let l = left-here _ (a .budget) (a .depth) (a .run .now) _ _ (a .x) (g .if1 .left) _ e (c .if2 .taken) in
     (l .told, l .stored)
 
 walk-next-steps-requires : (t : ℕ)
@@ -94,8 +94,8 @@ walk-loop-holds t c =
     let i = c .before .before in
     let g = i .before .before .before in
     let h = g .before .before .pre .1 in
-    let r = sym (i .before .is-reached .ensures) ∙ i .if2 .left in
-    (h, walks-start h _ _ _ _ _ _ (c .next-steps .ensures) (g .if1 .left) r)
+    let e = i .before .is-reached .ensures in
+    (h, walks-start h _ _ _ _ _ _ (c .next-steps .ensures) (g .if1 .left) _ e (i .if2 .left))
 
 walk-cast-step-at : (t : ℕ)
     → walk-lts.Need-cast-step-at (calls t) (walk-at t) walk.Post walk-Inv-loop walk-μ-loop
@@ -150,8 +150,8 @@ walk-put-step-requires t c κs =
     let k = w .before .before .before .step-at .ensures in
     let l = w .before .before .before .before .before .before .loop in
     let on = turn-listed (l .inv .1) (omega arith) _ k in
-    let v = below-held (l .inv .0) _ on _ _ _ _ _ _ (w .walk .ensures) in
-    let e = turn-length (l .inv .1) (omega arith) _ k _ z _ _ _ v in
+    let n = held-below (l .inv .0) _ on in
+    let e = turn-length (l .inv .1) (omega arith) _ k _ z _ n _ _ _ (w .walk .ensures) in
     let r = held-room (l .inv .0) _ on in
     omega arith
 
@@ -163,8 +163,8 @@ walk-same-length t c =
     let k = w .before .before .before .step-at .ensures in
     let l = w .before .before .before .before .before .before .loop in
     let on = turn-listed (l .inv .1) (omega arith) _ k in
-    let v = below-held (l .inv .0) _ on _ _ _ _ _ _ (w .walk .ensures) in
-    let e = turn-put (l .inv .1) (omega arith) _ k _ z _ _ _ v _ _ (c .before .before .put-step .ensures) in
+    let n = held-below (l .inv .0) _ on in
+    let e = turn-put (l .inv .1) (omega arith) _ k _ z _ n _ _ _ (w .walk .ensures) _ _ (c .before .before .put-step .ensures) in
     search needs
 
 walk-returns-3 : (t : ℕ)
@@ -175,8 +175,8 @@ walk-returns-3 t c =
     let k = w .before .before .before .step-at .ensures in
     let l = w .before .before .before .before .before .before .loop in
     let on = turn-listed (l .inv .1) (omega arith) _ k in
-    let v = below-held (l .inv .0) _ on _ _ _ _ _ _ (w .walk .ensures) in
-    let x = turn-found (l .inv .1) (omega arith) _ k _ z _ _ _ v _ (c .before .before .before .before .before .below .given .1) in
+    let n = held-below (l .inv .0) _ on in
+    let x = turn-found (l .inv .1) (omega arith) _ k _ z _ n _ _ _ (w .walk .ensures) _ (c .before .before .before .before .before .below .given .1) in
     (x .told, c .before .before .put-step .ensures ∙ x .stored)
 
 walk-enum-known-below-2 : (t : ℕ)
@@ -195,8 +195,8 @@ walk-same-length-2 t c =
     let k = w .before .before .before .step-at .ensures in
     let l = w .before .before .before .before .before .before .loop in
     let on = turn-listed (l .inv .1) (omega arith) _ k in
-    let v = below-held (l .inv .0) _ on _ _ _ _ _ _ (w .walk .ensures) in
-    let e = turn-length (l .inv .1) (omega arith) _ k _ z _ _ _ v in
+    let n = held-below (l .inv .0) _ on in
+    let e = turn-length (l .inv .1) (omega arith) _ k _ z _ n _ _ _ (w .walk .ensures) in
     let f = ap length (l .inv .1 .kept) in
     search needs
 
@@ -208,8 +208,8 @@ walk-returns-4 t c =
     let k = w .before .before .before .step-at .ensures in
     let l = w .before .before .before .before .before .before .loop in
     let on = turn-listed (l .inv .1) (omega arith) _ k in
-    let v = below-held (l .inv .0) _ on _ _ _ _ _ _ (w .walk .ensures) in
-    let x = turn-stopped (l .inv .1) (omega arith) _ k _ z _ _ _ v (c .enum-told .given .1) in
+    let n = held-below (l .inv .0) _ on in
+    let x = turn-stopped (l .inv .1) (omega arith) _ k _ z _ n _ _ _ (w .walk .ensures) (c .enum-told .given .1) in
     (x .told, x .stored)
 
 walk-add-i : (t : ℕ)
@@ -230,9 +230,9 @@ walk-loop-again t c =
     let k = w .before .before .before .step-at .ensures in
     let l = w .before .before .before .before .before .before .loop in
     let on = turn-listed (l .inv .1) (omega arith) _ k in
-    let v = below-held (l .inv .0) _ on _ _ _ _ _ _ (w .walk .ensures) in
-    let e = turn-length (l .inv .1) (omega arith) _ k _ z _ _ _ v in
-    let o = turn-finished (l .inv .1) (omega arith) _ k _ z _ _ _ v _ (c .before .below2 .given .1) in
+    let n = held-below (l .inv .0) _ on in
+    let e = turn-length (l .inv .1) (omega arith) _ k _ z _ n _ _ _ (w .walk .ensures) in
+    let o = turn-finished (l .inv .1) (omega arith) _ k _ z _ n _ _ _ (w .walk .ensures) _ (c .before .below2 .given .1) in
     (rw e (l .inv .0), o)
 
 walk-same-length-3 : (t : ℕ)
