@@ -1,5 +1,5 @@
 -- The listing of a program (specs/Listing), and its code.
--- listing, join, length: what stands where in it; it fits
+-- length, listing: what stands where in it; it fits
 pub mod ListingLaws
--- numbers, codes, NumbersSoFar, CodeSoFar: the loops that make it; listing
+-- NumbersSoFar, CodeSoFar, numbers, codes: the loops that make it; listing
 pub mod ListingLoopLaws

@@ -1,5 +1,5 @@
 -- Where things stand among lanes, and looks (specs/Rows): the code.
--- line, queue, code, row: where things stand; rows, newest, queued, loaded, RowsSoFar, NewestSoFar: the loops
+-- line, queue, code, row: where things stand; RowsSoFar, NewestSoFar, rows, newest, queued, loaded: the loops
 pub mod RowLoopLaws
--- marked, MarkedRowsSoFar, MarkedEntriesSoFar: the loops
+-- MarkedRowsSoFar, MarkedEntriesSoFar, marked: the loops that look for a marker
 pub mod MarkedLoopLaws

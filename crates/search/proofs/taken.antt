@@ -1,7 +1,7 @@
 -- A step taken over lanes (specs/Taken): the code.
--- opening, carrying, Opening, Carrying: the loops; inserted, carried: what stays before them
+-- Opening, opening, Carrying, carrying, inserted, carried: lanes changed in place
 pub mod InPlaceLaws
--- joined, carried, entry, EntryAt: a change stays within the lanes, and a row's length has room; fetched, counted, code
+-- joined, carried, EntryAt, entry, fetched, code: a change stays within the lanes, and a row's length has room
 pub mod RowLenLaws
 -- compared, persist, takes: one for each way of the code
 pub mod TakenLaws

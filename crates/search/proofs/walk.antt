@@ -13,5 +13,5 @@ pub mod WalkTurnLaws
 pub mod AlongLaws
 -- walk, seek: over lanes
 pub mod WalkLanesLaws
--- held, Walks, walks, below: what the code may ask of its lanes
+-- Walks, walks, held: what the code may ask of its lanes
 pub mod WalkHeldLaws

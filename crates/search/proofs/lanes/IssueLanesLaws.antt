@@ -38,7 +38,7 @@ use Rattle.search.proofs.listing.ListingLaws.{listing-threads, listing-
 use Rattle.search.proofs.listing.ListingLaws.{listing-location, listing-register, listing-word, listing-fits}
 use Rattle.search.proofs.lanes.SeenLaws.{Seen, lay, withRegister, withJoined}
 use Rattle.search.proofs.lanes.LayLaws.{see-issued, see-register, set-issued, set-register}
-use Rattle.search.proofs.lanes.LayRowLaws.{join-row}
+use Rattle.search.proofs.lanes.LayRowLaws.{row-joined}
 use Rattle.search.proofs.lanes.StateLaws.{seenOf, entries-of}
 use Rattle.search.proofs.lanes.LookLanesLaws.{laidOf, row-there, queue-there, queued-is, loaded-is}
 use Rattle.search.proofs.lanes.SameLanesLaws.{queued-kept}
@@ -101,7 +101,7 @@ module _ (p : Program) (s : State) (fit : Fits p s) (t : ℕ) (low : t < p .thre
     exchanged =
         let to = line-there p (fit .program) (l .0) there in
         rw (fetched, isLocation, isWord, listing-line p (fit .program) (l .0))
-        (join-row c (listing-fits p (fit .program)) (withRegister v j (queuedWord p s (l .0)))
+        (row-joined c (listing-fits p (fit .program)) (withRegister v j (queuedWord p s (l .0)))
         (record { twice = even-counted p s fit t low .twice }) (omega arith)
         (queueRow c (lineOf p (l .0))) (l .0) a (queue-there p s fit (lineOf p (l .0)) to) roomy)
 
@@ -113,7 +113,7 @@ module _ (p : Program) (s : State) (fit : Fits p s) (t : ℕ) (low : t < p .thre
     unfolding awaitedLanes registerLane
     awaited op isOperation =
         rw (isOperation, isLocation, isRegister, isWord, see-register c v t (r .0) here few)
-        (join-row c (listing-fits p (fit .program)) v (even-counted p s fit t low) (omega arith) t
+        (row-joined c (listing-fits p (fit .program)) v (even-counted p s fit t low) (omega arith) t
         (entryTag op (l .0)) (entryWord op a (registerIn (s .registers) t (r .0))) (row-there p s fit t low) roomy)
 
     -- what these make of the view: a register that takes a word; a write at once; an entry that waits

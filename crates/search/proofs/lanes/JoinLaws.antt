@@ -1,4 +1,5 @@
--- Laws of `changed`, and of `joinTo` and `each`: what stands one behind the other, taken apart, read and changed.
+-- Laws of `changed`, and of `joinTo` and `each`: what stands one behind the other, taken apart, read and
+-- changed.
 --   shifted m f   what f says from m on
 -- Assumes nothing.
 use Prim.Native.Nat.{ℕ, zero, suc, _+_, _-_, _*_, _<_}
@@ -90,7 +91,7 @@ pub length-each : (n : ℕ) (f : ℕ → ℕ) → length (each n f) ≡ n
 unfolding each single
 length-each n f = let e = length-wide 1 n (single f) (λ i. refl) in omega arith
 
-pub each-other : (n i : ℕ) (f g : ℕ → ℕ) → i < n → ((j : ℕ) → j ≢ i → g j ≡ f j)
+each-other : (n i : ℕ) (f g : ℕ → ℕ) → i < n → ((j : ℕ) → j ≢ i → g j ≡ f j)
     → each n g ≡ each i f ++ g i ∷ each (n - suc i) (shifted (suc i) f)
 unfolding each single shifted
 each-other n i f g h o =

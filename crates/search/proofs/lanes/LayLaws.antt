@@ -145,7 +145,7 @@ module _ (c : List ℕ) (v : Seen) where
       rw (lay-issued c v, lay-issued c (withIssued v t n))
       (rw zero-add at (put-each [] (fromLong c v) (threadsIn c) 0 t (v .issued) refl h n))
 
-  pub set-long : (r n : ℕ) → r < rowsIn c
+  set-long : (r n : ℕ) → r < rowsIn c
       → set (padded (lay c v)) (rowLenAt c r) n ≡ padded (lay c (withLong v r n))
   set-long r n h =
       rw (lay-long c v, lay-long c (withLong v r n))
@@ -180,7 +180,7 @@ module _ (c : List ℕ) (v : Seen) where
 
 module _ (c : List ℕ) (v : Seen) (even : Even c v) where
   -- how many lanes stand before row r; how many there are
-  pub length-front : (r : ℕ) → r ≤ rowsIn c → length (front c v r) ≡ poolAt c + 2 * sumTo r (v .long)
+  length-front : (r : ℕ) → r ≤ rowsIn c → length (front c v r) ≡ poolAt c + 2 * sumTo r (v .long)
   unfolding front
   length-front r h =
       let e = length-join r (v .row) (v .long) (λ i l. even .twice i (omega arith)) in

@@ -139,10 +139,10 @@ module _ (c : List ℕ) (fits : ListingFits c) (v : Seen) (even : Even c v)
       (length (front c v (suc r))) (length (front c v (rowsIn c))) refl
       (rw (← lay-front c v, lay-apart c v r h) (sym (length-append (front c v (suc r)) (behind v r (rowsIn c))))))
 
-  pub join-row : (r tag word : ℕ) → r < rowsIn c → sumTo (rowsIn c) (v .long) < allCode
+  pub row-joined : (r tag word : ℕ) → r < rowsIn c → sumTo (rowsIn c) (v .long) < allCode
       → rowJoined c (padded (lay c v)) r tag word ≡ padded (lay c (withJoined v r tag word))
   unfolding rowJoined
-  join-row r tag word h room = rw (inserted-row r tag word h room) (count-long c (grown v r tag word) r h)
+  row-joined r tag word h room = rw (inserted-row r tag word h room) (count-long c (grown v r tag word) r h)
 
   -- rowLeft: an entry of row r moved behind all rows, as zeros; and discounted
   carried-out : (r i : ℕ) → r < rowsIn c → i < v .long r
@@ -161,10 +161,10 @@ module _ (c : List ℕ) (fits : ListingFits c) (v : Seen) (even : Even c v)
       )
       (carried-front c v even r (rowsIn c) i 0 0 (replicate (spare c v) 0) h h k)
 
-  pub leave-row : (r i : ℕ) → r < rowsIn c → i < v .long r
+  pub row-left : (r i : ℕ) → r < rowsIn c → i < v .long r
       → rowLeft c (padded (lay c v)) r (rowStart c (padded (lay c v)) r + 2 * i) ≡ padded (lay c (withLeft v r i))
   unfolding rowLeft
-  leave-row r i h k = rw (carried-out r i h k) (discount-long c (shrunk v r i) r h)
+  row-left r i h k = rw (carried-out r i h k) (discount-long c (shrunk v r i) r h)
 
   -- rowCarried: an entry of thread t's row moved to the end of line q's; and discounted there, and counted here
   carried-over : (t i q tag word : ℕ) → t < threadsIn c → q < linesIn c → i < v .long t
@@ -195,11 +195,11 @@ module _ (c : List ℕ) (fits : ListingFits c) (v : Seen) (even : Even c v)
       (carried-front c v even t (suc r) i tag word (behind v r (rowsIn c) ++ replicate (spare c v) 0) (omega arith)
       (omega arith) k ∙ simp append-assoc)
 
-  pub carry-row : (t i q tag : ℕ) → t < threadsIn c → q < linesIn c → i < v .long t
+  pub row-carried : (t i q tag : ℕ) → t < threadsIn c → q < linesIn c → i < v .long t
       → rowCarried c (padded (lay c v)) t (rowStart c (padded (lay c v)) t + 2 * i) q tag
       ≡ padded (lay c (withJoined (withLeft v t i) (queueRow c q) tag (getD (v .row t) (2 * i + 1) 0)))
   unfolding rowCarried
-  carry-row t i q tag h m k =
+  row-carried t i q tag h m k =
       let start : ℕ = rowStart c (padded (lay c v)) t in
       let word : ℕ = getD (v .row t) (2 * i + 1) 0 in
       let w : Seen = grown (shrunk v t i) (queueRow c q) tag word in

@@ -37,6 +37,7 @@ use Rattle.search.proofs.lanes.StateLaws.{seenOf, even-of, row-buffer, 
 use Rattle.search.proofs.lanes.StateLaws.{long-queue}
 use Rattle.search.proofs.lanes.SpreadLaws.{length-spread, get-spread, waiting-two, slot-two}
 
+-- what stands in a queue where there is no entry
 abbrev pub blankSlot : Slot
 blankSlot = writeSlot 0 0
 
@@ -48,6 +49,7 @@ unfoldable newestOf : {A : Type 0} → (A → List ℕ) → ℕ → List A → �
 newestOf f g [] w = w
 newestOf f g (e ∷ es) w = newestOf f g es (pick (eqb (getD (f e) 0 0) g) (getD (f e) 1 0) w)
 
+-- with an entry more at their end
 newest-snoc : {A : Type 0} (f : A → List ℕ) (g : ℕ) (es : List A) (e : A) (w : ℕ)
     → newestOf f g (es ++ (e ∷ [])) w ≡ pick (eqb (getD (f e) 0 0) g) (getD (f e) 1 0) (newestOf f g es w)
 unfolding newestOf
@@ -101,6 +103,7 @@ module _ (p : Program) (s : State) (fit : Fits p s) where
   abbrev x : List ℕ
   x = laidOf p s
 
+  -- the row of a buffer is there; that of a queue
   pub row-there : (t : ℕ) → t < p .threads → t < rowsIn c
   row-there t low = let a = listing-threads p in omega arith
 

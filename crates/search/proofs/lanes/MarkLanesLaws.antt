@@ -1,4 +1,5 @@
--- The code's search for a thread's marker among the lanes of a state finds what the machine's finds in its queues.
+-- The code's search for a thread's marker among the lanes of a state finds what the machine's finds in its
+-- queues.
 --   isMark mark m, holdsMark   the mark sought; a queue holds one
 -- Assumes nothing.
 use Prim.Native.Nat.{ℕ, zero, suc, _+_, _*_, _≤_, _<_}
@@ -98,6 +99,7 @@ module _ (p : Program) (s : State) (fit : Fits p s) (t : ℕ) where
       (λ i h. ap (λ n. getD x n 0) (omega arith) ∙ see-slot p s fit q low i 0 h (omega arith))
       ∙ ap (λ ms. either (anyOf (isMark (markOf t)) ms) after) (queue-marks p s fit q (omega arith))
 
+  -- k queues from q on
   marked-from : (k q : ℕ) → q + k ≤ linesOf p
       → markedFrom c x (markOf t) (rowStart c x (queueRow c q)) (queueRow c q) k
       ≡ anyFrom q k (holdsMark (s .marks) (s .lengths) t)
@@ -116,6 +118,7 @@ module _ (p : Program) (s : State) (fit : Fits p s) (t : ℕ) where
   unfolding holdsMark marksIn anyOf
   empty q far low = rw (part-none _ _ (s .marks) (fit .no-queue q low far)) refl
 
+  -- all queues
   pub marked-is : markedLanes c x t ≡ marked (s .marks) (s .lengths) t
   unfolding markedLanes marked markerOf
   marked-is =

@@ -37,7 +37,7 @@ use Rattle.search.proofs.lanes.SeenLaws.{Seen, Even, lay, withLeft, wit
 use Rattle.search.proofs.lanes.JoinLaws.{changed-same, changed-other}
 use Rattle.search.proofs.lanes.TagLaws.{tag-sfence, tag-flush-opt, tag-flush, tag-store}
 use Rattle.search.proofs.lanes.EvenLaws.{even-joined, even-left}
-use Rattle.search.proofs.lanes.LayRowLaws.{leave-row, carry-row}
+use Rattle.search.proofs.lanes.LayRowLaws.{row-left, row-carried}
 use Rattle.search.proofs.lanes.StateLaws.{seenOf, even-of, few-of, row-buffer, row-queue, long-buffer}
 use Rattle.search.proofs.lanes.SpreadLaws.{spread-append, get-spread, waiting-two, spread-without}
 use Rattle.search.proofs.lanes.LookLanesLaws.{laidOf, row-there, see-tag, named-there}
@@ -139,7 +139,7 @@ module _ (p : Program) (s : State) (fit : Fits p s) (t i : ℕ) (low : t < p .th
 
       left : rowLeft c (laidOf p s) t at ≡ padded (lay c (withLeft v t i))
       left =
-          leave-row c (listing-fits p (fit .program)) v (even-of p s fit) (few-of p s fit few) t i
+          row-left c (listing-fits p (fit .program)) v (even-of p s fit) (few-of p s fit few) t i
           (row-there p s fit t low) inside
 
       carried : (l g a : ℕ) → l < p .locations → getD (v .row t) (2 * i + 1) 0 ≡ a
@@ -147,7 +147,7 @@ module _ (p : Program) (s : State) (fit : Fits p s) (t i : ℕ) (low : t < p .th
           ≡ padded (lay c (withJoined (withLeft v t i) (queueRow c (lineOf p l)) g a))
       carried l g a there word =
           rw (← word, listing-line p (fit .program) l)
-          (carry-row c (listing-fits p (fit .program)) v (even-of p s fit) (few-of p s fit few) t i (lineOf p l) g
+          (row-carried c (listing-fits p (fit .program)) v (even-of p s fit) (few-of p s fit few) t i (lineOf p l) g
           here (rw (listing-lines p) (line-there p (fit .program) l there)) inside)
 
       moved : (e : Entry) → Named (p .locations) e → getD (v .row t) (2 * i + 1) 0 ≡ getD (entryLanes e) 1 0

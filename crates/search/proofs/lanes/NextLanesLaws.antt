@@ -1,5 +1,5 @@
--- The steps that are not barred over the lanes of a state are the machine's legal steps, in the same order; and the
--- array of ranks that the code makes stands for that list. Assumes nothing.
+-- The steps that are not barred over the lanes of a state are the machine's legal steps, in the same order.
+-- Assumes nothing.
 use Prim.Native.Nat.{ℕ, zero, suc, _+_, _-_, _≤_, _<_}
 use mathlib.Core.Path.{_≡_, refl, sym, ap, _∙_}
 use mathlib.Core.Bool.{Bool, true, false, not}
@@ -31,7 +31,8 @@ use Rattle.search.proofs.listing.ListingLaws.{listing-threads, listing-
 use Rattle.search.proofs.lanes.LookLanesLaws.{laidOf, see-buffer-long}
 use Rattle.search.proofs.lanes.RuleLanesLaws.{broken, issue-barred, move-barred, move-beyond, persist-barred}
 
--- steps of which each is barred where it breaks a rule; those behind them all break one
+-- allowed: of two lists; of steps that all break a rule; of steps of which each is barred where it breaks one, and
+-- the d behind them all break one
 module _ (rule : Step → ℕ) where
   allowed-append : (ks js : List Step) → allowed rule (ks ++ js) ≡ allowed rule ks ++ allowed rule js
   unfolding allowed
@@ -98,6 +99,7 @@ module _ (p : Program) (s : State) (fit : Fits p s) where
   abbrev x : List ℕ
   x = laidOf p s
 
+  -- the moves of a thread; of n threads from t on
   moves-of : (t : ℕ) → t < p .threads
       → freeFrom (moveBarred c x t) (moveStep t) 0 (rowLen c x t) ≡ allowed (ruleOf p s) (movesOf t)
   moves-of t low =

@@ -32,7 +32,7 @@ use Rattle.search.proofs.lanes.SeenLaws.{Seen, Even, changed, lay, with
 use Rattle.search.proofs.lanes.JoinLaws.{changed-same, changed-other}
 use Rattle.search.proofs.lanes.EvenLaws.{even-left}
 use Rattle.search.proofs.lanes.LayLaws.{set-word}
-use Rattle.search.proofs.lanes.LayRowLaws.{leave-row}
+use Rattle.search.proofs.lanes.LayRowLaws.{row-left}
 use Rattle.search.proofs.lanes.StateLaws.{seenOf, even-of, few-of, row-buffer, row-queue, long-queue}
 use Rattle.search.proofs.lanes.LookLanesLaws.{blankSlot, laidOf, queue-there, see-slot}
 use Rattle.search.proofs.lanes.SameLanesLaws.{same-lanes}
@@ -92,7 +92,7 @@ module _ (p : Program) (s : State) (fit : Fits p s) (q : ℕ) (low : q < linesOf
   left : together p s ≤ allCode → rowLeft c x r (rowStart c x r) ≡ padded (lay c (settledSeen p s q (wordOf s)))
   left few =
       ap (λ n. rowLeft c x r n) (omega arith)
-      ∙ leave-row c (listing-fits p (fit .program)) v (even-of p s fit) (few-of p s fit few) r 0
+      ∙ row-left c (listing-fits p (fit .program)) v (even-of p s fit) (few-of p s fit few) r 0
       (queue-there p s fit q low) inside
 
   even-settled : (words : ℕ → ℕ) → Even c (settledSeen p s q words)
@@ -183,6 +183,7 @@ module _ (p : Program) (s : State) (fit : Fits p s) (q : ℕ) (low : q < linesOf
         (persist-same (wordOf s)
         (λ l here. sym (words l (omega arith) ∙ pick-false _ _ _ (ne-eqb (h .mark) l (λ e. omega arith)))))
 
+-- a persist
 pub persist-lanes : (p : Program) (s : State) → Fits p s → together p s ≤ allCode → (q : ℕ) → q < linesOf p
     → ruleOf p s (persistStep q) ≡ 0
     → Fits p (nextOf p s (persistStep q))

@@ -38,6 +38,7 @@ module _ (p : Program) (s : State) (fit : Fits p s) (a : Ask) (within : AskWithi
   unwanted l far false e = refl
   unwanted l far true e = let low = within .wants l e in absurd (omega arith)
 
+  -- so a word is missed among the lanes where one is in the state
   missed : anyFrom 0 (locationsIn c) (missesLane c (a .wanted) (a .want) x)
       ≡ anyFrom 0 mostLocations (missesAt (a .wanted) (a .want) (s .words))
   unfolding missesLane missesAt
@@ -58,6 +59,7 @@ module _ (p : Program) (s : State) (fit : Fits p s) (a : Ask) (within : AskWithi
       ⊎-elim (λ e. e) (λ some. let low = fit .program .instructions t 0 some .0 in absurd (omega arith))
       (eq-zero-or-pos (countAt p t))
 
+  -- so a thread lacks something by the lanes where one does by the state
   lacked : anyFrom 0 (threadsIn c) (lacksAt (a .passed) x) ≡ anyFrom 0 mostThreads (lacksAt (a .passed) (s .issued))
   unfolding lacksAt
   lacked =
@@ -70,6 +72,7 @@ module _ (p : Program) (s : State) (fit : Fits p s) (a : Ask) (within : AskWithi
       let most = within .passed t in
       le-ltb (getD (s .issued) t 0) (getD (a .passed) t 0) (omega arith))
 
+  -- together
   pub reaches-is : reachesLanes c (a .wanted) (a .want) (a .passed) x ≡ reaches a s
   unfolding reachesLanes reaches reachesIn
   reaches-is = rw (missed, lacked)

@@ -34,12 +34,13 @@ use Rattle.search.proofs.lanes.SpreadLaws.{length-spread, waiting-two, 
 unfoldable pub split : {A : Type 0} → ℕ → (ℕ → A) → (ℕ → A) → ℕ → A
 split n f g r = pick (ltb r n) (f r) (g (r - n))
 
+-- split: below n; from n on
 module _ {A : Type 0} (n : ℕ) (f g : ℕ → A) where
-  pub split-left : (r : ℕ) → r < n → split n f g r ≡ f r
+  split-left : (r : ℕ) → r < n → split n f g r ≡ f r
   unfolding split
   split-left r h = pick-true _ _ _ (lt-ltb r n h)
 
-  pub split-right : (r : ℕ) → split n f g (n + r) ≡ g r
+  split-right : (r : ℕ) → split n f g (n + r) ≡ g r
   unfolding split
   split-right r =
       pick-false _ _ _ (le-ltb (n + r) n (omega arith)) ∙ ap g (omega arith)
@@ -102,13 +103,11 @@ sum-split m (suc n) f g =
 
 -- A state that fits its program
 module _ (p : Program) (s : State) (fit : Fits p s) where
-  few : p .threads ≤ mostThreads
-  few = fit .program .sized .few-threads
-
+  -- two lanes an entry: of a buffer; of a queue; so of every row
   length-own : (t : ℕ) → t < p .threads → length (bufferLanes s t) ≡ 2 * bufferLen s t
   unfolding bufferLanes
   length-own t low =
-      let m = few in
+      let m = fit .program .sized .few-threads in
       let a = length-spread waitingLanes waiting-two (buffer s t) in
       let b = buffer-long p s fit t (omega arith) in
       omega arith
@@ -140,7 +139,7 @@ module _ (p : Program) (s : State) (fit : Fits p s) where
   pub entries-of : sumTo (rowsIn (listingOf p)) (seenOf p s .long) + sumTo mostThreads (unissued p s) ≤ together p s
   unfolding together due
   entries-of =
-      let m = few in
+      let m = fit .program .sized .few-threads in
       let l = few-lines p (fit .program) in
       let a = sum-split (p .threads) (linesOf p) (bufferLen s) (queueLen s) in
       let b = sum-front (bufferLen s) (p .threads) mostThreads (omega arith) in

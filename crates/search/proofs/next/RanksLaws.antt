@@ -41,6 +41,7 @@ unfoldable pub pushAll : List Step → Ranks → Ranks
 pushAll [] n = n
 pushAll (k ∷ ks) n = pushAll ks (pushed k n)
 
+-- pushAll: one list behind another
 push-append : (ks js : List Step) (n : Ranks) → pushAll (ks ++ js) n ≡ pushAll js (pushAll ks n)
 unfolding pushAll
 push-append [] js n = refl
@@ -67,6 +68,7 @@ moves-pushed c x t (suc k) n =
     ∙ ap (pushAll (freeMoves c x (suc t) k)) (offered-pushed (moveBarred c x t) (moveStep t) 0 (rowLen c x t) n)
     ∙ sym (push-append (freeFrom (moveBarred c x t) (moveStep t) 0 (rowLen c x t)) (freeMoves c x (suc t) k) n)
 
+-- no ranks; the code's ranks are those of the legal next steps, pushed one after the other
 abbrev pub blank : Ranks
 blank = nextWith 0 (replicate mostCandidates 0)
 

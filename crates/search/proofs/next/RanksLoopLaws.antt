@@ -49,7 +49,7 @@ pub record TurnsSoFar (turns : ℕ → ℕ → Ranks → Ranks) (grown : ℕ →
   pub few : n .count ≤ start .count + grown i
   pub rest : turns i (most - i) n ≡ turns 0 most start
 
-pub turns-start : (turns : ℕ → ℕ → Ranks → Ranks) (grown : ℕ → ℕ) (most : ℕ) (start : Ranks)
+turns-start : (turns : ℕ → ℕ → Ranks → Ranks) (grown : ℕ → ℕ) (most : ℕ) (start : Ranks)
     → TurnsSoFar turns grown most 0 start start
 turns-start turns grown most start =
     let e : most - 0 ≡ most = omega arith in

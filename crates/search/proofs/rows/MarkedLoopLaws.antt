@@ -38,12 +38,14 @@ pub record MarkedEntriesSoFar (c x : List ℕ) (mark r n at i : ℕ) (found : Bo
       (markedFrom c x mark (rowStart c x (r + 1)) (r + 1) (rowsIn c - (r + 1)))
       ≡ markedFrom c x mark (rowStart c x (threadsIn c)) (threadsIn c) (linesIn c)
 
+-- the first row is the first queue's
 pub marked-rows-start : (c x : List ℕ) (mark at : ℕ) → at ≡ rowStart c x (threadsIn c)
     → MarkedRowsSoFar c x mark at (threadsIn c) false
 marked-rows-start c x mark at e =
     let k : rowsIn c - threadsIn c ≡ linesIn c = omega arith in
     record { far = omega arith; start = e; none = refl; rest = rw (e, k) }
 
+-- of the rows from r on, the first and those behind it
 marked-from-next : (c x : List ℕ) (mark at r n : ℕ) → r < n
     → markedAmong x mark at (rowLen c x r) (markedFrom c x mark (at + 2 * rowLen c x r) (r + 1) (n - (r + 1)))
     ≡ markedFrom c x mark at r (n - r)
@@ -51,6 +53,7 @@ unfolding markedFrom
 marked-from-next c x mark at r n h = let e : n - r ≡ suc (n - (r + 1)) = omega arith in rw (e, add-one)
 
 module _ {c x : List ℕ} {mark at r : ℕ} {found : Bool} (o : MarkedRowsSoFar c x mark at r found) where
+  -- a turn of the outer loop begins; the outer loop ends
   pub marked-entries-start : r < rowsIn c → (n : ℕ) → n ≡ rowLen c x r
       → MarkedEntriesSoFar c x mark r n at 0 found
   marked-entries-start h n e =
@@ -76,6 +79,7 @@ module _ {c x : List ℕ} {mark at r : ℕ} {found : Bool} (o : MarkedRowsSoFar 
 module _ {c x : List ℕ} {mark r n at i : ℕ} {found : Bool}
     (o : MarkedEntriesSoFar c x mark r n at i found) where
   module _ (h : i < n) where
+    -- an entry stands within the lanes; it is no marker of the thread; it is one
     pub marked-within : ListingFits c → FewEntries c x → at + 2 ≤ mostLanes
     marked-within g few =
         let w = row-room c x g few r (o .low) _ n refl (o .counted) in
@@ -104,6 +108,7 @@ module _ {c x : List ℕ} {mark r n at i : ℕ} {found : Bool}
     unfolding markedLanes
     marked-here p t e = pick-here _ _ _ _ (eq-eqb _ _ p) refl ∙ marked-at ∙ rw e
 
+  -- the inner loop ends
   pub marked-rows-next : n ≤ i → MarkedRowsSoFar c x mark at (r + 1) found
   unfolding markedAmong
   marked-rows-next h =

@@ -34,7 +34,7 @@ pub line-byte : (c : List ℕ) → ListingFits c → (l : ℕ) → l < mostLocat
 line-byte c g l h = let e = line-some c l h in let b = g .few-lines in let w = g .low-lines l in omega arith
 
 -- the row of a location's queue is one of the rows
-pub line-row : (c : List ℕ) → ListingFits c → (l : ℕ) → queueRow c (lineIn c l) < rowsIn c
+line-row : (c : List ℕ) → ListingFits c → (l : ℕ) → queueRow c (lineIn c l) < rowsIn c
 line-row c g l = let w = g .low-lines l in omega arith
 
 pub queue-low : (c : List ℕ) → ListingFits c → (l q r : ℕ) → q ≡ lineIn c l → r ≡ queueRow c q → r < rowsIn c
@@ -63,7 +63,7 @@ module _ (c x : List ℕ) (g : ListingFits c) (few : FewEntries c x) where
       let w = sum-front (rowLen c x) r (rowsIn c) h in
       omega arith
 
-  pub row-within : (r : ℕ) → r < rowsIn c → rowStart c x r + 2 * rowLen c x r ≤ mostLanes
+  row-within : (r : ℕ) → r < rowsIn c → rowStart c x r + 2 * rowLen c x r ≤ mostLanes
   row-within r h = let w = row-low (r + 1) (omega arith) in let e = row-next c x r in omega arith
 
   pub row-room : (r : ℕ) → r < rowsIn c → (base n : ℕ) → base ≡ rowStart c x r → n ≡ rowLen c x r

@@ -1,5 +1,5 @@
--- Laws of lanes changed in place: the loops that make room for an entry and that close up behind one, and the lanes
--- that such a change leaves as they are. Assumes nothing.
+-- Laws of lanes changed in place: the loops that make room for an entry and that close up behind one, and the
+-- lanes that such a change leaves as they are. Assumes nothing.
 use Prim.Native.Nat.{ℕ, suc, _+_, _-_, _≤_, _<_}
 use mathlib.Core.Path.{_≡_, refl, _∙_}
 use mathlib.Core.Logic.{_⊎_, inl, inr}

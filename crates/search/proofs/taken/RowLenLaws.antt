@@ -1,5 +1,5 @@
--- Laws of rows as a step changes lanes: the change stays within the lanes, a length that grows or falls has room to,
--- and a change to another lane leaves all lengths. Assumes nothing.
+-- Laws of rows as a step changes lanes: the change stays within the lanes, a length that grows or falls has room
+-- to, and a change to another lane leaves all lengths. Assumes nothing.
 use Prim.Native.Nat.{ℕ, suc, _+_, _*_, _-_, _≤_, _<_}
 use mathlib.Core.Path.{_≡_}
 use mathlib.Core.Logic.{_≢_}
@@ -118,7 +118,7 @@ unfolding fetchedLanes
 fetched-room c x y t at f room =
     rw (f, entries-same c x (registerAt c t (getD c (at + 2) 0)) _ (λ r h e. omega arith)) room
 
-pub counted-room : (c x : List ℕ) (t : ℕ) → t < threadsIn c → RoomForOne c x → RoomForOne c (counted x t)
+counted-room : (c x : List ℕ) (t : ℕ) → t < threadsIn c → RoomForOne c x → RoomForOne c (counted x t)
 unfolding counted
 counted-room c x t h room = rw (entries-same c x t (getD x t 0 + 1) (λ r k e. omega arith)) room
 

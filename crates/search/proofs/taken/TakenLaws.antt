@@ -1,5 +1,5 @@
--- Laws of a step's choices, one for each way of the code: what a compare, a persist and a step come to. Assumes
--- nothing.
+-- Laws of a step's choices, one for each way of the code: what a compare, a persist and a step come to.
+-- Assumes nothing.
 use Prim.Native.Nat.{ℕ, _+_, _≤_, _<_}
 use mathlib.Core.Path.{_≡_, refl}
 use mathlib.Core.Logic.{_≢_, ⊎-elim}

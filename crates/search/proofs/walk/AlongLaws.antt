@@ -1,7 +1,8 @@
--- A machine that goes along with another, state for state, has the same walk: the same runs, each ending in the state
--- that goes along with the other's end. Assumes nothing.
+-- A machine that goes along with another, state for state, has the same walk: the same runs, each ending in the
+-- state that goes along with the other's end.
 --   endsAlong f v   the run of v, ending in what f makes of its end
 --   Along           f leads from the states of one machine to those of the other
+-- Assumes nothing.
 use Prim.Native.Nat.{ℕ, zero, suc}
 use mathlib.Core.Path.{_≡_, refl, sym, ap, subst, _∙_}
 use mathlib.Core.Logic.{inl, inr}
@@ -22,6 +23,7 @@ pub record Along {S T K : Type 0} (m : Machine S K) (w : Machine T K) (f : S →
 abbrev pub endsAlong : {S T K : Type 0} → (S → T) → Visit S K → Visit T K
 endsAlong f v = record { run = v .run; end = f (v .end) }
 
+-- behind a step, too, each ends along
 map-under : {S T K : Type 0} (f : S → T) (k : K) (vs : List (Visit S K))
     → map (under k) (map (endsAlong f) vs) ≡ map (endsAlong f) (map (under k) vs)
 map-under f k [] = refl
@@ -46,6 +48,7 @@ module _ {S T K : Type 0} {m : Machine S K} {w : Machine T K} {f : S → T} {Goo
       (starting-along n s g below ks (λ j h. on j (inr h)))
       ∙ sym (map-append (endsAlong f) (map (under k) (walk m n (m .after s k))) (starting m (walk m n) s ks))
 
+  -- the whole walk
   pub walk-along : (n : ℕ) (s : S) → Good s → walk w n (f s) ≡ map (endsAlong f) (walk m n s)
   unfolding walk
   walk-along zero s g = refl

@@ -1,5 +1,5 @@
--- Lanes that the code holds: what its functions may ask of them, and that a next step leads to such lanes again.
--- Assumes nothing.
+-- Lanes that the code holds: what its functions may ask of them, and that a next step leads to such lanes
+-- again. Assumes nothing.
 use Prim.Native.Nat.{ℕ, suc, _+_, _*_, _-_, _≤_, _<_}
 use mathlib.Core.Path.{_≡_, sym, ap, subst, _∙_}
 use mathlib.Core.Logic.{_≢_}
@@ -35,6 +35,7 @@ Walks c wanted want passed x depth =
     Walking (lanesMachine c) (mostWork - depth) (reachesLanes c wanted want passed) x
 
 module _ {c x : List ℕ} {depth room : ℕ} (h : Held c x depth room) where
+  -- they are the lanes of a state that fits, of a program that does
   laid-is : x ≡ laidOf (h .program) (h .state)
   laid-is = h .laid ∙ ap padded (sym (lay-of (h .program) (h .state)))
 
@@ -44,6 +45,7 @@ module _ {c x : List ℕ} {depth room : ℕ} (h : Held c x depth room) where
   pub held-few : FewEntries c x
   held-few = rw (h .listed, laid-is) (few-lanes (h .program) (h .state) (h .fits) (h .few))
 
+  -- their next steps are the state's
   legal-held : legalLanes c x ≡ legalSteps (ptso (h .program)) (h .state)
   legal-held = rw (h .listed, laid-is) (legal-is (h .program) (h .state) (h .fits))
 
@@ -60,6 +62,7 @@ module _ {c x : List ℕ} {depth room : ℕ} (h : Held c x depth room) where
 
   -- a next step
   module _ (k : Step) (on : Listed k (legalLanes c x)) where
+    -- it is legal; it leaves less to do
     legal : (stepFault (limitsOf (h .program)) k ≡ 0) × (ruleOf (h .program) (h .state) k ≡ 0)
     legal = legal-listed (h .program) (h .fits .program) (h .state) k (subst (Listed k) legal-held on)
 
@@ -68,6 +71,7 @@ module _ {c x : List ℕ} {depth room : ℕ} (h : Held c x depth room) where
         step-lowers (ptso (h .program)) (ptso-lawful (h .program) (h .fits .program)) (h .state) (h .fits) k
         (legal .0) (legal .1)
 
+    -- it is what the code asks of a step; the walk is not as deep as it may be
     pub held-takes : Takes c x k
     held-takes =
         rw (h .listed, laid-is) (step-takes (h .program) (h .state) (h .fits) (h .few) k (legal .0) (legal .1))
@@ -79,6 +83,7 @@ module _ {c x : List ℕ} {depth room : ℕ} (h : Held c x depth room) where
     pub held-below : suc (mostWork - (depth + 1)) ≡ mostWork - depth
     held-below = let d = held-deep in omega arith
 
+    -- the run has room for it; the lanes that it leads to are held again
     pub held-room : stepSize * depth + stepSize ≤ room
     held-room = let w = less in let r = h .roomy in omega arith
 

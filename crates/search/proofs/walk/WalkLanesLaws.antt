@@ -1,5 +1,5 @@
--- The walk over lanes is the machine's walk: the same runs in the same order, each ending in the lanes of the state
--- where the other ends. Assumes nothing.
+-- The walk over lanes is the machine's walk: the same runs in the same order, each ending in the lanes of the
+-- state where the other ends. Assumes nothing.
 use Prim.Native.Nat.{ℕ, suc, _≤_}
 use mathlib.Core.Path.{_≡_, sym, ap, _∙_}
 use mathlib.Core.List.{map}
@@ -35,6 +35,7 @@ module _ (p : Program) (fits : ProgramFits p) where
   abbrev Good : State → Type 0
   Good s = Fits p s × (together p s ≤ allCode)
 
+  -- the machine over lanes goes along with the machine
   lanes-along : Along (machineOf (ptso p)) (lanesMachine (listingOf p)) (laidOf p) Good
   lanes-along =
       record {
@@ -45,6 +46,7 @@ module _ (p : Program) (fits : ProgramFits p) where
         after = λ s g k on. let l = legal-listed p fits s k on in step-lanes p s (g .0) (g .1) k (l .0) (l .1);
       }
 
+  -- so does its walk
   pub walk-lanes : (n : ℕ) (s : State) → Fits p s → together p s ≤ allCode
       → walk (lanesMachine (listingOf p)) n (laidOf p s) ≡ map (endsAlong (laidOf p)) (walk (machineOf (ptso p)) n s)
   walk-lanes n s f few = walk-along lanes-along n s (f, few)
