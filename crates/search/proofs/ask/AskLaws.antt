@@ -86,6 +86,14 @@ module _ (p : Program) (fits : ProgramFits p) (a : Ask) (b : ℕ) where
     unfolding fullLength
     full-is = sym (w-is ∙ ap (work p) s-is)
 
+    -- what is sought over the lanes x of the listing c, and what the walk leaves there
+    abbrev soughtOver : List ℕ → List ℕ → Sought Step
+    soughtOver c x =
+        seek (reachesLanes c (a .wanted) (a .want) (a .passed)) b (walk (lanesMachine c) (suc (mostWork - 0)) x)
+
+    abbrev LeavesOver : List ℕ → List ℕ → Walked → List ℕ → Type 0
+    LeavesOver c x r last = (r ≡ walkedOf 0 (soughtOver c x)) × (last ≡ storedOf 0 (soughtOver c x) out)
+
     -- the walk may begin with the start's lanes, and what it leaves over lanes is what it leaves over states
     module _ (within : AskWithin p a) (c x : List ℕ) (c-is : c ≡ listingOf p)
         (x-is : x ≡ padded (lanesOf p (startOf p))) where
@@ -107,9 +115,7 @@ module _ (p : Program) (fits : ProgramFits p) (a : Ask) (b : ℕ) where
             roomy = omega arith;
           }
 
-      same-sought : seek (reachesLanes c (a .wanted) (a .want) (a .passed)) b
-          (walk (lanesMachine c) (suc (mostWork - 0)) x)
-          ≡ seek (reaches a) b (walkOf (ptso p) s)
+      same-sought : soughtOver c x ≡ seek (reaches a) b (walkOf (ptso p) s)
       unfolding fullLength
       same-sought =
           let begun = start-together p fits in
@@ -117,11 +123,7 @@ module _ (p : Program) (fits : ProgramFits p) (a : Ask) (b : ℕ) where
           rw (c-is, x-is, s-is)
           (seek-lanes p fits a within (startOf p) (start-fits p fits) (omega arith) (full-length-most p fits) b)
 
-      pub ask-walked : (r : Walked) (last : List ℕ)
-          → (r ≡ walkedOf 0 (seek (reachesLanes c (a .wanted) (a .want) (a .passed)) b
-          (walk (lanesMachine c) (suc (mostWork - 0)) x)))
-          × (last ≡ storedOf 0 (seek (reachesLanes c (a .wanted) (a .want) (a .passed)) b
-          (walk (lanesMachine c) (suc (mostWork - 0)) x)) out)
+      ask-walked : (r : Walked) (last : List ℕ) → LeavesOver c x r last
           → (r ≡ walkedOf 0 (seek (reaches a) b (walkOf (ptso p) s)))
           × (last ≡ storedOf 0 (seek (reaches a) b (walkOf (ptso p) s)) out)
       ask-walked r last left =
@@ -138,11 +140,13 @@ module _ (p : Program) (fits : ProgramFits p) (a : Ask) (b : ℕ) where
         (sym (pick-true _ _ _ t), sym (pick-true _ _ _ t))
 
     -- it is not: what the walk leaves
-    module _ (h : stepSize * w ≤ length out) (r : Walked) (last : List ℕ)
-        (left : (r ≡ walkedOf 0 (seek (reaches a) b (walkOf (ptso p) s)))
-        × (last ≡ storedOf 0 (seek (reaches a) b (walkOf (ptso p) s)) out)) where
+    module _ (h : stepSize * w ≤ length out) (within : AskWithin p a) (c x : List ℕ) (c-is : c ≡ listingOf p)
+        (x-is : x ≡ padded (lanesOf p (startOf p))) (r : Walked) (last : List ℕ) (over : LeavesOver c x r last) where
       abbrev sought : Sought Step
       sought = seek (reaches a) b (walkOf (ptso p) s)
+
+      left : (r ≡ walkedOf 0 sought) × (last ≡ storedOf 0 sought out)
+      left = ask-walked within c x c-is x-is r last over
 
       abbrev Answers : Outcome → Type 0
       Answers o = (o ≡ answerFor (ptso p) (reaches a) (length out) b)

@@ -32,10 +32,11 @@ use Rattle.search.specs.Lanes.{entryLanes}
 use Rattle.search.specs.Lanes.{registerLane}
 use Rattle.search.specs.Listing.{threadsIn, codeAt, listingOf}
 use Rattle.search.specs.Rows.{rowsIn, queueRow, queuedLane, loadedLane}
-use Rattle.search.specs.Taken.{padded, counted, entryTag, entryWord, awaitedLanes, tookLanes, fetchedLanes}
-use Rattle.search.specs.Taken.{exchangedLanes, comparedLanes, performedLanes, issueLanes}
+use Rattle.search.specs.Taken.{padded, counted, entryTag, entryWord, awaitedLanes, tookLanes}
+use Rattle.search.specs.Taken.{fetchedLanes, exchangedLanes, comparedLanes, performedLanes, issueLanes}
 use Rattle.search.proofs.listing.ListingLaws.{listing-threads, listing-line, listing-operation}
-use Rattle.search.proofs.listing.ListingLaws.{listing-location, listing-register, listing-word, listing-fits}
+use Rattle.search.proofs.listing.ListingLaws.{listing-location, listing-register, listing-word}
+use Rattle.search.proofs.listing.ListingLaws.{listing-fits}
 use Rattle.search.proofs.lanes.SeenLaws.{Seen, lay, withRegister, withJoined}
 use Rattle.search.proofs.lanes.LayLaws.{see-issued, see-register, set-issued, set-register}
 use Rattle.search.proofs.lanes.LayRowLaws.{row-joined}
@@ -44,8 +45,8 @@ use Rattle.search.proofs.lanes.LookLanesLaws.{laidOf, row-there, queue-
 use Rattle.search.proofs.lanes.SameLanesLaws.{queued-kept}
 use Rattle.search.proofs.lanes.SameLanesLaws.{loaded-kept}
 use Rattle.machine.proofs.lists.SumLaws.{sum-part}
-use Rattle.search.proofs.lanes.IssueViewLaws.{Issues, issuedSeen, even-counted, issues-none, issues-register}
-use Rattle.search.proofs.lanes.IssueViewLaws.{issues-await, issues-enqueue, issues-same}
+use Rattle.search.proofs.lanes.IssueViewLaws.{Issues, issuedSeen, even-counted, issues-none}
+use Rattle.search.proofs.lanes.IssueViewLaws.{issues-register, issues-await, issues-enqueue, issues-same}
 
 module _ (p : Program) (s : State) (fit : Fits p s) (t : ℕ) (low : t < p .threads) where
   abbrev c : List ℕ

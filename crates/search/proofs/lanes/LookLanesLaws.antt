@@ -18,7 +18,8 @@ use Rattle.machine.specs.declared.cells.State.{State}
 use Rattle.machine.specs.declared.cells.Waiting.{Waiting}
 use Rattle.machine.specs.declared.cells.Entry.{Entry}
 use Rattle.machine.specs.declared.cells.Entry.the-variants.{Store, Flush, FlushOpt, Sfence}
-use Rattle.machine.specs.View.{Slot, lineOf, queue, queueLen, buffer, bufferLen, wordOf, blankWaiting, writeSlot}
+use Rattle.machine.specs.View.{Slot, lineOf, queue, queueLen, buffer, bufferLen, wordOf, blankWaiting}
+use Rattle.machine.specs.View.{writeSlot}
 use Rattle.machine.specs.Look.{wordOr, newestWrite, storedOr, newestStore, queuedWord, loadOf}
 use Rattle.machine.specs.Rules.{entryAt}
 use Rattle.machine.specs.Fit.{Fits, Named, NamedBy}
@@ -27,7 +28,8 @@ use Rattle.machine.proofs.Promises.{buffer-long, queue-long, few-lines, line-th
 use Rattle.search.specs.Sizes.{flushTag, flushOptTag, sfenceTag}
 use Rattle.search.specs.Lanes.{spread, entryLanes, waitingLanes, slotLanes, bufferLanes, queueLanes}
 use Rattle.search.specs.Listing.{listingOf}
-use Rattle.search.specs.Rows.{rowsIn, queueRow, wordAt, rowLen, rowStart, newestLane, queuedLane, loadedLane}
+use Rattle.search.specs.Rows.{rowsIn, queueRow, wordAt, rowLen, rowStart, newestLane, queuedLane}
+use Rattle.search.specs.Rows.{loadedLane}
 use Rattle.search.specs.Taken.{padded}
 use Rattle.search.proofs.listing.ListingLaws.{listing-line, listing-threads, listing-lines}
 use Rattle.search.proofs.listing.ListingLaws.{listing-locations}

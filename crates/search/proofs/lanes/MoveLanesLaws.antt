@@ -24,8 +24,8 @@ use Rattle.machine.specs.Joins.{enters}
 use Rattle.machine.specs.Fit.{together, Named, Fits}
 use Rattle.machine.specs.Next.{moveStep}
 use Rattle.machine.proofs.Promises.{buffer-long, few-lines, line-there}
-use Rattle.machine.proofs.Effects.{move-within, move-issued, move-buffer, move-buffer-other, move-queue, move-word}
-use Rattle.machine.proofs.Effects.{move-registers}
+use Rattle.machine.proofs.Effects.{move-within, move-issued, move-buffer, move-buffer-other, move-queue}
+use Rattle.machine.proofs.Effects.{move-word, move-registers}
 use Rattle.search.specs.Sizes.{flushTag, flushOptTag, sfenceTag}
 use Rattle.search.specs.Lanes.{spread, entryLanes, waitingLanes, slotLanes, bufferLanes, queueLanes}
 use Rattle.search.specs.Lanes.{registerLane}
@@ -190,4 +190,5 @@ move-lanes p s fit few t i low legal after =
     ∙ get-spread waitingLanes waiting-two (buffer s t) i 1 blankWaiting within (omega arith) in
     let named = named-there p s fit t low i within in
     let done = moved p s fit t i low within few (entryAt (buffer s t) i) named word in
-    rw (see-tag p s fit t low i within) (done .1 ∙ ap padded (moves-same p s fit t i low legal after (done .0) (done .2)))
+    rw (see-tag p s fit t low i within)
+    (done .1 ∙ ap padded (moves-same p s fit t i low legal after (done .0) (done .2)))

@@ -29,7 +29,8 @@ use Rattle.search.specs.Rows.{rowLen}
 use Rattle.search.specs.Barred.{issueBarred, moveBarred, persistBarred, freeFrom, freeMoves, legalLanes}
 use Rattle.search.proofs.listing.ListingLaws.{listing-threads, listing-lines}
 use Rattle.search.proofs.lanes.LookLanesLaws.{laidOf, see-buffer-long}
-use Rattle.search.proofs.lanes.RuleLanesLaws.{broken, issue-barred, move-barred, move-beyond, persist-barred}
+use Rattle.search.proofs.lanes.RuleLanesLaws.{broken, issue-barred, move-barred, move-beyond}
+use Rattle.search.proofs.lanes.RuleLanesLaws.{persist-barred}
 
 -- allowed: of two lists; of steps that all break a rule; of steps of which each is barred where it breaks one, and
 -- the d behind them all break one

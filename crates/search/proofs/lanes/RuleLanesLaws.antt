@@ -36,7 +36,8 @@ use Rattle.search.specs.Listing.{lineIn, codeAt, listingOf}
 use Rattle.search.specs.Rows.{rowStart}
 use Rattle.search.specs.Barred.{barsTag, barsAt, operationBarred, issueBarred, headBarred, passBarred}
 use Rattle.search.specs.Barred.{entryBarred, moveBarred, persistBarred}
-use Rattle.search.proofs.listing.ListingLaws.{listing-threads, listing-count, listing-line, listing-operation}
+use Rattle.search.proofs.listing.ListingLaws.{listing-threads, listing-count, listing-line}
+use Rattle.search.proofs.listing.ListingLaws.{listing-operation}
 use Rattle.search.proofs.lanes.GeneralLaws.{any-numbered}
 use Rattle.search.proofs.lanes.TagLaws.{tag-sfence, tag-flush-opt, tag-flush, tag-store}
 use Rattle.search.proofs.lanes.LayLaws.{see-issued}
@@ -183,7 +184,8 @@ module _ (p : Program) (s : State) (fit : Fits p s) where
         ∙ any-numbered (barsAt c q x (rowStart c x t)) (barring p q) (take i (buffer s t)) blankWaiting 0
         (λ j l.
         ap (barsAt c q x (rowStart c x t)) (zero-add j)
-        ∙ ap (barsTag c q) (see-tag p s fit t low j (omega arith)) ∙ bars-is q (entryAt (buffer s t) j) (named-there p s fit t low j (omega arith))
+        ∙ ap (barsTag c q) (see-tag p s fit t low j (omega arith))
+        ∙ bars-is q (entryAt (buffer s t) j) (named-there p s fit t low j (omega arith))
         ∙ ap (barring p q) (sym (getD-take i (buffer s t) j blankWaiting (omega arith))))
         ∙ any-first p q (take i (buffer s t))
         ∙ ap (ltb (firstBar p q (take i (buffer s t)))) n

@@ -20,7 +20,8 @@ use Rattle.machine.proofs.lists.PartLaws.{lt-or-ge}
 use Rattle.machine.proofs.lists.SumLaws.{sum-same}
 use Rattle.search.specs.Lanes.{spread, slotLanes, bufferLanes, queueLanes, registerLane}
 use Rattle.search.specs.Listing.{threadsIn, lineIn, listingOf}
-use Rattle.search.specs.Rows.{rowsIn, queueRow, wordAt, rowLen, rowStart, newestLane, queuedLane, loadedLane}
+use Rattle.search.specs.Rows.{rowsIn, queueRow, wordAt, rowLen, rowStart, newestLane, queuedLane}
+use Rattle.search.specs.Rows.{loadedLane}
 use Rattle.search.proofs.listing.ListingLaws.{listing-threads, listing-lines, listing-locations}
 use Rattle.search.proofs.lanes.SeenLaws.{Seen, Even, changed, lay, withJoined}
 use Rattle.search.proofs.lanes.JoinLaws.{changed-same, changed-other}

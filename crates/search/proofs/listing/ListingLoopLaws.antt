@@ -125,7 +125,14 @@ module _ (p : Program) (fits : ProgramFits p) where
       let m : countsAt + length (p .counts) ≡ linesAt = omega arith in
       let n : linesAt + length (p .line) ≡ codesAt = omega arith in
       h
-      ∙ rw (g, f, ← n, ← sets-append (sets start countsAt (p .counts)) linesAt (p .line) codes, ← m, ← sets-append start countsAt (p .counts) (p .line ++ codes))
+      ∙ rw (
+        g,
+        f,
+        ← n,
+        ← sets-append (sets start countsAt (p .counts)) linesAt (p .line) codes,
+        ← m,
+        ← sets-append start countsAt (p .counts) (p .line ++ codes),
+      )
       (listing-all blank e)
 
   pub listing-made : (first second third : List ℕ)

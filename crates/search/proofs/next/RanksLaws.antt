@@ -30,8 +30,8 @@ use Rattle.machine.proofs.Effects.{step-kinds, move-within}
 use Rattle.search.specs.declared.next.Ranks.{Ranks}
 use Rattle.search.specs.Listing.{threadsIn, linesIn}
 use Rattle.search.specs.Rows.{rowLen}
-use Rattle.search.specs.Barred.{issueBarred, moveBarred, persistBarred, freeFrom, freeMoves}
-use Rattle.search.specs.Barred.{legalLanes, stepAt, nextWith, pushed, offered, offeredFrom, offeredMoves, nextLanes}
+use Rattle.search.specs.Barred.{issueBarred, moveBarred, persistBarred, freeFrom, freeMoves, legalLanes}
+use Rattle.search.specs.Barred.{stepAt, nextWith, pushed, offered, offeredFrom, offeredMoves, nextLanes}
 use Rattle.search.proofs.lanes.GeneralLaws.{listed-get}
 use Rattle.search.proofs.lanes.NextLanesLaws.{legal-listed}
 use Rattle.search.proofs.lanes.StepLanesLaws.{Kinds}

@@ -24,7 +24,8 @@ use Rattle.machine.specs.View.{bufferLen, queueLen}
 use Rattle.machine.proofs.lists.PartLaws.{lt-or-ge}
 use Rattle.machine.proofs.Effects.{start-buffer, start-queue, start-issued, start-word}
 use Rattle.search.specs.Sizes.{mostLanes}
-use Rattle.search.specs.Lanes.{joinTo, each, single, spread, bufferLanes, queueLanes, registerLane, lanesOf}
+use Rattle.search.specs.Lanes.{joinTo, each, single, spread, bufferLanes, queueLanes, registerLane}
+use Rattle.search.specs.Lanes.{lanesOf}
 use Rattle.search.specs.Listing.{threadsIn, locationsIn, listingOf, ListingFits}
 use Rattle.search.specs.Rows.{rowsIn, wordAt, poolAt}
 use Rattle.search.specs.Taken.{padded}

@@ -12,8 +12,8 @@ use Rattle.cases.specs.Operations.{issue, move}
 use Rattle.cases.proofs.ChoiceLaws.{pick-here, pick-next, otherwise}
 use Rattle.search.specs.Listing.{threadsIn, linesIn, locationsIn, countIn}
 use Rattle.search.specs.Rows.{queueRow, wordAt, registerAt, rowLen, rowStart, RoomForOne, queuedLane}
-use Rattle.search.specs.Taken.{rowLeft, exchangedLanes, fetchedLanes, comparedLanes, settledLane, persistLanes}
-use Rattle.search.specs.Taken.{Takes}
+use Rattle.search.specs.Taken.{rowLeft, exchangedLanes, fetchedLanes, comparedLanes, settledLane}
+use Rattle.search.specs.Taken.{persistLanes, Takes}
 
 -- comparedLanes: the word read is the register's; it is not
 module _ (c x : List ℕ) (t at word r : ℕ) (e : word ≡ queuedLane c x (getD c (at + 1) 0))

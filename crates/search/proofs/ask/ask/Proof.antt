@@ -1,6 +1,6 @@
 -- `ask` meets its contract. Assumes nothing.
-use Rattle.search.proofs.ask.AskLaws.{ask-start-fits, ask-start-few, ask-short, ask-held, ask-walked}
-use Rattle.search.proofs.ask.AskLaws.{ask-found, ask-finished, ask-stopped}
+use Rattle.search.proofs.ask.AskLaws.{ask-start-fits, ask-start-few, ask-short, ask-held, ask-found}
+use Rattle.search.proofs.ask.AskLaws.{ask-finished, ask-stopped}
 use borrow.Author.Needs.{needs}
 use Rattle.search.proofs.ask.ask.Statement.{statement}
 use Rattle.search.proofs.ask.ask.Tie as tie
@@ -32,13 +32,15 @@ start-lanes-requires c κs = search needs
 
 walk-requires : tie.Need-walk-requires
 walk-requires c κs =
-    let i = c .before .before .before .before .before .before .before .before .before in
+    let x = c .before .before .before .before .before .before in
+    let l = x .before .before in
+    let i = l .before in
     let w = i .before in
     let s = w .before in
     let g = s .before .before .pre in
     let a = s .before .before .args in
     ask-held _ (g .0) _ (a .budget) _ (s .start-of .ensures) _ (w .work-in .ensures) (a .run .now) (g .1) _ _
-    (c .before .before .before .before .before .before .before .before .listing .ensures) (c .before .before .before .before .before .before .start-lanes .ensures) (i .if1 .left)
+    (l .listing .ensures) (x .start-lanes .ensures) (i .if1 .left)
 
 enum-known-count : tie.Need-enum-known-count
 enum-known-count c = search needs
@@ -55,14 +57,14 @@ same-length c = search needs
 returns-2 : tie.Need-returns-2
 returns-2 c =
     let v = c .before .before .before .before .before .before in
-    let i = v .before .before .before .before .before .before .before .before .before in
+    let x = v .before .before .before .before .before .before in
+    let l = x .before .before in
+    let i = l .before in
     let w = i .before in
     let s = w .before in
     let g = s .before .before .pre in
-    ask-found _ (g .0) _ _ _ (s .start-of .ensures) _ (w .work-in .ensures) _ (i .if1 .left) _ _
-    (ask-walked _ (g .0) _ _ _ (s .start-of .ensures) _ (w .work-in .ensures) _ (g .1) _ _
-    (v .before .before .before .before .before .before .before .before .listing .ensures) (v .before .before .before .before .before .before .start-lanes .ensures) _ _ (c .before .before .before .before .before .walk .ensures))
-    _ (c .before .count .given .1)
+    ask-found _ (g .0) _ _ _ (s .start-of .ensures) _ (w .work-in .ensures) _ (i .if1 .left) (g .1) _ _
+    (l .listing .ensures) (x .start-lanes .ensures) _ _ (c .before .before .before .before .before .walk .ensures) _ (c .before .count .given .1)
 
 same-length-2 : tie.Need-same-length-2
 same-length-2 c = search needs
@@ -70,14 +72,14 @@ same-length-2 c = search needs
 returns-3 : tie.Need-returns-3
 returns-3 c =
     let v = c .before .before .before .before .before in
-    let i = v .before .before .before .before .before .before .before .before .before in
+    let x = v .before .before .before .before .before .before in
+    let l = x .before .before in
+    let i = l .before in
     let w = i .before in
     let s = w .before in
     let g = s .before .before .pre in
-    ask-finished _ (g .0) _ _ _ (s .start-of .ensures) _ (w .work-in .ensures) _ (i .if1 .left) _ _
-    (ask-walked _ (g .0) _ _ _ (s .start-of .ensures) _ (w .work-in .ensures) _ (g .1) _ _
-    (v .before .before .before .before .before .before .before .before .listing .ensures) (v .before .before .before .before .before .before .start-lanes .ensures) _ _ (c .before .before .before .before .walk .ensures))
-    _ (c .enum-told .given .1)
+    ask-finished _ (g .0) _ _ _ (s .start-of .ensures) _ (w .work-in .ensures) _ (i .if1 .left) (g .1) _ _
+    (l .listing .ensures) (x .start-lanes .ensures) _ _ (c .before .before .before .before .walk .ensures) _ (c .enum-told .given .1)
 
 same-length-3 : tie.Need-same-length-3
 same-length-3 c = search needs
@@ -85,14 +87,14 @@ same-length-3 c = search needs
 returns-4 : tie.Need-returns-4
 returns-4 c =
     let v = c .before .before .before .before .before in
-    let i = v .before .before .before .before .before .before .before .before .before in
+    let x = v .before .before .before .before .before .before in
+    let l = x .before .before in
+    let i = l .before in
     let w = i .before in
     let s = w .before in
     let g = s .before .before .pre in
-    ask-stopped _ (g .0) _ _ _ (s .start-of .ensures) _ (w .work-in .ensures) _ (i .if1 .left) _ _
-    (ask-walked _ (g .0) _ _ _ (s .start-of .ensures) _ (w .work-in .ensures) _ (g .1) _ _
-    (v .before .before .before .before .before .before .before .before .listing .ensures) (v .before .before .before .before .before .before .start-lanes .ensures) _ _ (c .before .before .before .before .walk .ensures))
-    (c .enum-told2 .given .1)
+    ask-stopped _ (g .0) _ _ _ (s .start-of .ensures) _ (w .work-in .ensures) _ (i .if1 .left) (g .1) _ _
+    (l .listing .ensures) (x .start-lanes .ensures) _ _ (c .before .before .before .before .walk .ensures) (c .enum-told2 .given .1)
 
 pub ask-spec : {M : Type 1} → statement M
 ask-spec =

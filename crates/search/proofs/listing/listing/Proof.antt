@@ -33,8 +33,9 @@ put-code-requires c κs = search needs
 
 returns : tie.Need-returns
 returns c =
-    let g = c .before .before .before .before .before .before .before .before .before .before .before .before .before .pre in
-    listing-made _ g _ _ _ (c .before .before .before .before .before .before .before .before .put-numbers .ensures)
+    let i = c .before .before .before .before .before .before .before .before in
+    let g = i .before .before .before .before .before .pre in
+    listing-made _ g _ _ _ (i .put-numbers .ensures)
     (c .before .before .before .put-numbers2 .ensures) (c .put-code .ensures)
 
 pub listing-spec : {M : Type 1} → statement M

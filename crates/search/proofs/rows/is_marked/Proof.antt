@@ -3,8 +3,9 @@ use Prim.Native.Nat.{_-_}
 use mathlib.Core.Path.{refl}
 use native.Mathlib.Omega.{arith}
 use Rattle.search.proofs.rows.MarkedLoopLaws.{MarkedRowsSoFar, MarkedEntriesSoFar, marked-rows-start}
-use Rattle.search.proofs.rows.MarkedLoopLaws.{marked-rows-next, marked-entries-start, marked-entries-next}
-use Rattle.search.proofs.rows.MarkedLoopLaws.{marked-within, marked-here, marked-end}
+use Rattle.search.proofs.rows.MarkedLoopLaws.{marked-rows-next, marked-entries-start}
+use Rattle.search.proofs.rows.MarkedLoopLaws.{marked-entries-next, marked-within, marked-here}
+use Rattle.search.proofs.rows.MarkedLoopLaws.{marked-end}
 use borrow.Author.Needs.{needs}
 use Rattle.search.proofs.rows.is_marked.Statement.{statement}
 use Rattle.search.proofs.rows.is_marked.Tie as tie

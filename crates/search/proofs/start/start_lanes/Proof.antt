@@ -30,10 +30,14 @@ word-at-requires : tie.Need-word-at-requires Inv-loop μ-loop
 word-at-requires c κs = start-listed (c .before .before .loop .inv)
 
 mul-x-2 : tie.Need-mul-x-2 Inv-loop μ-loop
-mul-x-2 c = let w = start-low (c .before .before .before .loop .inv) (omega arith) _ (c .word-at .ensures) in omega arith
+mul-x-2 c =
+    let w = start-low (c .before .before .before .loop .inv) (omega arith) _ (c .word-at .ensures) in
+    omega arith
 
 array-write-x : tie.Need-array-write-x Inv-loop μ-loop
-array-write-x c = let w = start-low (c .before .before .before .loop .inv) (omega arith) _ (c .word-at .ensures) in omega arith
+array-write-x c =
+    let w = start-low (c .before .before .before .loop .inv) (omega arith) _ (c .word-at .ensures) in
+    omega arith
 
 add-l : tie.Need-add-l Inv-loop μ-loop
 add-l c = search needs

@@ -8,8 +8,8 @@ use Rattle.search.specs.Held.{Held}
 use Rattle.search.proofs.walk.WalkLoopLaws.{left-used-up, left-here, walking-end}
 use Rattle.search.proofs.walk.WalkTurnLaws.{turn-listed, turn-length, turn-put, turn-found, turn-stopped}
 use Rattle.search.proofs.walk.WalkTurnLaws.{turn-finished}
-use Rattle.search.proofs.walk.WalkHeldLaws.{Walks, walks-start, held-fits, held-few, held-takes, held-deep}
-use Rattle.search.proofs.walk.WalkHeldLaws.{held-room, held-next, held-below}
+use Rattle.search.proofs.walk.WalkHeldLaws.{Walks, walks-start, held-fits, held-few, held-takes}
+use Rattle.search.proofs.walk.WalkHeldLaws.{held-deep, held-room, held-next, held-below}
 use borrow.Author.Needs.{needs}
 use borrow.Fn.Kinds.{In}
 use borrow.Fn.PlainCycle.{Measures, is, falls, and}
@@ -129,7 +129,8 @@ walk-walk-requires t c κs =
     let l = c .before .before .before .before .before .loop in
     let on = turn-listed (l .inv .1) (omega arith) _ (c .before .before .step-at .ensures) in
     let d = held-deep (l .inv .0) _ on in
-    let m = c .before .before .before .before .before .before .before .before .before .before .before .before .before .pre .0 in
+    let b = c .before .before .before .before .before .before in
+    let m = b .before .before .before .before .before .before .before .pre .0 in
     (omega arith, held-next (l .inv .0) _ on _ (c .before .taken .ensures))
 
 walk-enum-known-below : (t : ℕ)
@@ -139,7 +140,8 @@ walk-enum-known-below t c = search needs
 walk-mul-put-step : (t : ℕ)
     → walk-lts.Need-mul-put-step (calls t) (walk-at t) walk.Post walk-Inv-loop walk-μ-loop
 walk-mul-put-step t c =
-    let d = c .before .before .before .before .before .before .before .before .before .before .before .before .loop .inv .0 .deep in
+    let w = c .before .before .before .before .before .before in
+    let d = w .before .before .before .before .before .before .loop .inv .0 .deep in
     search needs
 
 walk-put-step-requires : (t : ℕ)
@@ -164,7 +166,8 @@ walk-same-length t c =
     let l = w .before .before .before .before .before .before .loop in
     let on = turn-listed (l .inv .1) (omega arith) _ k in
     let n = held-below (l .inv .0) _ on in
-    let e = turn-put (l .inv .1) (omega arith) _ k _ z _ n _ _ _ (w .walk .ensures) _ _ (c .before .before .put-step .ensures) in
+    let p = c .before .before .put-step .ensures in
+    let e = turn-put (l .inv .1) (omega arith) _ k _ z _ n _ _ _ (w .walk .ensures) _ _ p in
     search needs
 
 walk-returns-3 : (t : ℕ)
@@ -176,7 +179,8 @@ walk-returns-3 t c =
     let l = w .before .before .before .before .before .before .loop in
     let on = turn-listed (l .inv .1) (omega arith) _ k in
     let n = held-below (l .inv .0) _ on in
-    let x = turn-found (l .inv .1) (omega arith) _ k _ z _ n _ _ _ (w .walk .ensures) _ (c .before .before .before .before .before .below .given .1) in
+    let f = c .before .before .before .before .before .below .given .1 in
+    let x = turn-found (l .inv .1) (omega arith) _ k _ z _ n _ _ _ (w .walk .ensures) _ f in
     (x .told, c .before .before .put-step .ensures ∙ x .stored)
 
 walk-enum-known-below-2 : (t : ℕ)
@@ -215,7 +219,8 @@ walk-returns-4 t c =
 walk-add-i : (t : ℕ)
     → walk-lts.Need-add-i (calls t) (walk-at t) walk.Post walk-Inv-loop walk-μ-loop
 walk-add-i t c =
-    let few = c .before .before .before .before .before .before .before .before .before .before .before .loop .inv .1 .list .few in
+    let w = c .before .before .before .before .before in
+    let few = w .before .before .before .before .before .before .loop .inv .1 .list .few in
     omega arith
 
 walk-loop-less : (t : ℕ)
@@ -232,7 +237,8 @@ walk-loop-again t c =
     let on = turn-listed (l .inv .1) (omega arith) _ k in
     let n = held-below (l .inv .0) _ on in
     let e = turn-length (l .inv .1) (omega arith) _ k _ z _ n _ _ _ (w .walk .ensures) in
-    let o = turn-finished (l .inv .1) (omega arith) _ k _ z _ n _ _ _ (w .walk .ensures) _ (c .before .below2 .given .1) in
+    let r = c .before .below2 .given .1 in
+    let o = turn-finished (l .inv .1) (omega arith) _ k _ z _ n _ _ _ (w .walk .ensures) _ r in
     (rw e (l .inv .0), o)
 
 walk-same-length-3 : (t : ℕ)

@@ -52,7 +52,8 @@ misses-requires c κs = search needs
 returns : tie.Need-returns Inv-loop μ-loop
 returns c =
     any-here (c .before .before .before .before .before .before .before .loop .inv) (omega arith)
-    (missed-told _ _ _ _ _ _ _ _ (c .before .before .before .word-at .ensures) (c .before .misses .ensures) (c .if1 .taken))
+    (missed-told _ _ _ _ _ _ _ _ (c .before .before .before .word-at .ensures) (c .before .misses .ensures)
+    (c .if1 .taken))
 
 add-l : tie.Need-add-l Inv-loop μ-loop
 add-l c = search needs
@@ -63,7 +64,8 @@ loop-less c = search needs
 loop-again : tie.Need-loop-again Inv-loop μ-loop
 loop-again c =
     any-next (c .before .before .before .before .before .before .before .loop .inv) (omega arith)
-    (missed-told _ _ _ _ _ _ _ _ (c .before .before .before .word-at .ensures) (c .before .misses .ensures) (c .if1 .left))
+    (missed-told _ _ _ _ _ _ _ _ (c .before .before .before .word-at .ensures) (c .before .misses .ensures)
+    (c .if1 .left))
 
 returns-2 : tie.Need-returns-2 Inv-loop μ-loop
 returns-2 c = any-end (c .before .loop .inv) (omega arith)

@@ -18,7 +18,8 @@ is-lacking-requires c κs = search needs
 
 returns-2 : tie.Need-returns-2
 returns-2 c =
-    reaches-told _ _ _ _ _ _ _ (c .before .before .is-missed .ensures) (c .before .if1 .left) (c .is-lacking .ensures)
+    reaches-told _ _ _ _ _ _ _ (c .before .before .is-missed .ensures) (c .before .if1 .left)
+    (c .is-lacking .ensures)
 
 pub is-reached-spec : {M : Type 1} → statement M
 is-reached-spec = tie.close (tie.spec is-missed-requires returns is-lacking-requires returns-2)
