@@ -1,7 +1,7 @@
 -- The lanes (specs/Lanes), seen apart from any state, and of a state.
 -- any, sum, listed: over any test, sum or list
 pub mod GeneralLaws
--- Seen, changed, lay, Even, withIssued, withLong, withWord, withRegister, withRow, withJoined, withLeft: views
+-- Seen, changed, lay, Even, withIssued, withLong, withWord, withRegister, withRegisters, withRow, withJoined, withLeft: views
 pub mod SeenLaws
 -- changed, shifted, join, each; length, get, set: what stands one behind the other
 pub mod JoinLaws
@@ -31,6 +31,8 @@ pub mod NextLanesLaws
 pub mod ReachLanesLaws
 -- joined, same, queued, loaded: when a view's lanes are a state's; what a count leaves to the looks
 pub mod SameLanesLaws
+-- SeenWith, seen: a view of a state with changes
+pub mod SeenWithLaws
 -- Issues, issuedSeen, even, issues: what an instruction that is issued makes of a view
 pub mod IssueViewLaws
 -- issue: an issue over the lanes of a state

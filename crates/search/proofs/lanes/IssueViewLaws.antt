@@ -5,7 +5,6 @@
 -- Assumes nothing.
 use Prim.Native.Nat.{ℕ, _+_, _*_, _<_}
 use mathlib.Core.Path.{_≡_, refl, sym, ap, _∙_}
-use mathlib.Core.Logic.{_≢_}
 use mathlib.Core.List.{List, [], _∷_, _++_, append-nil}
 use native.Mathlib.Omega.{arith}
 use native.Mathlib.Decide.{ℕ-discrete}
@@ -15,12 +14,12 @@ use Rattle.cases.specs.declared.case.Instruction.{Instruction}
 use Rattle.cases.specs.declared.case.Program.{Program}
 use Rattle.cases.specs.Choice.{pick}
 use Rattle.cases.specs.Sizes.{mostRegisters}
-use Rattle.cases.specs.Checks.{linesOf, instructionAt, setsRegister}
+use Rattle.cases.specs.Checks.{instructionAt, setsRegister}
 use Rattle.cases.proofs.Promises.{thread-low}
 use Rattle.machine.specs.declared.cells.State.{State}
 use Rattle.machine.specs.declared.cells.Waiting.{Waiting}
 use Rattle.machine.specs.declared.cells.Entry.{Entry}
-use Rattle.machine.specs.View.{Slot, writeSlot, wordOf, issuedOf}
+use Rattle.machine.specs.View.{Slot, writeSlot, issuedOf, buffer}
 use Rattle.machine.specs.Rules.{ruleOf, nextOf}
 use Rattle.machine.specs.Joins.{joins, exchanges, takenBy}
 use Rattle.machine.specs.Fit.{Fits}
@@ -28,26 +27,19 @@ use Rattle.machine.specs.Next.{issueStep}
 use Rattle.machine.proofs.Promises.{few-lines}
 use Rattle.machine.proofs.Effects.{issue-issued, issue-issued-other, issue-buffer, issue-buffer-other}
 use Rattle.machine.proofs.Effects.{issue-queue, issue-word, issue-registers}
-use Rattle.search.specs.Lanes.{spread, entryLanes, waitingLanes, slotLanes, bufferLanes, queueLanes}
-use Rattle.search.specs.Lanes.{registerLane}
+use Rattle.search.specs.Lanes.{spread, entryLanes, waitingLanes, bufferLanes, registerLane}
 use Rattle.search.specs.Listing.{listingOf}
 use Rattle.search.specs.Rows.{queueRow}
 use Rattle.search.proofs.lanes.SeenLaws.{Seen, Even, changed, lay, withIssued, withRegister, withJoined}
+use Rattle.search.proofs.lanes.SeenLaws.{withRegisters}
 use Rattle.search.proofs.lanes.JoinLaws.{changed-same, changed-other, changed-set}
 use Rattle.search.proofs.lanes.EvenLaws.{even-joined}
 use Rattle.search.proofs.lanes.StateLaws.{seenOf, even-of, row-buffer, row-queue}
 use Rattle.search.proofs.lanes.SpreadLaws.{spread-append, entry-pair}
-use Rattle.search.proofs.lanes.SameLanesLaws.{same-lanes, joined-buffer, joined-queue}
+use Rattle.search.proofs.lanes.SeenWithLaws.{SeenWith, seen-joined, seen-same}
 
-pub record Issues (p : Program) (s : State) (t : ℕ) (b : List Waiting) (r : ℕ → List Slot) (registers : List ℕ)
-    (w : Seen) : Type 0 where
-  pub even : Even (listingOf p) w
-  pub issued : (k : ℕ) → w .issued k ≡ changed (issuedOf s) t (issuedOf s t + 1) k
-  pub word : (l : ℕ) → w .word l ≡ wordOf s l
-  pub register : (i : ℕ) → w .register i ≡ getD registers i 0
-  pub own : w .row t ≡ bufferLanes s t ++ spread waitingLanes b
-  pub others : (k : ℕ) → k < p .threads → k ≢ t → w .row k ≡ bufferLanes s k
-  pub queued : (q : ℕ) → q < linesOf p → w .row (p .threads + q) ≡ queueLanes s q ++ spread slotLanes (r q)
+abbrev pub Issues : Program → State → ℕ → List Waiting → (ℕ → List Slot) → List ℕ → Seen → Type 0
+Issues p s t b = SeenWith p s t (changed (issuedOf s) t (issuedOf s t + 1)) (buffer s t ++ b)
 
 abbrev pub issuedSeen : Program → State → ℕ → Seen
 issuedSeen p s t = withIssued (seenOf p s) t (issuedOf s t + 1)
@@ -60,33 +52,31 @@ module _ (p : Program) (s : State) (fit : Fits p s) (t : ℕ) (low : t < p .thre
   pub even-counted : Even c (issuedSeen p s t)
   even-counted = record { twice = even-of p s fit .twice }
 
-  -- nothing else; a register too
-  pub issues-none : Issues p s t [] (λ q. []) (s .registers) (issuedSeen p s t)
-  unfolding spread registerLane
-  issues-none =
+  -- nothing else but the registers; none of them; one of them
+  issues-only : (registers : List ℕ) (f : ℕ → ℕ) → ((i : ℕ) → f i ≡ getD registers i 0)
+      → Issues p s t [] (λ q. []) registers (withRegisters (issuedSeen p s t) f)
+  unfolding spread bufferLanes
+  issues-only registers f e =
       record {
-        even = even-counted;
+        even = record { twice = even-of p s fit .twice };
         issued = λ k. refl;
         word = λ l. refl;
-        register = λ i. refl;
-        own = row-buffer p s t low ∙ sym (append-nil _);
+        register = e;
+        own = row-buffer p s t low ∙ ap (spread waitingLanes) (sym (append-nil (buffer s t)));
         others = λ k h e. row-buffer p s k h;
         queued = λ q h. row-queue p s q ∙ sym (append-nil _);
       }
 
+  pub issues-none : Issues p s t [] (λ q. []) (s .registers) (issuedSeen p s t)
+  unfolding registerLane
+  issues-none = issues-only (s .registers) (registerLane s) (λ i. refl)
+
   pub issues-register : (j a : ℕ) → j < length (s .registers)
       → Issues p s t [] (λ q. []) (set (s .registers) j a) (withRegister (issuedSeen p s t) j a)
-  unfolding spread registerLane
+  unfolding registerLane
   issues-register j a h =
-      record {
-        even = record { twice = even-counted .twice };
-        issued = λ k. refl;
-        word = λ l. refl;
-        register = λ i. changed-set (s .registers) j a i h;
-        own = row-buffer p s t low ∙ sym (append-nil _);
-        others = λ k h e. row-buffer p s k h;
-        queued = λ q h. row-queue p s q ∙ sym (append-nil _);
-      }
+      issues-only (set (s .registers) j a) (changed (registerLane s) j a)
+      (λ i. changed-set (s .registers) j a i h)
 
   -- and an entry more in the buffer; a write more in a queue
   module _ (registers : List ℕ) (w : Seen) (d : Issues p s t [] (λ q. []) registers w) where
@@ -95,7 +85,8 @@ module _ (p : Program) (s : State) (fit : Fits p s) (t : ℕ) (low : t < p .thre
         (withJoined w t (getD (entryLanes e) 0 0) (getD (entryLanes e) 1 0))
     unfolding spread waitingLanes
     issues-await e =
-        let row : w .row t ≡ bufferLanes s t = d .own ∙ append-nil (bufferLanes s t) in
+        let row : w .row t ≡ spread waitingLanes (buffer s t)
+        = d .own ∙ ap (spread waitingLanes) (append-nil (buffer s t)) in
         let entry : entryLanes e ++ [] ≡ getD (entryLanes e) 0 0 ∷ getD (entryLanes e) 1 0 ∷ []
         = append-nil (entryLanes e) ∙ entry-pair e in
         record {
@@ -105,7 +96,7 @@ module _ (p : Program) (s : State) (fit : Fits p s) (t : ℕ) (low : t < p .thre
           register = d .register;
           own =
               changed-same (w .row) t (w .row t ++ (getD (entryLanes e) 0 0 ∷ getD (entryLanes e) 1 0 ∷ []))
-              ∙ rw (row, entry) refl;
+              ∙ rw (row, ← entry) (sym (spread-append waitingLanes (buffer s t) (record { entry = e } ∷ [])));
           others = λ k h o. changed-other (w .row) t _ k o ∙ d .others k h o;
           queued = λ q h. changed-other (w .row) t _ (p .threads + q) (λ o. omega arith) ∙ d .queued q h;
         }
@@ -113,17 +104,7 @@ module _ (p : Program) (s : State) (fit : Fits p s) (t : ℕ) (low : t < p .thre
     pub issues-enqueue : (q l a : ℕ)
         → Issues p s t [] (λ k. pick (eqb q k) (writeSlot l a ∷ []) []) registers
         (withJoined w (queueRow c q) l a)
-    unfolding spread
-    issues-enqueue q l a =
-        record {
-          even = even-joined c w (d .even) (queueRow c q) l a;
-          issued = d .issued;
-          word = d .word;
-          register = d .register;
-          own = joined-buffer p w q l a t low ∙ d .own;
-          others = λ k h o. joined-buffer p w q l a k h ∙ d .others k h o;
-          queued = joined-queue p w q l a s (λ k h. d .queued k h ∙ append-nil (queueLanes s k));
-        }
+    issues-enqueue = seen-joined p s t low _ _ registers w d
 
   -- where that is what the instruction does, they are the lanes of the state that the issue leads to
   module _ (legal : ruleOf p s (issueStep t) ≡ 0) (after : Fits p (nextOf p s (issueStep t))) where
@@ -133,39 +114,25 @@ module _ (p : Program) (s : State) (fit : Fits p s) (t : ℕ) (low : t < p .thre
     abbrev u : State
     u = nextOf p s (issueStep t)
 
+    counts-same : (k : ℕ) → changed (issuedOf s) t (issuedOf s t + 1) k ≡ issuedOf u k
+    counts-same k = go (ℕ-discrete k t)
+      where
+        go : Dec (k ≡ t) → changed (issuedOf s) t (issuedOf s t + 1) k ≡ issuedOf u k
+        go (yes e) =
+            let a = issue-issued p s fit t low legal in
+            rw e (changed-same (issuedOf s) t (issuedOf s t + 1) ∙ omega arith)
+        go (no e) =
+            changed-other (issuedOf s) t (issuedOf s t + 1) k e ∙ sym (issue-issued-other p s fit t low legal k e)
+
     pub issues-same : (w : Seen)
         → Issues p s t (joins (s .registers) t next) (λ q. exchanges p s t q next)
         (pick (setsRegister (next .operation))
         (set (s .registers) (t * mostRegisters + next .register .0) (takenBy p s t next)) (s .registers)) w
         → lay c w ≡ lay c (seenOf p u)
-    unfolding registerLane
     issues-same w d =
-        same-lanes p u after w (d .even)
-        (λ k h. issued k (ℕ-discrete k t))
-        (λ l h. d .word l ∙ sym (issue-word p s fit t low legal l))
-        (λ i. d .register i ∙ sym (ap (λ (xs : List ℕ). getD xs i 0) (issue-registers p s fit t low legal)))
-        (λ k h. own k h (ℕ-discrete k t))
-        (λ q h. d .queued q h ∙ sym (queued q h))
-      where
-        issued : (k : ℕ) → Dec (k ≡ t) → w .issued k ≡ issuedOf u k
-        issued k (yes e) =
-            let a = issue-issued p s fit t low legal in
-            rw e (d .issued t ∙ changed-same (issuedOf s) t (issuedOf s t + 1) ∙ omega arith)
-        issued k (no e) =
-            d .issued k ∙ changed-other (issuedOf s) t (issuedOf s t + 1) k e
-            ∙ sym (issue-issued-other p s fit t low legal k e)
-
-        own : (k : ℕ) → k < p .threads → Dec (k ≡ t) → w .row k ≡ bufferLanes u k
-        own k h (yes e) =
-            unfold bufferLanes in
-            rw (e, issue-buffer p s fit t low legal, spread-append waitingLanes) (d .own)
-        own k h (no e) =
-            unfold bufferLanes in
-            rw (issue-buffer-other p s fit t low legal k (thread-low (fit .program) h) e) (d .others k h e)
-
-        queued : (q : ℕ) → q < linesOf p
-            → queueLanes u q ≡ queueLanes s q ++ spread slotLanes (exchanges p s t q next)
-        queued q h =
-            let m = few-lines p (fit .program) in
-            unfold queueLanes in
-            rw (issue-queue p s fit t low legal q (omega arith)) (spread-append slotLanes _ _)
+        let lines = few-lines p (fit .program) in
+        seen-same p s t low _ _ (λ q. exchanges p s t q next) u after (λ k h. counts-same k)
+        (issue-word p s fit t low legal) (issue-buffer p s fit t low legal)
+        (λ k h. issue-buffer-other p s fit t low legal k (thread-low (fit .program) h))
+        (λ q h. issue-queue p s fit t low legal q (omega arith)) w
+        (rw (issue-registers p s fit t low legal) d)

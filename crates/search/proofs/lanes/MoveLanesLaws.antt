@@ -4,21 +4,18 @@
 -- Assumes nothing.
 use Prim.Native.Nat.{ℕ, _+_, _*_, _-_, _≤_, _<_}
 use mathlib.Core.Path.{_≡_, refl, sym, ap, _∙_}
-use mathlib.Core.Logic.{_≢_}
-use mathlib.Core.List.{List, [], _∷_, _++_, append-nil}
+use mathlib.Core.List.{List, [], _∷_, append-nil}
 use native.Mathlib.Omega.{arith}
-use native.Mathlib.Decide.{ℕ-discrete}
 use lib.Dec.{eqb}
 use lib.ListN.{length, getD}
 use Rattle.cases.specs.declared.case.Program.{Program}
 use Rattle.cases.specs.Choice.{pick}
 use Rattle.cases.specs.Sizes.{allCode}
-use Rattle.cases.specs.Checks.{linesOf}
 use Rattle.cases.proofs.Promises.{thread-low}
 use Rattle.machine.specs.declared.cells.State.{State}
 use Rattle.machine.specs.declared.cells.Entry.{Entry}
 use Rattle.machine.specs.declared.cells.Entry.the-variants.{Store, Flush, FlushOpt, Sfence}
-use Rattle.machine.specs.View.{Slot, lineOf, markOf, buffer, wordOf, issuedOf, without, blankWaiting}
+use Rattle.machine.specs.View.{Slot, lineOf, markOf, buffer, issuedOf, without, blankWaiting, writeSlot}
 use Rattle.machine.specs.Rules.{entryAt, ruleOf, nextOf}
 use Rattle.machine.specs.Joins.{enters}
 use Rattle.machine.specs.Fit.{together, Named, Fits}
@@ -27,30 +24,23 @@ use Rattle.machine.proofs.Promises.{buffer-long, few-lines, line-there}
 use Rattle.machine.proofs.Effects.{move-within, move-issued, move-buffer, move-buffer-other, move-queue}
 use Rattle.machine.proofs.Effects.{move-word, move-registers}
 use Rattle.search.specs.Sizes.{flushTag, flushOptTag, sfenceTag}
-use Rattle.search.specs.Lanes.{spread, entryLanes, waitingLanes, slotLanes, bufferLanes, queueLanes}
-use Rattle.search.specs.Lanes.{registerLane}
+use Rattle.search.specs.Lanes.{spread, entryLanes, waitingLanes, bufferLanes, queueLanes, registerLane}
 use Rattle.search.specs.Listing.{threadsIn, lineIn, listingOf}
 use Rattle.search.specs.Rows.{queueRow, rowStart}
 use Rattle.search.specs.Taken.{padded, rowLeft, rowCarried, movedLane, moveLanes}
 use Rattle.search.proofs.listing.ListingLaws.{listing-threads, listing-lines, listing-line, listing-fits}
-use Rattle.search.proofs.lanes.SeenLaws.{Seen, Even, lay, withLeft, withJoined}
+use Rattle.search.proofs.lanes.SeenLaws.{Seen, lay, withLeft, withJoined}
 use Rattle.search.proofs.lanes.JoinLaws.{changed-same, changed-other}
 use Rattle.search.proofs.lanes.TagLaws.{tag-sfence, tag-flush-opt, tag-flush, tag-store}
-use Rattle.search.proofs.lanes.EvenLaws.{even-joined, even-left}
+use Rattle.search.proofs.lanes.EvenLaws.{even-left}
 use Rattle.search.proofs.lanes.LayRowLaws.{row-left, row-carried}
 use Rattle.search.proofs.lanes.StateLaws.{seenOf, even-of, few-of, row-buffer, row-queue, long-buffer}
-use Rattle.search.proofs.lanes.SpreadLaws.{spread-append, get-spread, waiting-two, spread-without}
+use Rattle.search.proofs.lanes.SpreadLaws.{get-spread, waiting-two, spread-without}
+use Rattle.search.proofs.lanes.SeenWithLaws.{SeenWith, seen-joined, seen-same}
 use Rattle.search.proofs.lanes.LookLanesLaws.{laidOf, row-there, see-tag, named-there}
-use Rattle.search.proofs.lanes.SameLanesLaws.{joined-buffer, joined-queue, same-lanes}
 
-record Moves (p : Program) (s : State) (t i : ℕ) (r : ℕ → List Slot) (w : Seen) : Type 0 where
-  even : Even (listingOf p) w
-  issued : (k : ℕ) → w .issued k ≡ issuedOf s k
-  word : (l : ℕ) → w .word l ≡ wordOf s l
-  register : (j : ℕ) → w .register j ≡ registerLane s j
-  own : w .row t ≡ spread waitingLanes (without i (buffer s t))
-  others : (k : ℕ) → k < p .threads → k ≢ t → w .row k ≡ bufferLanes s k
-  queued : (q : ℕ) → q < linesOf p → w .row (p .threads + q) ≡ queueLanes s q ++ spread slotLanes (r q)
+abbrev Moves : Program → State → ℕ → ℕ → (ℕ → List Slot) → Seen → Type 0
+Moves p s t i r = SeenWith p s t (issuedOf s) (without i (buffer s t)) r (s .registers)
 
 module _ (p : Program) (s : State) (fit : Fits p s) (t i : ℕ) (low : t < p .threads) where
   abbrev c : List ℕ
@@ -63,31 +53,14 @@ module _ (p : Program) (s : State) (fit : Fits p s) (t i : ℕ) (low : t < p .th
   moves-same : ruleOf p s (moveStep t i) ≡ 0 → Fits p (nextOf p s (moveStep t i))
       → (w : Seen) → Moves p s t i (λ q. enters p t q (entryAt (buffer s t) i)) w
       → lay c w ≡ lay c (seenOf p (nextOf p s (moveStep t i)))
-  unfolding registerLane
   moves-same legal after w d =
-      same-lanes p u after w (d .even)
-      (λ k h. d .issued k ∙ sym (move-issued p s fit t i low legal k))
-      (λ l h. d .word l ∙ sym (move-word p s fit t i low legal l))
-      (λ j. d .register j ∙ sym (ap (λ (xs : List ℕ). getD xs j 0) (move-registers p s fit t i low legal)))
-      (λ k h. own k h (ℕ-discrete k t))
-      (λ q h. d .queued q h ∙ sym (queued q h))
-    where
-      u : State
-      u = nextOf p s (moveStep t i)
-
-      own : (k : ℕ) → k < p .threads → Dec (k ≡ t) → w .row k ≡ bufferLanes (nextOf p s (moveStep t i)) k
-      own k h (yes e) = unfold bufferLanes in rw (e, move-buffer p s fit t i low legal) (d .own)
-      own k h (no e) =
-          unfold bufferLanes in
-          rw (move-buffer-other p s fit t i low legal k (thread-low (fit .program) h) e) (d .others k h e)
-
-      queued : (q : ℕ) → q < linesOf p
-          → queueLanes (nextOf p s (moveStep t i)) q
-          ≡ queueLanes s q ++ spread slotLanes (enters p t q (entryAt (buffer s t) i))
-      queued q h =
-          let m = few-lines p (fit .program) in
-          unfold queueLanes in
-          rw (move-queue p s fit t i low legal q (omega arith)) (spread-append slotLanes _ _)
+      let lines = few-lines p (fit .program) in
+      seen-same p s t low _ _ (λ q. enters p t q (entryAt (buffer s t) i)) (nextOf p s (moveStep t i)) after
+      (λ k h. sym (move-issued p s fit t i low legal k)) (move-word p s fit t i low legal)
+      (move-buffer p s fit t i low legal)
+      (λ k h. move-buffer-other p s fit t i low legal k (thread-low (fit .program) h))
+      (λ q h. move-queue p s fit t i low legal q (omega arith)) w
+      (rw (move-registers p s fit t i low legal) d)
 
   module _ (within : i < length (buffer s t)) where
     inside : i < v .long t
@@ -98,7 +71,7 @@ module _ (p : Program) (s : State) (fit : Fits p s) (t i : ℕ) (low : t < p .th
 
     -- nothing else; and an entry more in a queue
     moves-left : Moves p s t i (λ q. []) (withLeft v t i)
-    unfolding spread bufferLanes
+    unfolding spread bufferLanes registerLane
     moves-left =
         record {
           even = even-left c v (even-of p s fit) t i inside;
@@ -114,20 +87,8 @@ module _ (p : Program) (s : State) (fit : Fits p s) (t i : ℕ) (low : t < p .th
         }
 
     moves-carried : (q g a : ℕ)
-        → Moves p s t i (λ k. pick (eqb q k) (record { word = a; mark = g } ∷ []) [])
-        (withJoined (withLeft v t i) (queueRow c q) g a)
-    unfolding spread
-    moves-carried q g a =
-        let d = moves-left in
-        record {
-          even = even-joined c (withLeft v t i) (d .even) (queueRow c q) g a;
-          issued = d .issued;
-          word = d .word;
-          register = d .register;
-          own = joined-buffer p (withLeft v t i) q g a t low ∙ d .own;
-          others = λ k h o. joined-buffer p (withLeft v t i) q g a k h ∙ d .others k h o;
-          queued = joined-queue p (withLeft v t i) q g a s (λ k h. d .queued k h ∙ append-nil (queueLanes s k));
-        }
+        → Moves p s t i (λ k. pick (eqb q k) (writeSlot g a ∷ []) []) (withJoined (withLeft v t i) (queueRow c q) g a)
+    moves-carried = seen-joined p s t low _ _ (s .registers) (withLeft v t i) moves-left
 
     -- what each kind of entry makes of the view
     module _ (few : together p s ≤ allCode) where

@@ -98,7 +98,7 @@ module _ (p : Program) (s : State) (fit : Fits p s) (q : ℕ) (low : q < linesOf
   even-settled : (words : ℕ → ℕ) → Even c (settledSeen p s q words)
   even-settled words = record { twice = even-left c v (even-of p s fit) r 0 inside .twice }
 
-  -- a row of its buffer; of its queue; of another queue
+  -- the row of a buffer; of its queue; of another queue
   settled-buffer : (words : ℕ → ℕ) (t : ℕ) → t < p .threads → settledSeen p s q words .row t ≡ bufferLanes s t
   unfolding listingOf
   settled-buffer words t here = changed-other (v .row) r _ t (λ e. omega arith) ∙ row-buffer p s t here

@@ -49,15 +49,18 @@ use Rattle.search.proofs.lanes.MarkLanesLaws.{marked-is}
 abbrev pub broken : ℕ → Bool
 broken r = not (eqb r 0)
 
--- broken: of a chain of checks; of its last check; of a choice; of a number that is above 0
+-- broken: of a number above 0; of a chain of checks; of its last check; of a choice; as the code tests it
+suc-broken : (n : ℕ) → broken (suc n) ≡ true
+suc-broken n = ap not (ne-eqb (suc n) 0 (λ e. omega arith))
+
 refuse-broken : (b : Bool) (n r : ℕ) → broken (refuse b (suc n) r) ≡ either b (broken r)
 unfolding refuse either
-refuse-broken true n r = ap not (ne-eqb (suc n) 0 (λ e. omega arith))
+refuse-broken true n r = suc-broken n
 refuse-broken false n r = refl
 
 refuse-last : (b : Bool) (n : ℕ) → broken (refuse b (suc n) 0) ≡ b
 unfolding refuse
-refuse-last true n = ap not (ne-eqb (suc n) 0 (λ e. omega arith))
+refuse-last true n = suc-broken n
 refuse-last false n = refl
 
 pick-broken : (b : Bool) (r : ℕ) → broken (pick b r 0) ≡ pick b (broken r) false
@@ -67,7 +70,7 @@ pick-broken false r = refl
 
 some-broken : (n : ℕ) → ltb 0 n ≡ broken n
 some-broken zero = refl
-some-broken (suc n) = lt-ltb 0 (suc n) (omega arith) ∙ sym (ap not (ne-eqb (suc n) 0 (λ e. omega arith)))
+some-broken (suc n) = lt-ltb 0 (suc n) (omega arith) ∙ sym (suc-broken n)
 
 unfoldable barring : Program → ℕ → Waiting → Bool
 barring p q w = bars p q (w .entry)

@@ -53,6 +53,10 @@ abbrev pub withRegister : Seen → ℕ → ℕ → Seen
 withRegister v i n =
     record { issued = v .issued; long = v .long; word = v .word; register = changed (v .register) i n; row = v .row }
 
+abbrev pub withRegisters : Seen → (ℕ → ℕ) → Seen
+withRegisters v f =
+    record { issued = v .issued; long = v .long; word = v .word; register = f; row = v .row }
+
 abbrev pub withRow : Seen → ℕ → ℕ → List ℕ → Seen
 withRow v r n row =
     record {

@@ -91,14 +91,14 @@ module _ (c x : List ℕ) (g : ListingFits c) where
           )
 
 -- an entry of row r stands at a lane: behind all that is no entry, before the next row, within the lanes
-pub record EntryAt (c x : List ℕ) (r at : ℕ) : Type 0 where
+pub record EntryWithin (c x : List ℕ) (r at : ℕ) : Type 0 where
   pub behind : poolAt c ≤ at
   pub before : at + 2 ≤ rowStart c x (r + 1)
   pub within : at + 2 ≤ mostLanes
 
-pub entry-at : (c x : List ℕ) → ListingFits c → FewEntries c x → (r b n i : ℕ) → r < rowsIn c → i < rowLen c x r
-    → b ≡ r → n ≡ rowStart c x b → EntryAt c x r (n + 2 * i)
-entry-at c x g few r b n i h k d e =
+pub entry-within : (c x : List ℕ) → ListingFits c → FewEntries c x → (r b n i : ℕ) → r < rowsIn c → i < rowLen c x r
+    → b ≡ r → n ≡ rowStart c x b → EntryWithin c x r (n + 2 * i)
+entry-within c x g few r b n i h k d e =
     let f : n ≡ rowStart c x r = rw d at e in
     let v = row-next c x r in
     let w = row-low c x g few (r + 1) (omega arith) in

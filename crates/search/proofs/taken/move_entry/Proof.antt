@@ -2,7 +2,7 @@
 use Prim.Native.Nat.{_+_, _*_}
 use native.Mathlib.Omega.{arith}
 use Rattle.search.specs.Taken.{moveLanes}
-use Rattle.search.proofs.taken.RowLenLaws.{EntryAt, entry-at}
+use Rattle.search.proofs.taken.RowLenLaws.{EntryWithin, entry-within}
 use borrow.Author.Needs.{needs}
 use Rattle.search.proofs.taken.move_entry.Statement.{statement}
 use Rattle.search.proofs.taken.move_entry.Tie as tie
@@ -15,10 +15,10 @@ row-start-requires c κs = search needs
 
 -- the entry stands within the lanes
 entry : (s : tie.After-row-start) → let o = s .before .before .before in
-    EntryAt (o .args .c .now) (o .args .x) (o .args .t .0) (s .row-start .result + 2 * o .args .i)
+    EntryWithin (o .args .c .now) (o .args .x) (o .args .t .0) (s .row-start .result + 2 * o .args .i)
 entry s =
     let p = s .before .before .before .pre in
-    entry-at _ _ (p .0) (p .1) _ _ _ _ (omega arith) (p .3) (s .before .buffer-row .ensures) (s .row-start .ensures)
+    entry-within _ _ (p .0) (p .1) _ _ _ _ (omega arith) (p .3) (s .before .buffer-row .ensures) (s .row-start .ensures)
 
 mul-at : tie.Need-mul-at
 mul-at c = let e = entry c in omega arith

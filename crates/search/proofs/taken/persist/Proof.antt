@@ -2,7 +2,7 @@
 use Prim.Native.Nat.{_+_, _*_}
 use native.Mathlib.Omega.{arith}
 use Rattle.search.specs.Rows.{queueRow}
-use Rattle.search.proofs.taken.RowLenLaws.{EntryAt, entry-at}
+use Rattle.search.proofs.taken.RowLenLaws.{EntryWithin, entry-within}
 use Rattle.search.proofs.taken.TakenLaws.{persist-write, persist-marker}
 use borrow.Author.Needs.{needs}
 use Rattle.search.proofs.taken.persist.Statement.{statement}
@@ -16,11 +16,11 @@ row-start-requires c κs = search needs
 
 -- the queue's first entry stands within the lanes
 entry : (s : tie.After-row-start) → let o = s .before .before .before in
-    EntryAt (o .args .c .now) (o .args .x) (queueRow (o .args .c .now) (o .args .q .0)) (s .row-start .result + 2 * 0)
+    EntryWithin (o .args .c .now) (o .args .x) (queueRow (o .args .c .now) (o .args .q .0)) (s .row-start .result + 2 * 0)
 entry s =
     let q = s .before .before in
     let p = q .before .pre in
-    entry-at _ _ (p .0) (p .1) _ _ _ 0 (omega arith) (p .3) (q .queue-row .ensures) (s .row-start .ensures)
+    entry-within _ _ (p .0) (p .1) _ _ _ 0 (omega arith) (p .3) (q .queue-row .ensures) (s .row-start .ensures)
 
 mul-tag : tie.Need-mul-tag
 mul-tag c = let e = entry c in omega arith
