@@ -141,15 +141,12 @@ module _ (c x : List ℕ) (g : ListingFits c) (fit : FewEntries c x) (issues : �
     (a : issues ≤ 0 + threadsIn c) where
   pub moves-fit : issues + sumTo (threadsIn c) (rowLen c x) ≤ mostCandidates
   moves-fit =
-      let w = g .few-threads in
       let e = sum-front (rowLen c x) (threadsIn c) (rowsIn c) (omega arith) in
       omega arith
 
   pub persists-fit : (moves : ℕ) → moves ≤ issues + sumTo (threadsIn c) (rowLen c x)
       → moves + linesIn c ≤ mostCandidates
   persists-fit moves b =
-      let w = g .few-threads in
-      let v = g .few-lines in
       let e = sum-front (rowLen c x) (threadsIn c) (rowsIn c) (omega arith) in
       omega arith
 

@@ -57,9 +57,6 @@ row-next c x r = rw add-one (omega arith)
 module _ (c x : List ℕ) (g : ListingFits c) (few : FewEntries c x) where
   pub row-low : (r : ℕ) → r ≤ rowsIn c → rowStart c x r ≤ mostLanes
   row-low r h =
-      let a = g .few-threads in
-      let b = g .few-lines in
-      let d = g .few-locations in
       let w = sum-front (rowLen c x) r (rowsIn c) h in
       omega arith
 

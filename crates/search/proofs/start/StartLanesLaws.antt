@@ -30,7 +30,7 @@ use Rattle.search.specs.Listing.{threadsIn, locationsIn, listingOf, List
 use Rattle.search.specs.Rows.{rowsIn, wordAt, poolAt}
 use Rattle.search.specs.Taken.{padded}
 use Rattle.search.proofs.listing.ListingLaws.{listing-locations, listing-fits}
-use Rattle.search.proofs.lanes.SeenLaws.{Seen, lay, withWord}
+use Rattle.search.proofs.lanes.SeenLaws.{Seen, lay, withWord, changed}
 use Rattle.search.proofs.lanes.JoinLaws.{each-same, changed-same, changed-other}
 use Rattle.search.proofs.lanes.ShiftLaws.{padded-by}
 use Rattle.search.proofs.lanes.LayLaws.{lay-same, set-word}
@@ -87,9 +87,6 @@ lay-zeroes p c =
 
 begun-zeroes : (p : Program) (c : List ℕ) → ListingFits c → padded (lay c (begun p 0)) ≡ replicate mostLanes 0
 begun-zeroes p c g =
-    let a = g .few-threads in
-    let b = g .few-lines in
-    let d = g .few-locations in
     let long : length {A = ℕ} (replicate (poolAt c) 0) ≡ poolAt c = length-replicate {A = ℕ} (poolAt c) 0 in
     let all : poolAt c + (mostLanes - poolAt c) ≡ mostLanes = omega arith in
     rw (lay-zeroes p c)
@@ -97,7 +94,24 @@ begun-zeroes p c g =
     ∙ replicate-append-replicate {A = ℕ} (poolAt c) (mostLanes - poolAt c) 0
     ∙ rw all)
 
--- one word more
+-- one word more: in the view; set among the lanes
+begun-changed : (p : Program) (l k : ℕ) → changed (begunWord p l) l (getD (p .first) l 0) k ≡ begunWord p (l + 1) k
+begun-changed p l k = go (lt-or-ge k l) (lt-or-ge l k)
+  where
+    go : (k < l) ⊎ (l ≤ k) → (l < k) ⊎ (k ≤ l)
+        → changed (begunWord p l) l (getD (p .first) l 0) k ≡ begunWord p (l + 1) k
+    go (inl a) b =
+        changed-other (begunWord p l) l (getD (p .first) l 0) k (λ e. omega arith)
+        ∙ begun-put p l k a
+        ∙ sym (begun-put p (l + 1) k (omega arith))
+    go (inr a) (inl b) =
+        changed-other (begunWord p l) l (getD (p .first) l 0) k (λ e. omega arith)
+        ∙ begun-blank p l k a
+        ∙ sym (begun-blank p (l + 1) k (omega arith))
+    go (inr a) (inr b) =
+        let e : k ≡ l = omega arith in
+        rw e (changed-same (begunWord p l) l (getD (p .first) l 0) ∙ sym (begun-put p (l + 1) l (omega arith)))
+
 begun-next : (p : Program) (c : List ℕ) (l : ℕ) → l < locationsIn c
     → set (padded (lay c (begun p l))) (wordAt c l) (getD (p .first) l 0) ≡ padded (lay c (begun p (l + 1)))
 begun-next p c l h =
@@ -107,29 +121,10 @@ begun-next p c l h =
     (record {
       issued = λ t low. refl;
       long = λ r low. refl;
-      word = λ k low. one k;
+      word = λ k low. begun-changed p l k;
       register = λ i low. refl;
       row = λ r low. refl;
     }))
-  where
-    one : (k : ℕ) → withWord (begun p l) l (getD (p .first) l 0) .word k ≡ begunWord p (l + 1) k
-    one k = go (lt-or-ge k l) (lt-or-ge l k)
-      where
-        go : (k < l) ⊎ (l ≤ k) → (l < k) ⊎ (k ≤ l)
-            → withWord (begun p l) l (getD (p .first) l 0) .word k ≡ begunWord p (l + 1) k
-        go (inl a) b =
-            changed-other (begunWord p l) l (getD (p .first) l 0) k (λ e. omega arith)
-            ∙ begun-put p l k a
-            ∙ sym (begun-put p (l + 1) k (omega arith))
-        go (inr a) (inl b) =
-            changed-other (begunWord p l) l (getD (p .first) l 0) k (λ e. omega arith)
-            ∙ begun-blank p l k a
-            ∙ sym (begun-blank p (l + 1) k (omega arith))
-        go (inr a) (inr b) =
-            let e : k ≡ l = omega arith in
-            rw e
-            (changed-same (begunWord p l) l (getD (p .first) l 0)
-            ∙ sym (begun-put p (l + 1) l (omega arith)))
 
 -- what the start holds of each thread and line
 module _ (p : Program) where
@@ -191,8 +186,6 @@ module _ {p : Program} {c x : List ℕ} {l : ℕ} (o : StartSoFar p c x l) where
   pub start-low : l < p .locations → (at : ℕ) → at ≡ wordAt c l → at < mostLanes
   start-low h at e =
       let g = start-listed in
-      let a = g .few-threads in
-      let b = g .few-lines in
       let d = o .program .sized .few-locations in
       omega arith
 

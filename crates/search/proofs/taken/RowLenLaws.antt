@@ -34,15 +34,12 @@ row-pair c x r s h k =
 module _ (c x : List ℕ) (g : ListingFits c) where
   -- a row's length stands within the lanes
   length-within : (r : ℕ) → r < rowsIn c → rowLenAt c r < mostLanes
-  length-within r h = let a = g .few-threads in let b = g .few-lines in omega arith
+  length-within r h = omega arith
 
   -- an entry more: it goes within the lanes; its row's length can grow
   module _ (room : RoomForOne c x) (r at end : ℕ) (h : r < rowsIn c) (e : at ≡ rowStart c x (r + 1)) where
     pub joined-within : end ≡ poolEnd c x → (at ≤ end) × (end + 2 ≤ mostLanes)
     joined-within f =
-        let a = g .few-threads in
-        let b = g .few-lines in
-        let d = g .few-locations in
         let w = row-front c x (r + 1) (rowsIn c) (omega arith) in
         (omega arith, omega arith)
 
