@@ -1,7 +1,7 @@
 -- The lanes (specs/Lanes), seen apart from any state, and of a state.
 -- any, sum, listed: over any test, sum or list
 pub mod GeneralLaws
--- Seen, changed, lay, Even, withIssued, withLong, withWord, withRegister, withRegisters, withRow, withJoined, withLeft: views
+-- Seen, changed, lay, Even, withIssued, withLong, withWord, withRegister, withRegisters, withRow, withJoined, withLeft
 pub mod SeenLaws
 -- changed, shifted, join, each; length, get, set: what stands one behind the other
 pub mod JoinLaws

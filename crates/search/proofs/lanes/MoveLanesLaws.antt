@@ -63,6 +63,7 @@ module _ (p : Program) (s : State) (fit : Fits p s) (t i : ℕ) (low : t < p .th
       (rw (move-registers p s fit t i low legal) d)
 
   module _ (within : i < length (buffer s t)) where
+    -- it is one of its row's entries
     inside : i < v .long t
     inside =
         let m = thread-low (fit .program) low in
@@ -87,7 +88,8 @@ module _ (p : Program) (s : State) (fit : Fits p s) (t i : ℕ) (low : t < p .th
         }
 
     moves-carried : (q g a : ℕ)
-        → Moves p s t i (λ k. pick (eqb q k) (writeSlot g a ∷ []) []) (withJoined (withLeft v t i) (queueRow c q) g a)
+        → Moves p s t i (λ k. pick (eqb q k) (writeSlot g a ∷ []) [])
+        (withJoined (withLeft v t i) (queueRow c q) g a)
     moves-carried = seen-joined p s t low _ _ (s .registers) (withLeft v t i) moves-left
 
     -- what each kind of entry makes of the view
@@ -98,6 +100,7 @@ module _ (p : Program) (s : State) (fit : Fits p s) (t i : ℕ) (low : t < p .th
       here : t < threadsIn c
       here = rw (listing-threads p) low
 
+      -- it leaves its row; it goes over to a queue's
       left : rowLeft c (laidOf p s) t at ≡ padded (lay c (withLeft v t i))
       left =
           row-left c (listing-fits p (fit .program)) v (even-of p s fit) (few-of p s fit few) t i
@@ -111,6 +114,7 @@ module _ (p : Program) (s : State) (fit : Fits p s) (t i : ℕ) (low : t < p .th
           (row-carried c (listing-fits p (fit .program)) v (even-of p s fit) (few-of p s fit few) t i (lineOf p l) g
           here (rw (listing-lines p) (line-there p (fit .program) l there)) inside)
 
+      -- by its kind
       moved : (e : Entry) → Named (p .locations) e → getD (v .row t) (2 * i + 1) 0 ≡ getD (entryLanes e) 1 0
           → (w : Seen) × (movedLane c (laidOf p s) t at (getD (entryLanes e) 0 0) ≡ padded (lay c w))
           × Moves p s t i (λ q. enters p t q e) w

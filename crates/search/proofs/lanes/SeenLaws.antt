@@ -1,9 +1,11 @@
 -- Lanes seen as what they hold of each thread, line and location: over any such view, and no state.
---   Seen        how many each thread has issued, how long each row is, each location's word, each register, each row
+--   Seen        how many each thread has issued, how long each row is, each location's word, each register, each
+--               row
 --   changed     a function with another value at one number
 --   lay c v     the lanes of the view v
 --   Even        each row has two lanes for each entry
---   withIssued, withLong, withWord, withRegister, withJoined, withLeft   the view with one thing changed
+--   withIssued, withLong, withWord, withRegister, withRegisters   the view with one thing changed, or all registers
+--   withRow, withJoined, withLeft   the view with another row and its length; an entry more; one less
 -- Assumes nothing.
 use Prim.Native.Nat.{ℕ, _+_, _*_, _-_, _<_}
 use mathlib.Core.Path.{_≡_}
@@ -49,13 +51,12 @@ abbrev pub withWord : Seen → ℕ → ℕ → Seen
 withWord v l n =
     record { issued = v .issued; long = v .long; word = changed (v .word) l n; register = v .register; row = v .row }
 
-abbrev pub withRegister : Seen → ℕ → ℕ → Seen
-withRegister v i n =
-    record { issued = v .issued; long = v .long; word = v .word; register = changed (v .register) i n; row = v .row }
-
 abbrev pub withRegisters : Seen → (ℕ → ℕ) → Seen
 withRegisters v f =
     record { issued = v .issued; long = v .long; word = v .word; register = f; row = v .row }
+
+abbrev pub withRegister : Seen → ℕ → ℕ → Seen
+withRegister v i n = withRegisters v (changed (v .register) i n)
 
 abbrev pub withRow : Seen → ℕ → ℕ → List ℕ → Seen
 withRow v r n row =
