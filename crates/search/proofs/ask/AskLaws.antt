@@ -152,6 +152,7 @@ module _ (p : Program) (fits : ProgramFits p) (a : Ask) (b : ℕ) where
       Answers o = (o ≡ answerFor (ptso p) (reaches a) (length out) b)
           × (last ≡ shownFor (ptso p) (reaches a) b out)
 
+      -- what is answered and stored, by what is sought
       answer-as : (o : Outcome) → o ≡ toldOf (askOf (ptso p) (reaches a) b)
           → last ≡ shownBy (askOf (ptso p) (reaches a) b) out → Answers o
       unfolding answerFor shownFor short
@@ -166,6 +167,7 @@ module _ (p : Program) (fits : ProgramFits p) (a : Ask) (b : ℕ) where
       stored : (x : Sought Step) → sought ≡ x → last ≡ storedOf 0 x out
       stored x e = left .1 ∙ ap (λ y. storedOf 0 y out) e
 
+      -- a run was found; none was; the budget was used up
       pub ask-found : (n : ℕ) → r ≡ Found n → Answers (Reached n)
       unfolding storedOf toldOf shownBy
       ask-found n e =

@@ -58,6 +58,7 @@ module _ (p : Program) (s : State) (fit : Fits p s) (t : ℕ) (low : t < p .thre
   abbrev x : List ℕ
   x = padded (lay c v)
 
+  -- the thread is there
   here : t < threadsIn c
   here = rw (listing-threads p) low
 

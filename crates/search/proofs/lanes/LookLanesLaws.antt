@@ -112,7 +112,7 @@ module _ (p : Program) (s : State) (fit : Fits p s) where
   pub queue-there : (q : ℕ) → q < linesOf p → queueRow c q < rowsIn c
   queue-there q low = let b = listing-lines p in omega arith
 
-  -- how long the rows of a buffer and of a queue are, and what stands in them
+  -- how long the rows of a buffer and of a queue are
   pub see-buffer-long : (t : ℕ) → t < p .threads → rowLen c x t ≡ bufferLen s t
   see-buffer-long t low = see-long c (seenOf p s) t (row-there t low) ∙ long-buffer p s t low
 
@@ -120,6 +120,7 @@ module _ (p : Program) (s : State) (fit : Fits p s) where
   unfolding listingOf
   see-queue-long q low = see-long c (seenOf p s) (queueRow c q) (queue-there q low) ∙ long-queue p s q
 
+  -- what stands in a row of such entries; in a buffer's; in a queue's
   see-entry : {A : Type 0} (f : A → List ℕ) → ((a : A) → length (f a) ≡ 2) → (es : List A) (d : A) (r : ℕ)
       → r < rowsIn c → seenOf p s .row r ≡ spread f es
       → (i j : ℕ) → i < length es → j < 2

@@ -72,6 +72,7 @@ some-broken : (n : ℕ) → ltb 0 n ≡ broken n
 some-broken zero = refl
 some-broken (suc n) = lt-ltb 0 (suc n) (omega arith) ∙ sym (suc-broken n)
 
+-- an entry that waits bars a flush-opt of line q behind it
 unfoldable barring : Program → ℕ → Waiting → Bool
 barring p q w = bars p q (w .entry)
 
@@ -178,6 +179,7 @@ module _ (p : Program) (s : State) (fit : Fits p s) where
         tag-flush-opt (flushOptTag + l .0) _ _ _ _ (omega arith) (omega arith)
     bars-is q Sfence there = tag-sfence sfenceTag _ _ _ _ (omega arith)
 
+    -- an entry that bars it stands before position i
     barred-before : (q i : ℕ) → i ≤ length (buffer s t)
         → anyFrom 0 i (barsAt c q x (rowStart c x t)) ≡ ltb (firstBar p q (take i (buffer s t))) i
     unfolding barsAt barring
@@ -193,6 +195,7 @@ module _ (p : Program) (s : State) (fit : Fits p s) where
         ∙ any-first p q (take i (buffer s t))
         ∙ ap (ltb (firstBar p q (take i (buffer s t)))) n
 
+    -- an entry behind position 0
     pass-barred : (i : ℕ) → i ≤ length (buffer s t) → (e : Entry) → Named (p .locations) e
         → passBarred c x (rowStart c x t) i (getD (entryLanes e) 0 0) ≡ broken (passRule p (buffer s t) i e)
     unfolding passBarred passRule entryLanes Named
@@ -217,6 +220,7 @@ module _ (p : Program) (s : State) (fit : Fits p s) where
         sym (refuse-last (ltb (firstBar p (lineOf p (l .0)) (take i (buffer s t))) i) 25))
     pass-barred i h Sfence there = rw (le-leb sfenceTag sfenceTag (omega arith)) (unfold pick in refl)
 
+    -- a move
     rule-is : (i : ℕ) → ruleOf p s (moveStep t i)
         ≡ refuse (leb (bufferLen s t) i) 24
         (pick (eqb i 0) (effectRule p (partsOf s) t (entryAt (buffer s t) i))

@@ -114,6 +114,7 @@ module _ (c x : List ℕ) (t n : ℕ) (low : t < threadsIn c) where
   sum-kept : (r : ℕ) → sumTo r (rowLen c (set x t n)) ≡ sumTo r (rowLen c x)
   sum-kept r = sum-same r (rowLen c (set x t n)) (rowLen c x) (λ k h. long-kept k)
 
+  -- of a location: where no buffer is looked at; what a load takes
   pub queued-kept : (l : ℕ) → queuedLane c (set x t n) l ≡ queuedLane c x l
   unfolding queuedLane
   queued-kept l =

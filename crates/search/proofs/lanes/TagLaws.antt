@@ -14,6 +14,7 @@ module _ {A : Type 0} (g : ℕ) (a b d e : A) where
   abbrev pub byTag : A
   byTag = pick (leb sfenceTag g) a (pick (leb flushOptTag g) b (pick (leb flushTag g) d e))
 
+  -- by each kind
   pub tag-sfence : sfenceTag ≤ g → byTag ≡ a
   tag-sfence h = pick-true _ _ _ (le-leb sfenceTag g h)
 

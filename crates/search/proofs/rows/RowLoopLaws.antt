@@ -108,6 +108,7 @@ module _ {x : List ℕ} {base tag other n i : ℕ} (o : NewestSoFar x base tag o
         let b : (base + 2 * i) - 1 ≡ base + 2 * (i - 1) + 1 = omega arith in
         rw (a, b) (rw e at (o .rest))
 
+    -- it has another tag; it has this one
     pub newest-next : getD x ((base + 2 * i) - 2) 0 ≢ tag → NewestSoFar x base tag other n (i - 1)
     newest-next d =
         record { far = let w = o .far in omega arith; rest = pick-next _ _ _ _ (ne-eqb _ _ d) refl ∙ newest-at }
@@ -116,6 +117,7 @@ module _ {x : List ℕ} {base tag other n i : ℕ} (o : NewestSoFar x base tag o
         → getD x ((base + 2 * i) - 1) 0 ≡ newestLane x base tag other n
     newest-here e = pick-here _ _ _ _ (eq-eqb _ _ e) refl ∙ newest-at
 
+  -- none has it
   pub newest-end : i ≤ 0 → other ≡ newestLane x base tag other n
   unfolding newestLane
   newest-end h = let e : i ≡ 0 = omega arith in rw e at (o .rest)
