@@ -19,7 +19,7 @@ pub mod EvenLaws
 pub mod LayRowLaws
 -- split, seenOf, row, long, even, entries, few, lay: of a state
 pub mod StateLaws
--- blankSlot, laidOf, row, queue, see, named, queued, loaded: what the code's looks find is what the machine's find
+-- blankSlot, laidOf, row, queue, see, named, queued, loaded: the code's looks find what the machine's find
 pub mod LookLanesLaws
 -- marked: a thread's marker
 pub mod MarkLanesLaws
