@@ -1,8 +1,8 @@
--- What the walk's code asks of its lanes: they are those of a state that a run reaches, in a walk that is not too deep
--- for the lent bytes.
+-- What the walk's code asks of its lanes, and what it is asked.
 --   AskWithin p a      nothing is asked of a location or a thread that the program p lacks
---   Held c x depth room   x are the lanes of a state of the program with the listing c, `depth` steps from the start,
---                      and the run fits `room` bytes
+--   Held c x depth room   x are the lanes of a state that fits and holds no more than there is room for, of the
+--                      program with the listing c; `depth` and the work left come to no more than a program weighs,
+--                      and that many steps fit `room` bytes
 -- Assumes nothing.
 use Prim.Native.Nat.{ℕ, _+_, _*_, _<_, _≤_}
 use mathlib.Core.Path.{_≡_}

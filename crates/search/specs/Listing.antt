@@ -1,12 +1,12 @@
 -- How the code keeps a program: as one list of numbers, its listing, which can be lent.
---   instructionLanes   an instruction's four numbers
+--   instructionNumbers   an instruction's four numbers
 --   listingOf p     the listing of the program p: threads, lines and locations; the instructions of each thread;
 --                   the line of each location; four numbers for each instruction
 --   threadsIn, linesIn, locationsIn   of a listing: how many
 --   countIn c t     how many instructions thread t has
 --   lineIn c l      the line of location l; 0 where there is no such location
 --   codeAt t i      where instruction i of thread t stands: its operation, location, register and word
---   ListingFits c   a listing of a program that the machine can run
+--   ListingFits c   its numbers are no greater than those of a program that the machine can run
 -- Assumes nothing.
 use Prim.Native.Nat.{ℕ, _+_, _*_, _<_, _≤_}
 use mathlib.Core.List.{List, [], _∷_, _++_}
@@ -20,8 +20,8 @@ use Rattle.cases.specs.Sizes.{mostThreads, mostInstructions, mostLocations, mos
 use Rattle.search.specs.Sizes.{countsAt, linesAt, codesAt}
 use Rattle.search.specs.Lanes.{joinTo}
 
-unfoldable pub instructionLanes : List Instruction → ℕ → List ℕ
-instructionLanes code i =
+unfoldable pub instructionNumbers : List Instruction → ℕ → List ℕ
+instructionNumbers code i =
     getD code i noInstruction .operation
     ∷ getD code i noInstruction .location .0
     ∷ getD code i noInstruction .register .0
@@ -30,7 +30,7 @@ instructionLanes code i =
 
 unfoldable pub listingOf : Program → List ℕ
 listingOf p =
-    p .threads ∷ linesOf p ∷ p .locations ∷ (p .counts ++ (p .line ++ joinTo allCode (instructionLanes (p .code))))
+    p .threads ∷ linesOf p ∷ p .locations ∷ (p .counts ++ (p .line ++ joinTo allCode (instructionNumbers (p .code))))
 
 abbrev pub threadsIn : List ℕ → ℕ
 threadsIn c = getD c 0 0

@@ -10,14 +10,15 @@
 --   awaitedLanes, tookLanes, fetchedLanes, exchangedLanes, comparedLanes   what an instruction does: it waits; a load;
 --                                the word read goes into the register; an exchange; a compare
 --   performedLanes, issueLanes   by its operation; an issue
---   movedLane, moveLanes         a move: by the entry's tag; of thread t, position i
---   settledLane, persistLanes    a persist: what one entry does; of line q
+--   movedLanes, moveLanes         a move: by the entry's tag; of thread t, position i
+--   settledLanes, persistLanes    a persist: what one entry does; of line q
 --   stepLanes c x k              a step by its code
 --   lanesMachine c               the machine over lanes
---   missesLane, reachesLanes     a location holds another word than is wanted; a crash leaves what is asked for, with
---                                what is asked for issued
+--   missesLane, reachesLanes     a location holds another word than is wanted; none does, and each thread has issued
+--                                as many as it must have
 --   padded x                     lanes as the code's array holds them: zeros behind
---   CodeHere c x t at            an instruction of thread t stands at `at`, and there is room for an entry
+--   CodeHere c x t at            at `at` of the listing stand numbers that an instruction of thread t can have, and
+--                                there is room for an entry
 --   Takes c x k                  what the code asks of a step: an issue of an instruction that is left, with room for
 --                                an entry; a move of an entry that is there; a persist of a queue that has one
 -- Assumes nothing.
@@ -120,23 +121,23 @@ unfoldable pub issueLanes : List ℕ → List ℕ → ℕ → List ℕ
 issueLanes c x t = performedLanes c (counted x t) t (codeAt t (getD x t 0))
 
 -- Move: by the tag of the entry at lane `at`
-unfoldable pub movedLane : List ℕ → List ℕ → ℕ → ℕ → ℕ → List ℕ
-movedLane c x t at g =
+unfoldable pub movedLanes : List ℕ → List ℕ → ℕ → ℕ → ℕ → List ℕ
+movedLanes c x t at g =
     pick (leb sfenceTag g) (rowLeft c x t at)
     (pick (leb flushOptTag g) (rowCarried c x t at (lineIn c (g - flushOptTag)) (markOf t))
     (pick (leb flushTag g) (rowLeft c x t at)
     (rowCarried c x t at (lineIn c g) g)))
 
 unfoldable pub moveLanes : List ℕ → List ℕ → ℕ → ℕ → List ℕ
-moveLanes c x t i = movedLane c x t (rowStart c x t + 2 * i) (getD x (rowStart c x t + 2 * i) 0)
+moveLanes c x t i = movedLanes c x t (rowStart c x t + 2 * i) (getD x (rowStart c x t + 2 * i) 0)
 
 -- Persist: a mark that is a location is a write's
-unfoldable pub settledLane : List ℕ → List ℕ → ℕ → ℕ → List ℕ
-settledLane c x g w = pick (ltb g (locationsIn c)) (set x (wordAt c g) w) x
+unfoldable pub settledLanes : List ℕ → List ℕ → ℕ → ℕ → List ℕ
+settledLanes c x g w = pick (ltb g (locationsIn c)) (set x (wordAt c g) w) x
 
 unfoldable pub persistLanes : List ℕ → List ℕ → ℕ → List ℕ
 persistLanes c x q =
-    settledLane c (rowLeft c x (queueRow c q) (rowStart c x (queueRow c q)))
+    settledLanes c (rowLeft c x (queueRow c q) (rowStart c x (queueRow c q)))
     (getD x (rowStart c x (queueRow c q)) 0) (getD x (rowStart c x (queueRow c q) + 1) 0)
 
 unfoldable pub stepLanes : List ℕ → List ℕ → Step → List ℕ

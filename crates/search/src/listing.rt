@@ -15,7 +15,7 @@ ghost use Rattle.cases.specs.Sizes.{allCode};
 ghost use Rattle.cases.specs.Ranges.{ProgramFits};
 ghost use Rattle.search.specs.Sizes.{codesAt, allListing};
 ghost use Rattle.search.specs.Lanes.{joinTo};
-ghost use Rattle.search.specs.Listing.{instructionLanes, listingOf};
+ghost use Rattle.search.specs.Listing.{instructionNumbers, listingOf};
 
 // Some numbers, from a place on.
 fn put_numbers(c: &mut [u32; LISTING], at: usize, numbers: &[u8])
@@ -31,7 +31,7 @@ fn put_numbers(c: &mut [u32; LISTING], at: usize, numbers: &[u8])
 
 // All instructions, four numbers each.
 fn put_code(c: &mut [u32; LISTING], code: [Instruction; CODE])
-    ensures { λ r. ⌜ now (c .exit) ≡ sets (now (c .entry)) codesAt (joinTo allCode (instructionLanes code)) ⌝ }
+    ensures { λ r. ⌜ now (c .exit) ≡ sets (now (c .entry)) codesAt (joinTo allCode (instructionNumbers code)) ⌝ }
 {
     let all = code;
     let mut i: usize = 0;

@@ -32,7 +32,7 @@ ghost use Rattle.search.specs.Listing.{threadsIn, linesIn, countIn, List
 ghost use Rattle.search.specs.Rows.{rowsIn, queueRow, poolAt, rowLen, rowStart, FewEntries, RoomForOne};
 ghost use Rattle.search.specs.Taken.{inserted, carried, counted, discounted, rowJoined, rowLeft, rowCarried};
 ghost use Rattle.search.specs.Taken.{entryTag, entryWord, awaitedLanes, tookLanes, fetchedLanes};
-ghost use Rattle.search.specs.Taken.{exchangedLanes, comparedLanes, performedLanes, issueLanes, movedLane};
+ghost use Rattle.search.specs.Taken.{exchangedLanes, comparedLanes, performedLanes, issueLanes, movedLanes};
 ghost use Rattle.search.specs.Taken.{moveLanes, persistLanes, stepLanes, CodeHere, Takes};
 
 // An entry more before lane `at`: what stands from there to `end` goes two further.
@@ -245,11 +245,11 @@ fn issue(c: &[u32; LISTING], x: [u32; LANES], t: Thread) -> [u32; LANES]
 }
 
 // By the tag of the entry at a lane of a thread's buffer.
-fn move_lane(c: &[u32; LISTING], x: &mut [u32; LANES], t: Thread, at: usize, tag: u32)
+fn move_tagged(c: &[u32; LISTING], x: &mut [u32; LANES], t: Thread, at: usize, tag: u32)
     requires { ⌜ ListingFits (now c) × FewEntries (now c) (now x) × (t .0 < threadsIn (now c))
         × (0 < rowLen (now c) (now x) (t .0)) × (poolAt (now c) ≤ at)
         × (at + 2 ≤ rowStart (now c) (now x) (t .0 + 1)) × (length (now x) ≡ mostLanes) ⌝ }
-    ensures { λ r. ⌜ now (x .exit) ≡ movedLane (now (c .entry)) (now (x .entry)) (t .0) at tag ⌝ }
+    ensures { λ r. ⌜ now (x .exit) ≡ movedLanes (now (c .entry)) (now (x .entry)) (t .0) at tag ⌝ }
 {
     if SFENCE_TAG <= tag {
         leave(c, x, rows::buffer_row(t), at);
@@ -276,7 +276,7 @@ fn move_entry(c: &[u32; LISTING], x: [u32; LANES], t: Thread, i: usize) -> [u32;
     let mut u = x;
     let at = rows::row_start(c, &u, rows::buffer_row(t)) + 2 * i;
     let tag = u[at];
-    move_lane(c, &mut u, t, at, tag);
+    move_tagged(c, &mut u, t, at, tag);
     u
 }
 

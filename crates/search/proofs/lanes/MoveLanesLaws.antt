@@ -27,7 +27,7 @@ use Rattle.search.specs.Sizes.{flushTag, flushOptTag, sfenceTag}
 use Rattle.search.specs.Lanes.{spread, entryLanes, waitingLanes, bufferLanes, queueLanes, registerLane}
 use Rattle.search.specs.Listing.{threadsIn, lineIn, listingOf}
 use Rattle.search.specs.Rows.{queueRow, rowStart}
-use Rattle.search.specs.Taken.{padded, rowLeft, rowCarried, movedLane, moveLanes}
+use Rattle.search.specs.Taken.{padded, rowLeft, rowCarried, movedLanes, moveLanes}
 use Rattle.search.proofs.listing.ListingLaws.{listing-threads, listing-lines, listing-line, listing-fits}
 use Rattle.search.proofs.lanes.SeenLaws.{Seen, lay, withLeft, withJoined}
 use Rattle.search.proofs.lanes.JoinLaws.{changed-same, changed-other}
@@ -116,9 +116,9 @@ module _ (p : Program) (s : State) (fit : Fits p s) (t i : ℕ) (low : t < p .th
 
       -- by its kind
       moved : (e : Entry) → Named (p .locations) e → getD (v .row t) (2 * i + 1) 0 ≡ getD (entryLanes e) 1 0
-          → (w : Seen) × (movedLane c (laidOf p s) t at (getD (entryLanes e) 0 0) ≡ padded (lay c w))
+          → (w : Seen) × (movedLanes c (laidOf p s) t at (getD (entryLanes e) 0 0) ≡ padded (lay c w))
           × Moves p s t i (λ q. enters p t q e) w
-      unfolding movedLane Named entryLanes enters
+      unfolding movedLanes Named entryLanes enters
       moved (Store y) there word =
           let m = fit .program .sized .few-locations in
           let l : ℕ = y .location .0 in (

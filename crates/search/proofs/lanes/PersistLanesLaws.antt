@@ -26,7 +26,7 @@ use Rattle.machine.proofs.Effects.{persist-registers}
 use Rattle.search.specs.Lanes.{spread, slotLanes, bufferLanes, queueLanes, registerLane}
 use Rattle.search.specs.Listing.{listingOf}
 use Rattle.search.specs.Rows.{queueRow, rowStart}
-use Rattle.search.specs.Taken.{padded, rowLeft, settledLane, persistLanes}
+use Rattle.search.specs.Taken.{padded, rowLeft, settledLanes, persistLanes}
 use Rattle.search.proofs.listing.ListingLaws.{listing-locations, listing-fits}
 use Rattle.search.proofs.lanes.SeenLaws.{Seen, Even, changed, lay, withLeft}
 use Rattle.search.proofs.lanes.JoinLaws.{changed-same, changed-other}
@@ -153,10 +153,10 @@ module _ (p : Program) (s : State) (fit : Fits p s) (q : ℕ) (low : q < linesOf
     -- what the entry makes of the words: a write; a marker
     settled : ((l : ℕ) → l < mostLocations → wordOf u l ≡ wordOr l h (wordOf s l))
         → (h .mark < p .locations) ⊎ (p .locations ≤ h .mark)
-        → settledLane (listingOf p)
+        → settledLanes (listingOf p)
         (padded (lay (listingOf p) (settledSeen p s q (wordOf s)))) (h .mark) (h .word)
         ≡ laidOf p u
-    unfolding settledLane wordOr
+    unfolding settledLanes wordOr
     settled words (inl less) =
         pick-true _ _ _ (lt-ltb (h .mark) _ (rw (listing-locations p) less))
         ∙ set-word (listingOf p) (settledSeen p s q (wordOf s)) (h .mark) (h .word)

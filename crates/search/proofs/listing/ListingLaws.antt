@@ -17,26 +17,26 @@ use Rattle.machine.specs.View.{lineOf}
 use Rattle.machine.proofs.lists.PartLaws.{lt-or-ge}
 use Rattle.search.specs.Sizes.{countsAt, linesAt, codesAt}
 use Rattle.search.specs.Lanes.{joinTo}
-use Rattle.search.specs.Listing.{instructionLanes, listingOf, threadsIn, linesIn, locationsIn, countIn}
+use Rattle.search.specs.Listing.{instructionNumbers, listingOf, threadsIn, linesIn, locationsIn, countIn}
 use Rattle.search.specs.Listing.{lineIn, codeAt, ListingFits}
 use Rattle.search.proofs.lanes.JoinLaws.{length-wide, join-split, shifted}
 
 -- instructions one behind the other: how many numbers; number j of instruction i
 module _ (code : List Instruction) where
-  pub length-codes : (n : ℕ) → length (joinTo n (instructionLanes code)) ≡ 4 * n
-  unfolding instructionLanes
-  length-codes n = let e = length-wide 4 n (instructionLanes code) (λ i. refl) in omega arith
+  pub length-codes : (n : ℕ) → length (joinTo n (instructionNumbers code)) ≡ 4 * n
+  unfolding instructionNumbers
+  length-codes n = let e = length-wide 4 n (instructionNumbers code) (λ i. refl) in omega arith
 
   get-codes : (n i j : ℕ) → i < n → j < 4
-      → getD (joinTo n (instructionLanes code)) (4 * i + j) 0 ≡ getD (instructionLanes code i) j 0
-  unfolding instructionLanes
+      → getD (joinTo n (instructionNumbers code)) (4 * i + j) 0 ≡ getD (instructionNumbers code i) j 0
+  unfolding instructionNumbers
   get-codes n i j h l =
-      let before : List ℕ = joinTo i (instructionLanes code) in
-      let after : List ℕ = joinTo (n - suc i) (shifted (suc i) (instructionLanes code)) in
-      rw (join-split n i (instructionLanes code) h, ← length-codes i)
-      (ap (λ (x : List ℕ). getD x (length before + j) 0) (append-assoc before (instructionLanes code i) after)
-      ∙ getD-append-add before (instructionLanes code i ++ after) j 0
-      ∙ List·getD-append (instructionLanes code i) after 0 j l)
+      let before : List ℕ = joinTo i (instructionNumbers code) in
+      let after : List ℕ = joinTo (n - suc i) (shifted (suc i) (instructionNumbers code)) in
+      rw (join-split n i (instructionNumbers code) h, ← length-codes i)
+      (ap (λ (x : List ℕ). getD x (length before + j) 0) (append-assoc before (instructionNumbers code i) after)
+      ∙ getD-append-add before (instructionNumbers code i ++ after) j 0
+      ∙ List·getD-append (instructionNumbers code i) after 0 j l)
 
 -- what stands first
 module _ (p : Program) where
@@ -55,7 +55,7 @@ module _ (p : Program) where
 -- A program that the machine can run
 module _ (p : Program) (fits : ProgramFits p) where
   abbrev code : List ℕ
-  code = joinTo allCode (instructionLanes (p .code))
+  code = joinTo allCode (instructionNumbers (p .code))
 
   -- behind the three first numbers
   behind : (i : ℕ) → getD (listingOf p) (countsAt + i) 0 ≡ getD (p .counts ++ (p .line ++ code)) i 0
@@ -92,7 +92,7 @@ module _ (p : Program) (fits : ProgramFits p) where
 
   -- the four numbers of an instruction
   in-code : (i j : ℕ) → i < allCode → j < 4
-      → getD (listingOf p) (codesAt + 4 * i + j) 0 ≡ getD (instructionLanes (p .code) i) j 0
+      → getD (listingOf p) (codesAt + 4 * i + j) 0 ≡ getD (instructionNumbers (p .code) i) j 0
   in-code i j low less =
       let long = fits .sized .line-long in
       let e : codesAt + 4 * i + j ≡ linesAt + (mostLocations + (4 * i + j)) = omega arith in
@@ -106,21 +106,21 @@ module _ (p : Program) (fits : ProgramFits p) where
     there = omega arith
 
     pub listing-operation : getD (listingOf p) (codeAt t i) 0 ≡ instructionAt p t i .operation
-    unfolding instructionLanes
+    unfolding instructionNumbers
     listing-operation =
         let at : codeAt t i ≡ codesAt + 4 * (t * mostInstructions + i) + 0 = omega arith in
         ap (λ n. getD (listingOf p) n 0) at ∙ in-code (t * mostInstructions + i) 0 there (omega arith)
 
     pub listing-location : getD (listingOf p) (codeAt t i + 1) 0 ≡ instructionAt p t i .location .0
-    unfolding instructionLanes
+    unfolding instructionNumbers
     listing-location = in-code (t * mostInstructions + i) 1 there (omega arith)
 
     pub listing-register : getD (listingOf p) (codeAt t i + 2) 0 ≡ instructionAt p t i .register .0
-    unfolding instructionLanes
+    unfolding instructionNumbers
     listing-register = in-code (t * mostInstructions + i) 2 there (omega arith)
 
     pub listing-word : getD (listingOf p) (codeAt t i + 3) 0 ≡ instructionAt p t i .word
-    unfolding instructionLanes
+    unfolding instructionNumbers
     listing-word = in-code (t * mostInstructions + i) 3 there (omega arith)
 
   -- it fits

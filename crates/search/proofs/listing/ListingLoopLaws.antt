@@ -14,7 +14,7 @@ use Rattle.cases.specs.Sizes.{allCode}
 use Rattle.cases.proofs.ArrayLaws.{sets-append, sets-front}
 use Rattle.search.specs.Sizes.{countsAt, linesAt, codesAt, allListing}
 use Rattle.search.specs.Lanes.{joinTo}
-use Rattle.search.specs.Listing.{instructionLanes, listingOf}
+use Rattle.search.specs.Listing.{instructionNumbers, listingOf}
 use Rattle.search.proofs.listing.ListingLaws.{length-codes}
 
 -- a loop has put the first i of some numbers
@@ -50,7 +50,7 @@ module _ {before : List ℕ} {at : ℕ} {numbers row : List ℕ} {i : ℕ} (o : 
 -- a loop has put the first i of all instructions
 pub record CodeSoFar (before : List ℕ) (code : List Instruction) (row : List ℕ) (i : ℕ) : Type 0 where
   pub far : i ≤ allCode
-  pub put : row ≡ sets before codesAt (joinTo i (instructionLanes code))
+  pub put : row ≡ sets before codesAt (joinTo i (instructionNumbers code))
 
 -- none is put yet
 pub codes-start : (row : List ℕ) (code : List Instruction) → CodeSoFar row code row 0
@@ -70,7 +70,7 @@ module _ {before : List ℕ} {code : List Instruction} {row : List ℕ} {i : ℕ
       (codesAt + 4 * i + 2) (here .register .0))
       (codesAt + 4 * i + 3) (here .word))
       (i + 1)
-  unfolding joinTo instructionLanes
+  unfolding joinTo instructionNumbers
   codes-next h =
       let a : codesAt + 4 * i + 1 ≡ suc (codesAt + 4 * i) = omega arith in
       let b : codesAt + 4 * i + 2 ≡ suc (suc (codesAt + 4 * i)) = omega arith in
@@ -81,7 +81,7 @@ module _ {before : List ℕ} {code : List Instruction} {row : List ℕ} {i : ℕ
             rw (
               o .put,
               add-one i,
-              sets-append before codesAt (joinTo i (instructionLanes code)),
+              sets-append before codesAt (joinTo i (instructionNumbers code)),
               length-codes code i,
               a,
               b,
@@ -89,13 +89,13 @@ module _ {before : List ℕ} {code : List Instruction} {row : List ℕ} {i : ℕ
             );
       }
 
-  pub codes-end : allCode ≤ i → row ≡ sets before codesAt (joinTo allCode (instructionLanes code))
+  pub codes-end : allCode ≤ i → row ≡ sets before codesAt (joinTo allCode (instructionNumbers code))
   codes-end h = let e : i ≡ allCode = let w = o .far in omega arith in rw e at (o .put)
 
 -- the three first numbers, the counts, the lines and the instructions are the listing
 module _ (p : Program) (fits : ProgramFits p) where
   abbrev codes : List ℕ
-  codes = joinTo allCode (instructionLanes (p .code))
+  codes = joinTo allCode (instructionNumbers (p .code))
 
   listing-length : length (listingOf p) ≡ allListing
   unfolding listingOf
@@ -115,7 +115,7 @@ module _ (p : Program) (fits : ProgramFits p) where
   put-all : (blank first second third : List ℕ) → length blank ≡ allListing
       → first ≡ sets (set (set (set blank 0 (p .threads)) 1 (p .lines)) 2 (p .locations)) countsAt (p .counts)
       → second ≡ sets first linesAt (p .line)
-      → third ≡ sets second codesAt (joinTo allCode (instructionLanes (p .code)))
+      → third ≡ sets second codesAt (joinTo allCode (instructionNumbers (p .code)))
       → third ≡ listingOf p
   unfolding listingOf linesOf
   put-all blank first second third e f g h =
@@ -140,7 +140,7 @@ module _ (p : Program) (fits : ProgramFits p) where
       ≡ sets (set (set (set (replicate allListing 0) 0 (p .threads)) 1 (p .lines)) 2 (p .locations)) countsAt
       (p .counts)
       → second ≡ sets first linesAt (p .line)
-      → third ≡ sets second codesAt (joinTo allCode (instructionLanes (p .code)))
+      → third ≡ sets second codesAt (joinTo allCode (instructionNumbers (p .code)))
       → third ≡ listingOf p
   listing-made first second third =
       put-all (replicate allListing 0) first second third (length-replicate {A = ℕ} allListing 0)

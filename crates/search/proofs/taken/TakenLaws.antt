@@ -12,7 +12,7 @@ use Rattle.cases.specs.Operations.{issue, move}
 use Rattle.cases.proofs.ChoiceLaws.{pick-here, pick-next, otherwise}
 use Rattle.search.specs.Listing.{threadsIn, linesIn, locationsIn, countIn}
 use Rattle.search.specs.Rows.{queueRow, wordAt, registerAt, rowLen, rowStart, RoomForOne, queuedLane}
-use Rattle.search.specs.Taken.{rowLeft, exchangedLanes, fetchedLanes, comparedLanes, settledLane}
+use Rattle.search.specs.Taken.{rowLeft, exchangedLanes, fetchedLanes, comparedLanes, settledLanes}
 use Rattle.search.specs.Taken.{persistLanes, Takes}
 
 -- comparedLanes: the word read is the register's; it is not
@@ -31,11 +31,11 @@ module _ (c x : List ℕ) (q r at : ℕ) (e : r ≡ queueRow c q) (f : at ≡ ro
     (g : y ≡ rowLeft c x r at) where
   pub persist-write : (n : ℕ) → getD x at 0 < locationsIn c → n ≡ wordAt c (getD x at 0)
       → set y n (getD x (at + 1) 0) ≡ persistLanes c x q
-  unfolding persistLanes settledLane
+  unfolding persistLanes settledLanes
   persist-write n h k = rw (← e, ← f, g, k) (pick-here _ _ _ _ (lt-ltb _ _ h) refl)
 
   pub persist-marker : locationsIn c ≤ getD x at 0 → y ≡ persistLanes c x q
-  unfolding persistLanes settledLane
+  unfolding persistLanes settledLanes
   persist-marker h = rw (← e, ← f, g) (pick-next _ _ _ _ (le-ltb _ _ h) refl)
 
 -- what Takes says of a step by its code

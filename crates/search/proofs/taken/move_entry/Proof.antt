@@ -32,8 +32,8 @@ mul-tag c = let e = entry c in omega arith
 array-read-tag : tie.Need-array-read-tag
 array-read-tag c = let e = entry c in omega arith
 
-move-lane-requires : tie.Need-move-lane-requires
-move-lane-requires c κs =
+move-tagged-requires : tie.Need-move-tagged-requires
+move-tagged-requires c κs =
     let p = c .before .before .before .before .pre in
     let e = entry (c .before) in
     (p .0, p .1, p .2, omega arith, e .behind, e .before, search needs)
@@ -42,7 +42,7 @@ returns : tie.Need-returns
 unfolding moveLanes
 returns c =
     let s = c .before .before in
-    rw (c .move-lane .ensures, s .row-start .ensures, s .before .buffer-row .ensures)
+    rw (c .move-tagged .ensures, s .row-start .ensures, s .before .buffer-row .ensures)
 
 pub move-entry-spec : {M : Type 1} → statement M
 move-entry-spec =
@@ -54,5 +54,5 @@ move-entry-spec =
     add-at
     mul-tag
     array-read-tag
-    move-lane-requires
+    move-tagged-requires
     returns)

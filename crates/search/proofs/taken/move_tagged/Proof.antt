@@ -1,10 +1,10 @@
--- `move_lane` meets its contract. Assumes nothing.
+-- `move_tagged` meets its contract. Assumes nothing.
 use native.Mathlib.Omega.{arith}
-use Rattle.search.specs.Taken.{movedLane}
+use Rattle.search.specs.Taken.{movedLanes}
 use Rattle.cases.proofs.ChoiceLaws.{choices}
 use borrow.Author.Needs.{needs}
-use Rattle.search.proofs.taken.move_lane.Statement.{statement}
-use Rattle.search.proofs.taken.move_lane.Tie as tie
+use Rattle.search.proofs.taken.move_tagged.Statement.{statement}
+use Rattle.search.proofs.taken.move_tagged.Tie as tie
 
 buffer-row-requires : tie.Need-buffer-row-requires
 buffer-row-requires c κs = search needs
@@ -15,7 +15,7 @@ leave-requires c κs =
     rw (c .buffer-row .ensures) (p .0, p .1, omega arith, p .3, p .4, p .5, p .6)
 
 returns : tie.Need-returns
-unfolding movedLane
+unfolding movedLanes
 returns c = let e = rw (c .before .buffer-row .ensures) at (c .leave .ensures) in search choices
 
 cast-t13 : tie.Need-cast-t13
@@ -39,7 +39,7 @@ carry-over-requires c κs =
     (p .0, p .1, p .2, rw (c .before .before .line-of .ensures) (p .0 .low-lines _), p .3, p .4, p .5, p .6)
 
 returns-2 : tie.Need-returns-2
-unfolding movedLane
+unfolding movedLanes
 returns-2 c = let e = rw (c .before .before .before .line-of .ensures) at (c .carry-over .ensures) in search choices
 
 buffer-row-requires-2 : tie.Need-buffer-row-requires-2
@@ -51,7 +51,7 @@ leave-requires-2 c κs =
     rw (c .buffer-row2 .ensures) (p .0, p .1, omega arith, p .3, p .4, p .5, p .6)
 
 returns-3 : tie.Need-returns-3
-unfolding movedLane
+unfolding movedLanes
 returns-3 c = let e = rw (c .before .buffer-row2 .ensures) at (c .leave2 .ensures) in search choices
 
 cast-t22 : tie.Need-cast-t22
@@ -66,11 +66,11 @@ carry-over-requires-2 c κs =
     (p .0, p .1, p .2, rw (c .before .line-of2 .ensures) (p .0 .low-lines _), p .3, p .4, p .5, p .6)
 
 returns-4 : tie.Need-returns-4
-unfolding movedLane
+unfolding movedLanes
 returns-4 c = let e = rw (c .before .before .line-of2 .ensures) at (c .carry-over2 .ensures) in search choices
 
-pub move-lane-spec : {M : Type 1} → statement M
-move-lane-spec =
+pub move-tagged-spec : {M : Type 1} → statement M
+move-tagged-spec =
     tie.close
     (tie.spec
     buffer-row-requires
