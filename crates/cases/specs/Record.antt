@@ -31,7 +31,7 @@ use Rattle.cases.specs.declared.record.Record.{Record}
 use Rattle.cases.specs.declared.record.Record.the-variants.{Declare, First, Instruct, Want, Passed, Take}
 use Rattle.cases.specs.declared.record.Opened.{Opened}
 use Rattle.cases.specs.declared.record.Opened.the-variants.{Opens, Faulty}
-use Rattle.cases.specs.Sizes.{mostLocations, longestRecord}
+use Rattle.cases.specs.Sizes.{mostLocations, shortRecord, longestRecord}
 use Rattle.cases.specs.Choice.{pick, either, refuse}
 use Rattle.cases.specs.Bytes.{half, wordAt, halfBytes, wordBytes}
 use Rattle.cases.specs.Lines.{table}
@@ -99,6 +99,10 @@ bytesOf (r ∷ rs) = recordBytes r ++ bytesOf rs
 -- a record's bytes as the code holds them: 0 behind them
 unfoldable pub paddedOf : List ℕ → Padded
 paddedOf s = record { length = length s; bytes = s ++ replicate (longestRecord - length s) 0 }
+
+-- n bytes, all within the first ones
+unfoldable pub widened : ℕ → List ℕ → Padded
+widened n front = record { length = n; bytes = front ++ replicate (longestRecord - shortRecord) 0 }
 
 abbrev pub lineByte : List ℕ → ℕ → ℕ
 lineByte s l = getD s (8 + l) 0

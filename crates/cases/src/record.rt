@@ -11,6 +11,7 @@ use crate::case::Thread;
 use crate::case::Write;
 use crate::sizes::LOCATIONS;
 use crate::sizes::LONGEST_RECORD;
+use crate::sizes::SHORT_RECORD;
 use crate::sizes::STEP_SIZE;
 ghost use mathlib.Core.Path.{_≡_};
 ghost use mathlib.Core.Bool.{false};
@@ -39,6 +40,7 @@ ghost use Rattle.cases.specs.Record.{
   openedNo,
   sizeOf,
   recordBytes,
+  widened,
   paddedOf,
 };
 
@@ -276,6 +278,22 @@ fn line_bytes(h: Header) -> u8
     h.listed
 }
 
+// A record of n bytes, all within the first ones.
+fn widen(n: usize, front: [u8; SHORT_RECORD]) -> Padded
+    ensures { λ r. ⌜ r ≡ widened n front ⌝ }
+{
+    let mut bytes = [0u8; LONGEST_RECORD];
+    let mut i = 0;
+    while i < SHORT_RECORD {
+        bytes[i] = front[i];
+        i = i + 1;
+    }
+    Padded {
+        length: n,
+        bytes: bytes,
+    }
+}
+
 fn padded_header(h: Header) -> Padded
     ensures { λ r. ⌜ r ≡ paddedOf (recordBytes (Declare h)) ⌝ }
 {
@@ -284,24 +302,24 @@ fn padded_header(h: Header) -> Padded
     let low = (v % 256) as u8;
     let high = (v / 256 % 256) as u8;
     let line = row_list(h.line);
-    let mut bytes = [
-        4 + n,
-        0,
-        1,
-        0,
-        low,
-        high,
-        h.threads,
-        h.locations,
-        0,
-        0,
-        0,
-        0,
-        0,
-        0,
-        0,
-        0,
-    ];
+    let start = widen(
+        8,
+        [
+            4 + n,
+            0,
+            1,
+            0,
+            low,
+            high,
+            h.threads,
+            h.locations,
+            0,
+            0,
+            0,
+            0,
+        ],
+    );
+    let mut bytes = start.bytes;
     let mut i: u8 = 0;
     while i < n {
         bytes[8 + (i as usize)] = line[i as usize];
@@ -318,36 +336,19 @@ fn padded_write(kind: u8, w: Write) -> Padded
     ensures { λ r. ⌜ r ≡ paddedOf (5 ∷ 0 ∷ kind ∷ 0 ∷ w .location .0 ∷ wordBytes (w .word)) ⌝ }
 {
     let b = word_bytes(w.word);
-    Padded {
-        length: 9,
-        bytes: [
-            5,
-            0,
-            kind,
-            0,
-            w.location.0,
-            b[0],
-            b[1],
-            b[2],
-            b[3],
-            0,
-            0,
-            0,
-            0,
-            0,
-            0,
-            0,
-        ],
-    }
+    widen(
+        9,
+        [5, 0, kind, 0, w.location.0, b[0], b[1], b[2], b[3], 0, 0, 0],
+    )
 }
 
 fn padded_instruction(t: Thread, x: Instruction) -> Padded
     ensures { λ r. ⌜ r ≡ paddedOf (recordBytes (Instruct t x)) ⌝ }
 {
     let b = word_bytes(x.word);
-    Padded {
-        length: 12,
-        bytes: [
+    widen(
+        12,
+        [
             8,
             0,
             3,
@@ -360,29 +361,22 @@ fn padded_instruction(t: Thread, x: Instruction) -> Padded
             b[1],
             b[2],
             b[3],
-            0,
-            0,
-            0,
-            0,
         ],
-    }
+    )
 }
 
 fn padded_passed(t: Thread, n: u8) -> Padded
     ensures { λ r. ⌜ r ≡ paddedOf (recordBytes (Passed t n)) ⌝ }
 {
-    Padded {
-        length: 6,
-        bytes: [2, 0, 5, 0, t.0, n, 0, 0, 0, 0, 0, 0, 0, 0, 0, 0],
-    }
+    widen(6, [2, 0, 5, 0, t.0, n, 0, 0, 0, 0, 0, 0])
 }
 
 fn padded_step(k: Step) -> Padded
     ensures { λ r. ⌜ r ≡ paddedOf (recordBytes (Take k)) ⌝ }
 {
-    Padded {
-        length: STEP_SIZE,
-        bytes: [
+    widen(
+        STEP_SIZE,
+        [
             4,
             0,
             6,
@@ -395,12 +389,8 @@ fn padded_step(k: Step) -> Padded
             0,
             0,
             0,
-            0,
-            0,
-            0,
-            0,
         ],
-    }
+    )
 }
 
 fn padded_record(r: Record) -> Padded

@@ -13,11 +13,18 @@ pub const STEPS: usize = 96;
 // All threads' instructions, one thread's behind the other's.
 pub const CODE: usize = THREADS * INSTRUCTIONS;
 
-// The longest file, in bytes.
-pub const LONGEST: usize = 1336;
-
-// The longest record, in bytes.
-pub const LONGEST_RECORD: usize = 16;
-
 // A step's record, in bytes.
 pub const STEP_SIZE: usize = 8;
+
+// The longest record but the program's, in bytes.
+pub const SHORT_RECORD: usize = 12;
+
+// The longest record, in bytes.
+pub const LONGEST_RECORD: usize = 8 + LOCATIONS;
+
+// The longest file, in bytes: the program; first contents and wants; instructions; passed counts; steps.
+pub const LONGEST: usize = LONGEST_RECORD
+    + 18 * LOCATIONS
+    + SHORT_RECORD * CODE
+    + 6 * THREADS
+    + STEP_SIZE * STEPS;

@@ -17,7 +17,7 @@ use Rattle.cases.specs.declared.record.Record.{Record}
 use Rattle.cases.specs.declared.record.Record.the-variants.{Declare, First, Instruct, Want, Passed, Take}
 use Rattle.cases.specs.declared.reader.Answer.the-variants.{Whole}
 use Rattle.cases.specs.declared.reader.Reading.{Reading}
-use Rattle.cases.specs.Sizes.{mostLocations}
+use Rattle.cases.specs.Sizes.{mostLocations, longestRecord}
 use Rattle.cases.specs.Choice.{pick, either, refuse}
 use Rattle.cases.specs.Bytes.{IsBytes, half}
 use Rattle.cases.specs.Lines.{ownVersion, lineVersion, lastVersion, listedOf, ownLines, unordered}
@@ -262,7 +262,7 @@ Twin y = numberOf (y .answer) ≡ 0 → y .case .version ≡ ownVersion
     → (t : List ℕ) × IsBytes t × (numberOf (readOf t .answer) ≡ 0)
     × (readOf t .case ≡ withVersion (y .case) lineVersion)
 
-module _ (s : List ℕ) (b : IsBytes s) (n : ℕ) (spare : length s + 16 < n) where
+module _ (s : List ℕ) (b : IsBytes s) (n : ℕ) (spare : length s + longestRecord < n) where
   -- behind the program's record h
   module _ (h : Header) (is : asRecord s ≡ Declare h) (sound : faultOf blankDraft (Declare h) ≡ 0) where
     abbrev after : Reading
@@ -327,5 +327,5 @@ module _ (s : List ℕ) (b : IsBytes s) (n : ℕ) (spare : length s + 16 < n) wh
 pub twin-reads : (s : List ℕ) → IsBytes s → Twin (readOf s)
 unfolding readOf
 twin-reads s b =
-    rw (read-fuel-same (suc (length s + 17)) (suc (length s)) blankDraft 0 s (omega arith) (omega arith))
-    (twin-file s b (length s + 17) (omega arith))
+    rw (read-fuel-same (suc (length s + suc longestRecord)) (suc (length s)) blankDraft 0 s (omega arith) (omega arith))
+    (twin-file s b (length s + suc longestRecord) (omega arith))

@@ -6,16 +6,16 @@ use Prim.Native.Nat.{ℕ, zero, suc, _+_, _-_, _/_, _%_, _<_, _≤_}
 use mathlib.Core.Path.{_≡_, refl, sym, ap, _∙_}
 use mathlib.Core.List.{List, [], _∷_, _++_}
 use lib.ListN.{length, getD, set, take, drop, replicate, length-append, length-take, take-append-drop}
-use lib.Seq.{take-at, drop-drop, sets, sets-eq, paste, paste-suc}
-use native.Mathlib.Nat.{sub-zero, zero-sub, suc-sub-suc}
+use lib.Seq.{take-all, take-at, drop-drop, sets, sets-eq, paste, paste-suc}
+use native.Mathlib.Nat.{zero-add, sub-zero, zero-sub, suc-sub-suc}
 use native.Mathlib.Numerals.{add-one}
 use native.Mathlib.Omega.{arith}
 use Rattle.cases.specs.declared.record.Header.{Header}
 use Rattle.cases.specs.declared.record.Padded.{Padded}
 use Rattle.cases.specs.declared.record.Record.the-variants.{Declare}
-use Rattle.cases.specs.Sizes.{mostLocations, longestRecord}
+use Rattle.cases.specs.Sizes.{mostLocations, shortRecord, longestRecord}
 use Rattle.cases.specs.Bytes.{halfBytes}
-use Rattle.cases.specs.Record.{rowList, lineBytes, payloadBytes, recordBytes, paddedOf}
+use Rattle.cases.specs.Record.{rowList, lineBytes, payloadBytes, recordBytes, widened, paddedOf}
 
 -- a turn of the loop that puts the bytes b
 pub put-next : (d b out : List ℕ) (at i : ℕ) → out ≡ paste d at b i
@@ -38,6 +38,22 @@ module _ (p : Padded) (bs : List ℕ) (padded : p ≡ paddedOf bs) where
       → paste d at (p .bytes) (p .length) ≡ sets d at bs
   unfolding paddedOf
   padded-put d at h = rw (padded, take-at bs _ (length bs) refl) (sym (sets-eq bs d at h))
+
+-- widened: a turn of the loop that puts the first bytes
+pub widened-next : (d b out : List ℕ) (i : ℕ) → out ≡ paste d 0 b i
+    → i < length d
+    → i < length b
+    → set out i (getD b i 0) ≡ paste d 0 b (i + 1)
+widened-next d b out i put h k =
+    ap (λ (j : ℕ). set out j (getD b i 0)) (sym (zero-add i)) ∙ put-next d b out 0 i put (omega arith) k
+
+-- where they are all put, zeros stand behind them
+pub widened-whole : (n : ℕ) (front bytes : List ℕ) → length front ≡ shortRecord
+    → bytes ≡ paste (replicate longestRecord 0) 0 front shortRecord
+    → record { length = n; bytes = bytes } ≡ widened n front
+unfolding widened
+widened-whole n front bytes long put =
+    rw (put, take-all shortRecord front (omega arith))
 
 -- what is left of a blank list is blank
 drop-blank : (n m : ℕ) → drop {A = ℕ} n (replicate m 0) ≡ replicate (m - n) 0
@@ -62,8 +78,12 @@ pub line-bytes-listed : (h : Header) → h .listed ≤ mostLocations → h .list
 unfolding lineBytes
 line-bytes-listed h few = omega (arith, length-take (h .listed) (rowList (h .line)))
 
--- the program's record, with n line bytes, before they are put
-abbrev pub headerStart : Header → ℕ → List ℕ
+-- the program's record, with n line bytes, before they are put: its first bytes, and all of them
+abbrev pub headerFront : Header → ℕ → List ℕ
+headerFront h n =
+    (4 + n) ∷ 0 ∷ 1 ∷ 0 ∷ h .version % 256 ∷ h .version / 256 % 256 ∷ h .threads ∷ h .locations ∷ 0 ∷ 0 ∷ 0 ∷ 0 ∷ []
+
+abbrev headerStart : Header → ℕ → List ℕ
 headerStart h n =
     (4 + n) ∷ 0 ∷ 1 ∷ 0 ∷ h .version % 256 ∷ h .version / 256 % 256 ∷ h .threads ∷ h .locations
     ∷ replicate mostLocations 0
@@ -94,14 +114,16 @@ module _ (h : Header) (n : ℕ) (is : n ≡ length (lineBytes h)) where
   unfolding payloadBytes halfBytes
   header-whole = header-head
 
-  pub padded-header : (line bytes : List ℕ) → line ≡ rowList (h .line) → bytes ≡ paste (headerStart h n) 8 line n
+  pub padded-header : (line bytes : List ℕ) (start : Padded) → line ≡ rowList (h .line)
+      → start ≡ widened 8 (headerFront h n)
+      → bytes ≡ paste (start .bytes) 8 line n
       → record { length = 8 + n; bytes = bytes } ≡ paddedOf (recordBytes (Declare h))
-  unfolding paddedOf
-  padded-header line bytes l b =
+  unfolding paddedOf widened
+  padded-header line bytes start l w b =
       let few = line-bytes-few in
       let left : longestRecord - (8 + n) ≡ mostLocations - n = omega arith in
       let long : length (recordBytes (Declare h)) ≡ 8 + n = rw header-whole (omega arith) in
       let all : bytes ≡ recordBytes (Declare h) ++ replicate (longestRecord - length (recordBytes (Declare h))) 0
-      = b ∙ rw (l, line-bytes-front, ← drop-drop n 8 (headerStart h n), drop-blank n mostLocations, long, left, header-whole) in
+      = b ∙ rw (w, l, line-bytes-front, ← drop-drop n 8 (headerStart h n), drop-blank n mostLocations, long, left, header-whole) in
       let count = sym long in
       λ i. record { length = count i; bytes = all i }

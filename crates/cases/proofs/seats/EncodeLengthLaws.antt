@@ -9,7 +9,7 @@ use Rattle.cases.specs.declared.case.Program.{Program}
 use Rattle.cases.specs.declared.case.Ask.{Ask}
 use Rattle.cases.specs.declared.case.Run.{Run}
 use Rattle.cases.specs.declared.seats.Seat.{Seat}
-use Rattle.cases.specs.Sizes.{longest}
+use Rattle.cases.specs.Sizes.{longestRecord, longest}
 use Rattle.cases.specs.Choice.{pick}
 use Rattle.cases.specs.Bytes.{halfBytes, wordBytes}
 use Rattle.cases.specs.Lines.{listedOf}
@@ -24,7 +24,7 @@ use Rattle.cases.proofs.seats.EachLaws.{total, each-length}
 -- how many bytes a seat has at most
 width : ℕ → ℕ
 width k =
-    pick (ltb k fromFirsts) 16
+    pick (ltb k fromFirsts) longestRecord
     (pick (ltb k fromCode) 9
     (pick (ltb k fromWants) 12
     (pick (ltb k fromPassed) 9
@@ -55,7 +55,7 @@ step-width : (r : Run) (k : ℕ) → Within (stepSeat r k) 8
 unfolding stepSeat seatBytes recordBytes payloadBytes halfBytes
 step-width r k = pick-cases (λ (x : Seat). Within x 8) _ _ _ (λ e. omega arith) (λ e. omega arith)
 
-header-width : (c : Case) → Within (headerSeat c) 16
+header-width : (c : Case) → Within (headerSeat c) longestRecord
 unfolding headerSeat seatBytes recordBytes payloadBytes halfBytes lineBytes
 header-width c =
     omega (arith, length-take (listedOf (c .version) (c .program .locations)) (rowList (asRow (listedLines c))))

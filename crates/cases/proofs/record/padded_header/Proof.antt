@@ -4,16 +4,17 @@ use Prim.Native.Nat.{_≤_, _-_}
 use mathlib.Core.Path.{_≡_}
 use lib.ListN.{length}
 use lib.Seq.{paste, paste-zero}
-use Rattle.cases.specs.Sizes.{mostLocations}
+use Rattle.cases.specs.Sizes.{mostLocations, longestRecord}
 use borrow.Author.Needs.{needs}
 use native.Mathlib.Omega.{arith}
-use Rattle.cases.proofs.record.PaddedLaws.{put-next, line-bytes-few, headerStart, padded-header}
+use Rattle.cases.proofs.record.PaddedLaws.{put-next, line-bytes-few, padded-header}
 use Rattle.cases.proofs.record.padded_header.Statement.{statement}
 use Rattle.cases.proofs.record.padded_header.Tie as tie
 
 abbrev Inv-loop : tie.InvT-loop
 Inv-loop n v low high line bytes₀ i₀ bytes i =
-    (i ≤ n) × (n ≤ mostLocations) × (length line ≡ mostLocations) × (bytes ≡ paste bytes₀ 8 line i)
+    (i ≤ n) × (n ≤ mostLocations) × (length line ≡ mostLocations) × (length bytes₀ ≡ longestRecord)
+    × (bytes ≡ paste bytes₀ 8 line i)
 
 abbrev μ-loop : tie.MeasureT-loop
 μ-loop n v low high line bytes₀ i₀ bytes i = n - i
@@ -30,15 +31,16 @@ cast-high c = search needs
 row-list-requires : tie.Need-row-list-requires Inv-loop μ-loop
 row-list-requires c κs = search needs
 
-add-t12 : tie.Need-add-t12 Inv-loop μ-loop
-add-t12 c = let few = line-bytes-few _ _ (c .before .line-bytes .ensures) in search needs
+add-t13 : tie.Need-add-t13 Inv-loop μ-loop
+add-t13 c = let few = line-bytes-few _ _ (c .before .line-bytes .ensures) in search needs
+
+widen-requires : tie.Need-widen-requires Inv-loop μ-loop
+widen-requires c κs = search needs
 
 loop-holds : tie.Need-loop-holds Inv-loop μ-loop
 loop-holds c =
-    let h = c .before .before .args .h in
-    let n = c .before .line-bytes .result in
-    let few = line-bytes-few _ _ (c .before .line-bytes .ensures) in
-    (omega arith, few, search needs, paste-zero (headerStart h n) 8 (c .row-list .result))
+    let few = line-bytes-few _ _ (c .before .before .before .line-bytes .ensures) in
+    (omega arith, few, search needs, search needs, paste-zero (c .before .widen .result .bytes) 8 (c .before .before .row-list .result))
 
 cast-bytes : tie.Need-cast-bytes Inv-loop μ-loop
 cast-bytes c = search needs
@@ -63,27 +65,29 @@ loop-less c = search needs
 
 loop-again : tie.Need-loop-again Inv-loop μ-loop
 loop-again c =
-    let h = c .before .before .before .before .args .h in
-    let n = c .before .before .before .line-bytes .result in
+    let start = c .before .before .before .widen .result .bytes in
     let l = c .before .loop in (
       omega arith,
       l .inv .1,
       l .inv .2,
-      put-next (headerStart h n) _ _ 8 _ (l .inv .3) (omega arith) (omega arith),
+      l .inv .3,
+      put-next start _ _ 8 _ (l .inv .4) (omega arith) (omega arith),
     )
 
-cast-t22 : tie.Need-cast-t22 Inv-loop μ-loop
-cast-t22 c = search needs
+cast-t24 : tie.Need-cast-t24 Inv-loop μ-loop
+cast-t24 c = search needs
 
-add-t23 : tie.Need-add-t23 Inv-loop μ-loop
-add-t23 c = search needs
+add-t25 : tie.Need-add-t25 Inv-loop μ-loop
+add-t25 c = search needs
 
 returns : tie.Need-returns Inv-loop μ-loop
 returns c =
     let l = c .before .loop in
-    let n : l .i ≡ c .before .before .before .line-bytes .result = omega arith in
-    padded-header _ _ (c .before .before .before .line-bytes .ensures) _ _ (c .before .before .row-list .ensures)
-    (rw n at (l .inv .3))
+    let lines = c .before .before .before .before .before .line-bytes in
+    let n : l .i ≡ lines .result = omega arith in
+    padded-header _ _ (lines .ensures) _ _ _ (c .before .before .before .before .row-list .ensures)
+    (c .before .before .before .widen .ensures)
+    (rw n at (l .inv .4))
 
 pub padded-header-spec : {M : Type 1} → statement M
 padded-header-spec =
@@ -95,7 +99,8 @@ padded-header-spec =
     cast-low
     cast-high
     row-list-requires
-    add-t12
+    add-t13
+    widen-requires
     loop-holds
     cast-bytes
     array-read-bytes
@@ -105,6 +110,6 @@ padded-header-spec =
     add-i
     loop-less
     loop-again
-    cast-t22
-    add-t23
+    cast-t24
+    add-t25
     returns)

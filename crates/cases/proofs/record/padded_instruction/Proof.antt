@@ -1,7 +1,8 @@
 -- `padded_instruction` meets its contract: the bytes compute. Assumes nothing.
+use mathlib.Core.Path.{_∙_}
 use borrow.Author.Needs.{needs}
 use Rattle.cases.specs.Bytes.{halfBytes, wordBytes}
-use Rattle.cases.specs.Record.{payloadBytes, recordBytes, paddedOf}
+use Rattle.cases.specs.Record.{payloadBytes, recordBytes, widened, paddedOf}
 use Rattle.cases.proofs.record.padded_instruction.Statement.{statement}
 use Rattle.cases.proofs.record.padded_instruction.Tie as tie
 
@@ -20,9 +21,12 @@ array-read-t13 c = search needs
 array-read-t16 : tie.Need-array-read-t16
 array-read-t16 c = search needs
 
+widen-requires : tie.Need-widen-requires
+widen-requires c κs = search needs
+
 returns : tie.Need-returns
-unfolding paddedOf recordBytes payloadBytes halfBytes wordBytes
-returns c = rw (c .word-bytes .ensures)
+unfolding widened paddedOf recordBytes payloadBytes halfBytes wordBytes
+returns c = c .widen .ensures ∙ rw (c .before .word-bytes .ensures)
 
 pub padded-instruction-spec : {M : Type 1} → statement M
 padded-instruction-spec =
@@ -33,4 +37,5 @@ padded-instruction-spec =
     array-read-t10
     array-read-t13
     array-read-t16
+    widen-requires
     returns)

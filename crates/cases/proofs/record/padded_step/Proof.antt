@@ -1,13 +1,16 @@
 -- `padded_step` meets its contract: the bytes compute. Assumes nothing.
-use mathlib.Core.Path.{refl}
 use Rattle.cases.specs.Bytes.{halfBytes}
-use Rattle.cases.specs.Record.{payloadBytes, recordBytes, paddedOf}
+use Rattle.cases.specs.Record.{payloadBytes, recordBytes, widened, paddedOf}
+use borrow.Author.Needs.{needs}
 use Rattle.cases.proofs.record.padded_step.Statement.{statement}
 use Rattle.cases.proofs.record.padded_step.Tie as tie
 
+widen-requires : tie.Need-widen-requires
+widen-requires c κs = search needs
+
 returns : tie.Need-returns
-unfolding paddedOf recordBytes payloadBytes halfBytes
-returns c = refl
+unfolding widened paddedOf recordBytes payloadBytes halfBytes
+returns c = c .widen .ensures
 
 pub padded-step-spec : {M : Type 1} → statement M
-padded-step-spec = tie.close (tie.spec returns)
+padded-step-spec = tie.close (tie.spec widen-requires returns)

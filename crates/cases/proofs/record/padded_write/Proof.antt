@@ -1,7 +1,8 @@
 -- `padded_write` meets its contract: the bytes compute. Assumes nothing.
+use mathlib.Core.Path.{_∙_}
 use borrow.Author.Needs.{needs}
 use Rattle.cases.specs.Bytes.{wordBytes}
-use Rattle.cases.specs.Record.{paddedOf}
+use Rattle.cases.specs.Record.{widened, paddedOf}
 use Rattle.cases.proofs.record.padded_write.Statement.{statement}
 use Rattle.cases.proofs.record.padded_write.Tie as tie
 
@@ -20,9 +21,12 @@ array-read-t13 c = search needs
 array-read-t16 : tie.Need-array-read-t16
 array-read-t16 c = search needs
 
+widen-requires : tie.Need-widen-requires
+widen-requires c κs = search needs
+
 returns : tie.Need-returns
-unfolding paddedOf wordBytes
-returns c = rw (c .word-bytes .ensures)
+unfolding widened paddedOf wordBytes
+returns c = c .widen .ensures ∙ rw (c .before .word-bytes .ensures)
 
 pub padded-write-spec : {M : Type 1} → statement M
 padded-write-spec =
@@ -33,4 +37,5 @@ padded-write-spec =
     array-read-t10
     array-read-t13
     array-read-t16
+    widen-requires
     returns)
