@@ -62,7 +62,7 @@ fn ask(p: Program, a: Ask, run: &mut [u8], budget: u32) -> Outcome
     let c = listing::listing(p);
     let q = a;
     let x = start::start_lanes(p, &c);
-    match walk::walk(&c, &q.wanted, &q.want, &q.passed, x, budget, 0, run) {
+    match walk::walk(&c, &q.wanted, &q.want, &q.passed, &x, budget, 0, run) {
         Walked::Found(count) => Outcome::Reached(count),
         Walked::Finished(_) => Outcome::Unreachable,
         Walked::Stopped => Outcome::Undecided,

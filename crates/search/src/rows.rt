@@ -84,7 +84,7 @@ pub(crate) fn register_at(c: &[u32; LISTING], t: Thread, r: Register) -> usize
 }
 
 // A lane's number as a size. A parameter is known to fit its type; an element of a lent array is not.
-fn sized(n: u32) -> usize
+pub(crate) fn sized(n: u32) -> usize
     ensures { λ r. ⌜ r ≡ n ⌝ }
 {
     n as usize

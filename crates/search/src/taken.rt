@@ -1,5 +1,4 @@
-// A legal step taken over lanes: a state goes in by value and comes back by value; what changes in it is changed in
-// place.
+// A legal step taken over lanes: what changes in a state is changed in place.
 use crate::rows;
 use crate::rows::Row;
 use crate::sizes::FLUSH_OPT_TAG;
@@ -232,16 +231,14 @@ fn perform(c: &[u32; LISTING], x: &mut [u32; LANES], t: Thread, at: usize)
     await_entry(c, x, t, at);
 }
 
-fn issue(c: &[u32; LISTING], x: [u32; LANES], t: Thread) -> [u32; LANES]
-    requires { ⌜ ListingFits (now c) × RoomForOne (now c) x × (t .0 < threadsIn (now c))
-        × (getD x (t .0) 0 < countIn (now c) (t .0)) ⌝ }
-    ensures { λ r. ⌜ r ≡ issueLanes (now (c .entry)) x (t .0) ⌝ }
+fn issue(c: &[u32; LISTING], x: &mut [u32; LANES], t: Thread)
+    requires { ⌜ ListingFits (now c) × RoomForOne (now c) (now x) × (t .0 < threadsIn (now c))
+        × (getD (now x) (t .0) 0 < countIn (now c) (t .0)) ⌝ }
+    ensures { λ r. ⌜ now (x .exit) ≡ issueLanes (now (c .entry)) (now (x .entry)) (t .0) ⌝ }
 {
-    let mut u = x;
-    let at = rows::code_at(t, u[t.0 as usize] as usize);
-    count(&mut u, t.0 as usize);
-    perform(c, &mut u, t, at);
-    u
+    let at = rows::code_at(t, rows::sized(x[t.0 as usize]));
+    count(x, t.0 as usize);
+    perform(c, x, t, at);
 }
 
 // By the tag of the entry at a lane of a thread's buffer.
@@ -268,46 +265,45 @@ fn move_tagged(c: &[u32; LISTING], x: &mut [u32; LANES], t: Thread, at: usize, t
     carry_over(c, x, t, at, q, tag);
 }
 
-fn move_entry(c: &[u32; LISTING], x: [u32; LANES], t: Thread, i: usize) -> [u32; LANES]
-    requires { ⌜ ListingFits (now c) × FewEntries (now c) x × (t .0 < threadsIn (now c))
-        × (i < rowLen (now c) x (t .0)) ⌝ }
-    ensures { λ r. ⌜ r ≡ moveLanes (now (c .entry)) x (t .0) i ⌝ }
+fn move_entry(c: &[u32; LISTING], x: &mut [u32; LANES], t: Thread, i: usize)
+    requires { ⌜ ListingFits (now c) × FewEntries (now c) (now x) × (t .0 < threadsIn (now c))
+        × (i < rowLen (now c) (now x) (t .0)) × (length (now x) ≡ mostLanes) ⌝ }
+    ensures { λ r. ⌜ now (x .exit) ≡ moveLanes (now (c .entry)) (now (x .entry)) (t .0) i ⌝ }
 {
-    let mut u = x;
-    let at = rows::row_start(c, &u, rows::buffer_row(t)) + 2 * i;
-    let tag = u[at];
-    move_tagged(c, &mut u, t, at, tag);
-    u
+    let at = rows::row_start(c, x, rows::buffer_row(t)) + 2 * i;
+    let tag = x[at];
+    move_tagged(c, x, t, at, tag);
 }
 
-fn persist(c: &[u32; LISTING], x: [u32; LANES], q: Line) -> [u32; LANES]
-    requires { ⌜ ListingFits (now c) × FewEntries (now c) x × (q .0 < linesIn (now c))
-        × (0 < rowLen (now c) x (queueRow (now c) (q .0))) ⌝ }
-    ensures { λ r. ⌜ r ≡ persistLanes (now (c .entry)) x (q .0) ⌝ }
+fn persist(c: &[u32; LISTING], x: &mut [u32; LANES], q: Line)
+    requires { ⌜ ListingFits (now c) × FewEntries (now c) (now x) × (q .0 < linesIn (now c))
+        × (0 < rowLen (now c) (now x) (queueRow (now c) (q .0))) × (length (now x) ≡ mostLanes) ⌝ }
+    ensures { λ r. ⌜ now (x .exit) ≡ persistLanes (now (c .entry)) (now (x .entry)) (q .0) ⌝ }
 {
-    let mut u = x;
     let r = rows::queue_row(c, q);
-    let at = rows::row_start(c, &u, r);
-    let tag = u[at];
-    let word = u[at + 1];
-    leave(c, &mut u, r, at);
+    let at = rows::row_start(c, x, r);
+    let tag = x[at];
+    let word = x[at + 1];
+    leave(c, x, r, at);
     // a mark that is a location is a write's; a marker's is above them all
     if tag < c[2] {
-        u[rows::word_at(c, Location(tag as u8))] = word;
+        x[rows::word_at(c, Location(tag as u8))] = word;
     }
-    u
 }
 
-// The state behind a legal step.
-pub(crate) fn taken(c: &[u32; LISTING], x: [u32; LANES], k: Step) -> [u32; LANES]
-    requires { ⌜ ListingFits (now c) × FewEntries (now c) x × Takes (now c) x k ⌝ }
-    ensures { λ r. ⌜ r ≡ stepLanes (now (c .entry)) x k ⌝ }
+// Takes a legal step.
+pub(crate) fn take(c: &[u32; LISTING], x: &mut [u32; LANES], k: Step)
+    requires { ⌜ ListingFits (now c) × FewEntries (now c) (now x) × Takes (now c) (now x) k
+        × (length (now x) ≡ mostLanes) ⌝ }
+    ensures { λ r. ⌜ now (x .exit) ≡ stepLanes (now (c .entry)) (now (x .entry)) k ⌝ }
 {
     if k.code == ISSUE {
-        return issue(c, x, k.thread);
+        issue(c, x, k.thread);
+        return;
     }
     if k.code == MOVE {
-        return move_entry(c, x, k.thread, k.position as usize);
+        move_entry(c, x, k.thread, k.position as usize);
+        return;
     }
-    persist(c, x, Line(k.location.0))
+    persist(c, x, Line(k.location.0));
 }

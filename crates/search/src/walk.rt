@@ -1,5 +1,5 @@
 // The walk: all legal runs, depth first, each counted against the budget, until one reaches the question. It
-// recurses on the next state, by value; the work left falls at each call.
+// recurses on the next state, a copy that the step has changed; the work left falls at each call.
 use crate::next;
 use crate::shown;
 use crate::sizes::LANES;
@@ -31,41 +31,33 @@ pub(crate) fn walk<'a>(
     wanted: &'a [bool; LOCATIONS],
     want: &'a [u32; LOCATIONS],
     passed: &'a [u8; THREADS],
-    x: [u32; LANES],
+    x: &[u32; LANES],
     budget: u32,
     depth: usize,
     run: &mut [u8],
 ) -> Walked
-    requires { ⌜ Held (now c) x depth (length (now run)) ⌝ }
+    requires { ⌜ Held (now c) (now x) depth (length (now run)) ⌝ }
     ensures { λ r. ⌜ (r ≡ walkedOf depth (seek
         (reachesLanes (now (c .entry)) (now (wanted .entry)) (now (want .entry)) (now (passed .entry))) budget
-        (walks.walk (lanesMachine (now (c .entry))) (suc (mostWork - depth)) x)))
+        (walks.walk (lanesMachine (now (c .entry))) (suc (mostWork - depth)) (now (x .entry)))))
         × (now (run .exit) ≡ storedOf depth (seek
         (reachesLanes (now (c .entry)) (now (wanted .entry)) (now (want .entry)) (now (passed .entry))) budget
-        (walks.walk (lanesMachine (now (c .entry))) (suc (mostWork - depth)) x)) (now (run .entry))) ⌝ }
+        (walks.walk (lanesMachine (now (c .entry))) (suc (mostWork - depth)) (now (x .entry)))) (now (run .entry))) ⌝ }
 {
     if budget == 0 {
         return Walked::Stopped;
     }
-    let u = x;
-    if wants::is_reached(c, wanted, want, passed, &u) {
+    if wants::is_reached(c, wanted, want, passed, x) {
         return Walked::Found(depth);
     }
-    let next = next::next_steps(c, &u);
+    let next = next::next_steps(c, x);
     let mut left = budget - 1;
     let mut i: u8 = 0;
     while i < next.count {
         let k = next::step_at(next.ranks[i as usize]);
-        let below = walk(
-            c,
-            wanted,
-            want,
-            passed,
-            taken::taken(c, u, k),
-            left,
-            depth + 1,
-            run,
-        );
+        let mut u = *x;
+        taken::take(c, &mut u, k);
+        let below = walk(c, wanted, want, passed, &u, left, depth + 1, run);
         match below {
             Walked::Found(n) => {
                 shown::put_step(run, STEP_SIZE * depth, k);

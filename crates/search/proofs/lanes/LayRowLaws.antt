@@ -11,7 +11,7 @@ use mathlib.Core.List.{List, [], _∷_, _++_, append-assoc}
 use native.Mathlib.Nat.{add-assoc}
 use native.Mathlib.Numerals.{add-one}
 use native.Mathlib.Omega.{arith}
-use lib.ListN.{length, getD, take, drop, replicate, length-append, length-take, length-drop}
+use lib.ListN.{length, getD, take, drop, replicate, length-append, length-replicate, length-take, length-drop}
 use Rattle.cases.specs.Sizes.{allCode}
 use Rattle.machine.specs.Fit.{sumTo}
 use Rattle.search.specs.Sizes.{mostLanes}
@@ -117,6 +117,11 @@ module _ (c : List ℕ) (fits : ListingFits c) (v : Seen) (even : Even c v)
   -- the lanes in use and those behind are all
   lay-spare : length (lay c v) + spare c v ≡ mostLanes
   lay-spare = rw (lay-length c v even) (omega arith)
+
+  pub padded-long : length (padded (lay c v)) ≡ mostLanes
+  padded-long =
+      ap length (padded-by (lay c v) (spare c v) lay-spare)
+      ∙ simp (length-append, length-replicate) lay-spare
 
   -- rowJoined: an entry moved in at the end of row r; and counted
   inserted-row : (r tag word : ℕ) → r < rowsIn c → sumTo (rowsIn c) (v .long) < allCode

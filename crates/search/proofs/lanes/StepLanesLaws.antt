@@ -5,6 +5,7 @@ use mathlib.Core.Path.{_≡_, refl}
 use mathlib.Core.Logic.{_⊎_, inl, inr}
 use mathlib.Core.List.{List}
 use native.Mathlib.Omega.{arith}
+use lib.ListN.{length}
 use Rattle.cases.specs.declared.case.Step.{Step}
 use Rattle.cases.specs.declared.case.Program.{Program}
 use Rattle.cases.specs.Choice.{pick}
@@ -17,12 +18,14 @@ use Rattle.machine.specs.Fit.{together, Fits}
 use Rattle.machine.specs.Next.{issueStep, moveStep, persistStep}
 use Rattle.machine.proofs.Promises.{step-fits, buffer-long, step-together}
 use Rattle.machine.proofs.Effects.{step-kinds, issue-left, move-within}
+use Rattle.search.specs.Sizes.{mostLanes}
 use Rattle.search.specs.Listing.{threadsIn, listingOf}
 use Rattle.search.specs.Rows.{rowsIn, FewEntries}
 use Rattle.search.specs.Taken.{stepLanes, Takes}
-use Rattle.search.proofs.listing.ListingLaws.{listing-threads, listing-lines, listing-count}
+use Rattle.search.proofs.listing.ListingLaws.{listing-fits, listing-threads, listing-lines, listing-count}
 use Rattle.search.proofs.lanes.LayLaws.{see-issued, see-sum}
-use Rattle.search.proofs.lanes.StateLaws.{seenOf, few-of}
+use Rattle.search.proofs.lanes.StateLaws.{seenOf, even-of, few-of}
+use Rattle.search.proofs.lanes.LayRowLaws.{padded-long}
 use Rattle.search.proofs.lanes.LookLanesLaws.{laidOf, see-buffer-long, see-queue-long}
 use Rattle.search.proofs.lanes.IssueLanesLaws.{issue-room, issue-lanes}
 use Rattle.search.proofs.lanes.MoveLanesLaws.{move-lanes}
@@ -46,6 +49,9 @@ module _ (p : Program) (s : State) (fit : Fits p s) (few : together p s ≤ allC
   -- so have its lanes
   pub few-lanes : FewEntries (listingOf p) (laidOf p s)
   few-lanes = rw (see-sum c (seenOf p s) (rowsIn c) (omega arith)) (few-of p s fit few)
+
+  pub lanes-long : length (laidOf p s) ≡ mostLanes
+  lanes-long = padded-long c (listing-fits p (fit .program)) (seenOf p s) (even-of p s fit) (few-of p s fit few)
 
   -- a step: it leads to no more entries; to the lanes of its state
   pub step-few : (k : Step) → stepFault (limitsOf p) k ≡ 0 → ruleOf p s k ≡ 0 → together p (nextOf p s k) ≤ allCode

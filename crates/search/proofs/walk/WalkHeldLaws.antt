@@ -5,6 +5,7 @@ use mathlib.Core.Path.{_≡_, sym, ap, subst, _∙_}
 use mathlib.Core.Logic.{_≢_}
 use mathlib.Core.Bool.{Bool, false}
 use mathlib.Core.List.{List}
+use lib.ListN.{length}
 use native.Mathlib.Omega.{arith}
 use Rattle.cases.specs.declared.case.Step.{Step}
 use Rattle.cases.specs.Sizes.{stepSize}
@@ -16,6 +17,7 @@ use Rattle.machine.specs.Model.{Listed, legalSteps}
 use Rattle.machine.specs.Ptso.{ptso}
 use Rattle.machine.proofs.Promises.{ptso-lawful, step-fits, step-lowers}
 use Rattle.search.specs.declared.next.Ranks.{Ranks}
+use Rattle.search.specs.Sizes.{mostLanes}
 use Rattle.search.specs.Listing.{ListingFits}
 use Rattle.search.specs.Rows.{FewEntries}
 use Rattle.search.specs.Barred.{legalLanes, nextLanes}
@@ -25,7 +27,7 @@ use Rattle.search.proofs.listing.ListingLaws.{listing-fits}
 use Rattle.search.proofs.lanes.StateLaws.{lay-of}
 use Rattle.search.proofs.lanes.LookLanesLaws.{laidOf}
 use Rattle.search.proofs.lanes.NextLanesLaws.{legal-is, legal-listed}
-use Rattle.search.proofs.lanes.StepLanesLaws.{few-lanes, step-lanes, step-takes, step-few}
+use Rattle.search.proofs.lanes.StepLanesLaws.{few-lanes, lanes-long, step-lanes, step-takes, step-few}
 use Rattle.search.proofs.next.RanksLaws.{next-pushed, ranks-lists}
 use Rattle.search.proofs.walk.WalkLoopLaws.{Lists, Walking, walking-start}
 
@@ -44,6 +46,9 @@ module _ {c x : List ℕ} {depth room : ℕ} (h : Held c x depth room) where
 
   pub held-few : FewEntries c x
   held-few = rw (h .listed, laid-is) (few-lanes (h .program) (h .state) (h .fits) (h .few))
+
+  pub held-long : length x ≡ mostLanes
+  held-long = ap length laid-is ∙ lanes-long (h .program) (h .state) (h .fits) (h .few)
 
   -- their next steps are the state's
   legal-held : legalLanes c x ≡ legalSteps (ptso (h .program)) (h .state)

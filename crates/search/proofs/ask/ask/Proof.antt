@@ -32,7 +32,7 @@ start-lanes-requires c κs = search needs
 
 walk-requires : tie.Need-walk-requires
 walk-requires c κs =
-    let x = c .before .before .before .before .before .before in
+    let x = c .before .before .before .before .before .before .before in
     let l = x .before .before in
     let i = l .before in
     let w = i .before in
@@ -57,7 +57,7 @@ same-length c = search needs
 returns-2 : tie.Need-returns-2
 returns-2 c =
     let v = c .before .before .before .before .before .before in
-    let x = v .before .before .before .before .before .before in
+    let x = v .before .before .before .before .before .before .before in
     let l = x .before .before in
     let i = l .before in
     let w = i .before in
@@ -72,7 +72,7 @@ same-length-2 c = search needs
 returns-3 : tie.Need-returns-3
 returns-3 c =
     let v = c .before .before .before .before .before in
-    let x = v .before .before .before .before .before .before in
+    let x = v .before .before .before .before .before .before .before in
     let l = x .before .before in
     let i = l .before in
     let w = i .before in
@@ -87,7 +87,7 @@ same-length-3 c = search needs
 returns-4 : tie.Need-returns-4
 returns-4 c =
     let v = c .before .before .before .before .before in
-    let x = v .before .before .before .before .before .before in
+    let x = v .before .before .before .before .before .before .before in
     let l = x .before .before in
     let i = l .before in
     let w = i .before in

@@ -15,7 +15,7 @@ row-start-requires c κs = search needs
 
 -- the entry stands within the lanes
 entry : (s : tie.After-row-start) → let o = s .before .before .before in
-    EntryWithin (o .args .c .now) (o .args .x) (o .args .t .0) (s .row-start .result + 2 * o .args .i)
+    EntryWithin (o .args .c .now) (o .args .x .now) (o .args .t .0) (s .row-start .result + 2 * o .args .i)
 entry s =
     let p = s .before .before .before .pre in
     entry-within _ _ (p .0) (p .1) _ _ _ _ (omega arith) (p .3) (s .before .buffer-row .ensures) (s .row-start .ensures)
@@ -29,19 +29,19 @@ add-at c = let e = entry c in omega arith
 mul-tag : tie.Need-mul-tag
 mul-tag c = let e = entry c in omega arith
 
-array-read-tag : tie.Need-array-read-tag
-array-read-tag c = let e = entry c in omega arith
+element-copy-out-tag : tie.Need-element-copy-out-tag
+element-copy-out-tag c = let e = entry c in omega arith
 
 move-tagged-requires : tie.Need-move-tagged-requires
 move-tagged-requires c κs =
-    let p = c .before .before .before .before .pre in
-    let e = entry (c .before) in
-    (p .0, p .1, p .2, omega arith, e .behind, e .before, search needs)
+    let p = c .before .before .before .before .before .pre in
+    let e = entry (c .before .before) in
+    (p .0, p .1, p .2, omega arith, e .behind, e .before, p .4)
 
 returns : tie.Need-returns
 unfolding moveLanes
 returns c =
-    let s = c .before .before in
+    let s = c .before .before .before in
     rw (c .move-tagged .ensures, s .row-start .ensures, s .before .buffer-row .ensures)
 
 pub move-entry-spec : {M : Type 1} → statement M
@@ -53,6 +53,6 @@ move-entry-spec =
     mul-at
     add-at
     mul-tag
-    array-read-tag
+    element-copy-out-tag
     move-tagged-requires
     returns)

@@ -8,7 +8,7 @@ use Rattle.search.specs.Held.{Held}
 use Rattle.search.proofs.walk.WalkLoopLaws.{left-used-up, left-here, walking-end}
 use Rattle.search.proofs.walk.WalkTurnLaws.{turn-listed, turn-length, turn-put, turn-found, turn-stopped}
 use Rattle.search.proofs.walk.WalkTurnLaws.{turn-finished}
-use Rattle.search.proofs.walk.WalkHeldLaws.{Walks, walks-start, held-fits, held-few, held-takes}
+use Rattle.search.proofs.walk.WalkHeldLaws.{Walks, walks-start, held-fits, held-few, held-long, held-takes}
 use Rattle.search.proofs.walk.WalkHeldLaws.{held-deep, held-room, held-next, held-below}
 use borrow.Author.Needs.{needs}
 use borrow.Fn.Kinds.{In}
@@ -19,28 +19,28 @@ use Rattle.search.proofs.walk.+walk.Lts-walk as walk-lts
 use Rattle.search.proofs.next.next_steps.Reads as next-steps-reads
 use Rattle.search.proofs.next.step_at.Reads as step-at-reads
 use Rattle.search.proofs.shown.put_step.Reads as put-step-reads
-use Rattle.search.proofs.taken.taken.Reads as taken-reads
+use Rattle.search.proofs.taken.take.Reads as take-reads
 use Rattle.search.proofs.wants.is_reached.Reads as is-reached-reads
 use Rattle.search.proofs.walk.+walk.{statement}
 use Rattle.search.proofs.walk.+walk.Tie.{close}
 
 -- the deeper, the less is left
-abbrev μ-walk : Measures 3 walk-kinds.ps ℕ
+abbrev μ-walk : Measures 4 walk-kinds.ps ℕ
 μ-walk κs a = mostWork - a .1 .1 .1 .1 .1 .1 .0
 
-abbrev walk-at : ℕ → In 3 walk-kinds.ps
-walk-at t = and 3 walk-kinds.ps (is 3 walk-kinds.ps μ-walk t) walk.Pre
+abbrev walk-at : ℕ → In 4 walk-kinds.ps
+walk-at t = and 4 walk-kinds.ps (is 4 walk-kinds.ps μ-walk t) walk.Pre
 
-abbrev walk-below : ℕ → In 3 walk-kinds.ps
-walk-below t = and 3 walk-kinds.ps (falls 3 walk-kinds.ps _<_ μ-walk t) walk.Pre
+abbrev walk-below : ℕ → In 4 walk-kinds.ps
+walk-below t = and 4 walk-kinds.ps (falls 4 walk-kinds.ps _<_ μ-walk t) walk.Pre
 
 -- the lanes are held; the next steps from position i on are still to be walked
 abbrev walk-Inv-loop : walk-lts.InvT-loop
-walk-Inv-loop c wanted want passed budget depth run₀ u next left₀ i₀ run left i =
-    Held c u depth (length run) × Walks c wanted want passed u depth budget next run₀ run left i
+walk-Inv-loop c wanted want passed x budget depth run₀ next left₀ i₀ run left i =
+    Held c x depth (length run) × Walks c wanted want passed x depth budget next run₀ run left i
 
 abbrev walk-μ-loop : walk-lts.MeasureT-loop
-walk-μ-loop c wanted want passed budget depth run₀ u next left₀ i₀ run left i = next .count - i
+walk-μ-loop c wanted want passed x budget depth run₀ next left₀ i₀ run left i = next .count - i
 
 abbrev calls : ℕ → walk-lts.Claims
 calls t = (
@@ -50,8 +50,8 @@ calls t = (
   next-steps-reads.Learnt,
   step-at-reads.Asked,
   step-at-reads.Learnt,
-  taken-reads.Asked,
-  taken-reads.Learnt,
+  take-reads.Asked,
+  take-reads.Learnt,
   walk-below t,
   walk.Post,
   put-step-reads.Asked,
@@ -62,26 +62,26 @@ walk-returns : (t : ℕ)
     → walk-lts.Need-returns (calls t) (walk-at t) walk.Post walk-Inv-loop walk-μ-loop
 walk-returns t c =
     let a = c .before .before .args in
-    let l = left-used-up _ (a .budget) (a .depth) (a .run .now) _ _ (a .x) (c .if1 .taken) in
+    let l = left-used-up _ (a .budget) (a .depth) (a .run .now) _ _ _ (c .if1 .taken) in
     (l .told, l .stored)
 
 walk-is-reached-requires : (t : ℕ)
     → walk-lts.Need-is-reached-requires (calls t) (walk-at t) walk.Post walk-Inv-loop walk-μ-loop
-walk-is-reached-requires t c κs = held-fits (c .before .before .before .pre .1)
+walk-is-reached-requires t c κs = held-fits (c .before .before .pre .1)
 
 walk-returns-2 : (t : ℕ)
     → walk-lts.Need-returns-2 (calls t) (walk-at t) walk.Post walk-Inv-loop walk-μ-loop
 walk-returns-2 t c =
-    let g = c .before .before .before in
+    let g = c .before .before in
     let a = g .before .before .args in
     let e = c .before .is-reached .ensures in
-    let l = left-here _ (a .budget) (a .depth) (a .run .now) _ _ (a .x) (g .if1 .left) _ e (c .if2 .taken) in
+    let l = left-here _ (a .budget) (a .depth) (a .run .now) _ _ _ (g .if1 .left) _ e (c .if2 .taken) in
     (l .told, l .stored)
 
 walk-next-steps-requires : (t : ℕ)
     → walk-lts.Need-next-steps-requires (calls t) (walk-at t) walk.Post walk-Inv-loop walk-μ-loop
 walk-next-steps-requires t c κs =
-    let h = c .before .before .before .before .before .before .pre .1 in
+    let h = c .before .before .before .before .pre .1 in
     (held-fits h, held-few h)
 
 walk-sub-left : (t : ℕ)
@@ -91,8 +91,8 @@ walk-sub-left t c = search needs
 walk-loop-holds : (t : ℕ)
     → walk-lts.Need-loop-holds (calls t) (walk-at t) walk.Post walk-Inv-loop walk-μ-loop
 walk-loop-holds t c =
-    let i = c .before .before in
-    let g = i .before .before .before in
+    let i = c .before in
+    let g = i .before .before in
     let h = g .before .before .pre .1 in
     let e = i .before .is-reached .ensures in
     (h, walks-start h _ _ _ _ _ _ (c .next-steps .ensures) (g .if1 .left) _ e (i .if2 .left))
@@ -109,29 +109,29 @@ walk-step-at-requires : (t : ℕ)
     → walk-lts.Need-step-at-requires (calls t) (walk-at t) walk.Post walk-Inv-loop walk-μ-loop
 walk-step-at-requires t c κs = search needs
 
-walk-taken-requires : (t : ℕ)
-    → walk-lts.Need-taken-requires (calls t) (walk-at t) walk.Post walk-Inv-loop walk-μ-loop
-walk-taken-requires t c κs =
-    let l = c .before .before .before .loop in
-    let on = turn-listed (l .inv .1) (omega arith) _ (c .step-at .ensures) in
-    (held-fits (l .inv .0), held-few (l .inv .0), held-takes (l .inv .0) _ on)
+walk-take-requires : (t : ℕ)
+    → walk-lts.Need-take-requires (calls t) (walk-at t) walk.Post walk-Inv-loop walk-μ-loop
+walk-take-requires t c κs =
+    let l = c .before .before .before .before .before .loop in
+    let on = turn-listed (l .inv .1) (omega arith) _ (c .before .before .step-at .ensures) in
+    (held-fits (l .inv .0), held-few (l .inv .0), held-takes (l .inv .0) _ on, held-long (l .inv .0))
 
 walk-add-walk : (t : ℕ)
     → walk-lts.Need-add-walk (calls t) (walk-at t) walk.Post walk-Inv-loop walk-μ-loop
 walk-add-walk t c =
-    let l = c .before .before .before .before .loop in
+    let l = c .before .before .before .before .before .before .before .loop in
     let d = l .inv .0 .deep in
     search needs
 
 walk-walk-requires : (t : ℕ)
     → walk-lts.Need-walk-requires (calls t) (walk-at t) walk.Post walk-Inv-loop walk-μ-loop
 walk-walk-requires t c κs =
-    let l = c .before .before .before .before .before .loop in
-    let on = turn-listed (l .inv .1) (omega arith) _ (c .before .before .step-at .ensures) in
+    let l = c .before .before .before .before .before .before .before .before .loop in
+    let on = turn-listed (l .inv .1) (omega arith) _ (c .before .before .before .before .before .step-at .ensures) in
     let d = held-deep (l .inv .0) _ on in
-    let b = c .before .before .before .before .before .before in
-    let m = b .before .before .before .before .before .before .before .pre .0 in
-    (omega arith, held-next (l .inv .0) _ on _ (c .before .taken .ensures))
+    let b = c .before .before .before .before .before .before .before .before .before in
+    let m = b .before .before .before .before .before .pre .0 in
+    (omega arith, held-next (l .inv .0) _ on _ (c .before .before .take .ensures))
 
 walk-enum-known-below : (t : ℕ)
     → walk-lts.Need-enum-known-below (calls t) (walk-at t) walk.Post walk-Inv-loop walk-μ-loop
@@ -141,16 +141,16 @@ walk-mul-put-step : (t : ℕ)
     → walk-lts.Need-mul-put-step (calls t) (walk-at t) walk.Post walk-Inv-loop walk-μ-loop
 walk-mul-put-step t c =
     let w = c .before .before .before .before .before .before in
-    let d = w .before .before .before .before .before .before .loop .inv .0 .deep in
+    let d = w .before .before .before .before .before .before .before .before .before .loop .inv .0 .deep in
     search needs
 
 walk-put-step-requires : (t : ℕ)
     → walk-lts.Need-put-step-requires (calls t) (walk-at t) walk.Post walk-Inv-loop walk-μ-loop
 walk-put-step-requires t c κs =
     let w = c .before .before .before .before .before .before in
-    let z = w .before .before .taken .ensures in
-    let k = w .before .before .before .step-at .ensures in
-    let l = w .before .before .before .before .before .before .loop in
+    let z = w .before .before .before .take .ensures in
+    let k = w .before .before .before .before .before .before .step-at .ensures in
+    let l = w .before .before .before .before .before .before .before .before .before .loop in
     let on = turn-listed (l .inv .1) (omega arith) _ k in
     let n = held-below (l .inv .0) _ on in
     let e = turn-length (l .inv .1) (omega arith) _ k _ z _ n _ _ _ (w .walk .ensures) in
@@ -161,9 +161,9 @@ walk-same-length : (t : ℕ)
     → walk-lts.Need-same-length (calls t) (walk-at t) walk.Post walk-Inv-loop walk-μ-loop
 walk-same-length t c =
     let w = c .before .before .before .before .before .before .before .before .before in
-    let z = w .before .before .taken .ensures in
-    let k = w .before .before .before .step-at .ensures in
-    let l = w .before .before .before .before .before .before .loop in
+    let z = w .before .before .before .take .ensures in
+    let k = w .before .before .before .before .before .before .step-at .ensures in
+    let l = w .before .before .before .before .before .before .before .before .before .loop in
     let on = turn-listed (l .inv .1) (omega arith) _ k in
     let n = held-below (l .inv .0) _ on in
     let p = c .before .before .put-step .ensures in
@@ -174,9 +174,9 @@ walk-returns-3 : (t : ℕ)
     → walk-lts.Need-returns-3 (calls t) (walk-at t) walk.Post walk-Inv-loop walk-μ-loop
 walk-returns-3 t c =
     let w = c .before .before .before .before .before .before .before .before .before in
-    let z = w .before .before .taken .ensures in
-    let k = w .before .before .before .step-at .ensures in
-    let l = w .before .before .before .before .before .before .loop in
+    let z = w .before .before .before .take .ensures in
+    let k = w .before .before .before .before .before .before .step-at .ensures in
+    let l = w .before .before .before .before .before .before .before .before .before .loop in
     let on = turn-listed (l .inv .1) (omega arith) _ k in
     let n = held-below (l .inv .0) _ on in
     let f = c .before .before .before .before .before .below .given .1 in
@@ -195,9 +195,9 @@ walk-same-length-2 : (t : ℕ)
     → walk-lts.Need-same-length-2 (calls t) (walk-at t) walk.Post walk-Inv-loop walk-μ-loop
 walk-same-length-2 t c =
     let w = c .before .before .before .before in
-    let z = w .before .before .taken .ensures in
-    let k = w .before .before .before .step-at .ensures in
-    let l = w .before .before .before .before .before .before .loop in
+    let z = w .before .before .before .take .ensures in
+    let k = w .before .before .before .before .before .before .step-at .ensures in
+    let l = w .before .before .before .before .before .before .before .before .before .loop in
     let on = turn-listed (l .inv .1) (omega arith) _ k in
     let n = held-below (l .inv .0) _ on in
     let e = turn-length (l .inv .1) (omega arith) _ k _ z _ n _ _ _ (w .walk .ensures) in
@@ -208,9 +208,9 @@ walk-returns-4 : (t : ℕ)
     → walk-lts.Need-returns-4 (calls t) (walk-at t) walk.Post walk-Inv-loop walk-μ-loop
 walk-returns-4 t c =
     let w = c .before .before .before .before in
-    let z = w .before .before .taken .ensures in
-    let k = w .before .before .before .step-at .ensures in
-    let l = w .before .before .before .before .before .before .loop in
+    let z = w .before .before .before .take .ensures in
+    let k = w .before .before .before .before .before .before .step-at .ensures in
+    let l = w .before .before .before .before .before .before .before .before .before .loop in
     let on = turn-listed (l .inv .1) (omega arith) _ k in
     let n = held-below (l .inv .0) _ on in
     let x = turn-stopped (l .inv .1) (omega arith) _ k _ z _ n _ _ _ (w .walk .ensures) (c .enum-told .given .1) in
@@ -220,7 +220,7 @@ walk-add-i : (t : ℕ)
     → walk-lts.Need-add-i (calls t) (walk-at t) walk.Post walk-Inv-loop walk-μ-loop
 walk-add-i t c =
     let w = c .before .before .before .before .before in
-    let few = w .before .before .before .before .before .before .loop .inv .1 .list .few in
+    let few = w .before .before .before .before .before .before .before .before .before .loop .inv .1 .list .few in
     omega arith
 
 walk-loop-less : (t : ℕ)
@@ -231,9 +231,9 @@ walk-loop-again : (t : ℕ)
     → walk-lts.Need-loop-again (calls t) (walk-at t) walk.Post walk-Inv-loop walk-μ-loop
 walk-loop-again t c =
     let w = c .before .before .before .before .before in
-    let z = w .before .before .taken .ensures in
-    let k = w .before .before .before .step-at .ensures in
-    let l = w .before .before .before .before .before .before .loop in
+    let z = w .before .before .before .take .ensures in
+    let k = w .before .before .before .before .before .before .step-at .ensures in
+    let l = w .before .before .before .before .before .before .before .before .before .loop in
     let on = turn-listed (l .inv .1) (omega arith) _ k in
     let n = held-below (l .inv .0) _ on in
     let e = turn-length (l .inv .1) (omega arith) _ k _ z _ n _ _ _ (w .walk .ensures) in
@@ -266,7 +266,7 @@ pub +walk-spec : {M : Type 1} → statement M
     (walk-cast-step-at t)
     (walk-element-copy-out-step-at t)
     (walk-step-at-requires t)
-    (walk-taken-requires t)
+    (walk-take-requires t)
     (walk-add-walk t)
     (walk-walk-requires t)
     (walk-enum-known-below t)
