@@ -39,7 +39,7 @@ use Rattle.machine.proofs.Promises as Machine
 use Rattle.search.specs.declared.ask.Outcome.the-variants.{Refused}
 use Rattle.search.specs.Question.{reaches, askOf, outcomeNo, toldOf, questionOf, shownOf}
 use Rattle.search.proofs.Promises as Search
-use Rattle.demands.specs.Order.{outOf, mislistedOf, leftOf, unorderedOf, ninthOf, unsetOf, ninetySeventhOf}
+use Rattle.demands.specs.Order.{outOf, mislistedOf, leftOf, unorderedOf, crowdedOf, unsetOf, overlongOf}
 use Rattle.demands.proofs.answers.TableLaws as TableLaws
 
 -- "Any bytes may be given as a case. Each is judged or refused by a number in your table,"
@@ -113,11 +113,11 @@ pub order-of-checks : (d : Draft) (r : Record)
     (refuse (mislistedOf r) 3
     (refuse (leftOf r) 8
     (refuse (unorderedOf d r) 6
-    (refuse (ninthOf d r) 7
+    (refuse (crowdedOf d r) 7
     (refuse (unsetOf d r) 10
-    (refuse (ninetySeventhOf d r) 9
+    (refuse (overlongOf d r) 9
     0)))))))
-unfolding faultOf outOf mislistedOf leftOf unorderedOf ninthOf unsetOf ninetySeventhOf refuse
+unfolding faultOf outOf mislistedOf leftOf unorderedOf crowdedOf unsetOf overlongOf refuse
 order-of-checks d (Declare h) = refl
 order-of-checks d (First w) = refl
 order-of-checks d (Instruct t x) = refl

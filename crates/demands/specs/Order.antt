@@ -6,9 +6,9 @@
 --   mislistedOf r        3: not as many line bytes as that version and count have
 --   leftOf r             8: a field not used that is not 0, a 0 that says nothing, or a line number out of order
 --   unorderedOf d r      6: rising or not-falling order broken
---   ninthOf d r          7: the ninth instruction of a thread
+--   crowdedOf d r        7: an instruction more than a thread may have
 --   unsetOf d r          10: a store of a register, or a compare, whose register no earlier instruction sets
---   ninetySeventhOf d r  9: the ninety-seventh step record
+--   overlongOf d r       9: a step record more than a run may have
 -- Assumes nothing.
 use mathlib.Core.Bool.{Bool, false}
 use lib.Dec.{eqb, leb}
@@ -53,13 +53,13 @@ unorderedOf d (Want w) = disordered d 4 (w .location .0)
 unorderedOf d (Passed t n) = disordered d 5 (t .0)
 unorderedOf d (Take k) = false
 
-unfoldable pub ninthOf : Draft → Record → Bool
-ninthOf d (Declare h) = false
-ninthOf d (First w) = false
-ninthOf d (Instruct t x) = leb mostInstructions (countAt (d .case .program) (t .0))
-ninthOf d (Want w) = false
-ninthOf d (Passed t n) = false
-ninthOf d (Take k) = false
+unfoldable pub crowdedOf : Draft → Record → Bool
+crowdedOf d (Declare h) = false
+crowdedOf d (First w) = false
+crowdedOf d (Instruct t x) = leb mostInstructions (countAt (d .case .program) (t .0))
+crowdedOf d (Want w) = false
+crowdedOf d (Passed t n) = false
+crowdedOf d (Take k) = false
 
 unfoldable pub unsetOf : Draft → Record → Bool
 unsetOf d (Declare h) = false
@@ -69,10 +69,10 @@ unsetOf d (Want w) = false
 unsetOf d (Passed t n) = false
 unsetOf d (Take k) = false
 
-unfoldable pub ninetySeventhOf : Draft → Record → Bool
-ninetySeventhOf d (Declare h) = false
-ninetySeventhOf d (First w) = false
-ninetySeventhOf d (Instruct t x) = false
-ninetySeventhOf d (Want w) = false
-ninetySeventhOf d (Passed t n) = false
-ninetySeventhOf d (Take k) = leb mostSteps (d .case .run .count)
+unfoldable pub overlongOf : Draft → Record → Bool
+overlongOf d (Declare h) = false
+overlongOf d (First w) = false
+overlongOf d (Instruct t x) = false
+overlongOf d (Want w) = false
+overlongOf d (Passed t n) = false
+overlongOf d (Take k) = leb mostSteps (d .case .run .count)
