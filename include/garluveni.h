@@ -28,14 +28,18 @@ extern "C" {
 #endif
 
 enum {
+    /* The most of a case: threads, instructions of a thread, locations. */
+    GARLUVENI_THREADS = 4,
+    GARLUVENI_INSTRUCTIONS = 16,
+    GARLUVENI_LOCATIONS = 16,
     /* The longest case file; a longer input is refused. */
-    GARLUVENI_CASE_BYTES = 1336,
+    GARLUVENI_CASE_BYTES = 2640,
     /* A step as it is stored: a record of kind 6, that is 4, 0, 6, 0, thread, code, position, location. A
      * persist names a cache line there; in a case of version 1 that is the location's number. */
     GARLUVENI_STEP_BYTES = 8,
     /* No run is longer than its program's full length, one with a failed compare is shorter, and no full length
      * is above this. */
-    GARLUVENI_STEPS = 96,
+    GARLUVENI_STEPS = 192,
     /* With so many bytes lent no question is refused with 31. */
     GARLUVENI_STEPS_BYTES = GARLUVENI_STEP_BYTES * GARLUVENI_STEPS
 };
@@ -49,9 +53,9 @@ enum garluveni_answers {
     GARLUVENI_ORDER = 4,       /* first record not kind 1, kind 1 again, or a kind lower than the one before */
     GARLUVENI_RANGE = 5,       /* a field out of range */
     GARLUVENI_RISING = 6,      /* rising or not-falling order broken */
-    GARLUVENI_INSTRUCTION = 7, /* ninth instruction of a thread */
+    GARLUVENI_INSTRUCTION = 7, /* 17th instruction of a thread */
     GARLUVENI_UNUSED = 8,      /* unused field not 0; a first content of 0; a passed count of 0; lines out of order */
-    GARLUVENI_STEP = 9,        /* ninety-seventh step record */
+    GARLUVENI_STEP = 9,        /* 193rd step record */
     GARLUVENI_REGISTER = 10,   /* a register is stored or compared that nothing before it in its thread sets */
 
     /* Rules of the machine, from the judge; the place is the index of the first illegal step, from 0. */

@@ -3,6 +3,11 @@
 
 use Operation::*;
 
+/// The most of each thing that a case may have.
+pub const THREADS: usize = 4;
+pub const INSTRUCTIONS: usize = 16;
+pub const LOCATIONS: usize = 16;
+
 #[derive(Clone, Copy)]
 pub enum Operation {
     StoreWord(u8, u32),
@@ -16,6 +21,7 @@ pub enum Operation {
     Compare(u8, u8, u32),
 }
 
+#[derive(Clone)]
 pub struct Case {
     pub name: &'static str,
     pub locations: u8,

@@ -1,6 +1,7 @@
 //! The two ways the plain walks keep a state: growing rows on the heap, and arrays of the greatest size with a
 //! length.
 
+use crate::case::{INSTRUCTIONS, LOCATIONS, THREADS};
 use crate::machine::{Entry, Location, Slot, Thread};
 use std::collections::VecDeque;
 use std::ops::{Index, IndexMut};
@@ -35,10 +36,10 @@ impl Shape for Vectors {
 pub struct Arrays;
 
 impl Shape for Arrays {
-    type Queue = Array<Slot, 32>;
-    type Buffer = Array<Entry, 8>;
-    type Locations = Array<Location<Array<Slot, 32>>, 8>;
-    type Threads = Array<Thread<Array<Entry, 8>>, 4>;
+    type Queue = Array<Slot, { THREADS * INSTRUCTIONS }>;
+    type Buffer = Array<Entry, INSTRUCTIONS>;
+    type Locations = Array<Location<Self::Queue>, LOCATIONS>;
+    type Threads = Array<Thread<Self::Buffer>, THREADS>;
 }
 
 impl<T: Clone> Row<T> for Vec<T> {

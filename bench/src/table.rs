@@ -1,4 +1,5 @@
-//! The eleven cases that are measured, from eight runs to a million.
+//! The cases that are measured, from eight runs to a million: eleven that were measured before a thread had more than eight
+//! instructions, and three of sixteen.
 
 use crate::case::{Case, Operation, Operation::*};
 
@@ -17,9 +18,9 @@ fn case(name: &'static str, locations: u8, threads: &[&[Operation]], wants: Want
     Case { wants: wants.to_vec(), budget: BUDGET, ..Case::of(name, locations, threads) }
 }
 
-/// As many stores as a thread may have, of rising words.
-fn eight_stores(location: u8, first: u32) -> [Operation; 8] {
-    [0, 1, 2, 3, 4, 5, 6, 7].map(|more| StoreWord(location, first + more))
+/// So many stores of rising words.
+fn stores(count: u32, location: u8, first: u32) -> Vec<Operation> {
+    (first..first + count).map(|word| StoreWord(location, word)).collect()
 }
 
 fn of_one_thread() -> Vec<Case> {
@@ -55,16 +56,29 @@ fn of_more_threads() -> Vec<Case> {
     ]
 }
 
-/// Programs of the greatest full length, whose walk goes down all the way.
-fn deep() -> Vec<Case> {
-    let [x, y, z, w] = [X, Y, Z, W].map(|location| eight_stores(location, 1));
-    let (flush_opts, more_y) = ([FlushOpt(X); 8], eight_stores(Y, 9));
+/// Four threads full of so many instructions, whose walk goes down all the way.
+fn deep([reached, used_up]: [&'static str; 2], count: u32) -> Vec<Case> {
+    let [x, y, z, w] = [X, Y, Z, W].map(|location| stores(count, location, 1));
+    let (flush_opts, more_y) = (vec![FlushOpt(X); count as usize], stores(count, Y, count + 1));
     vec![
-        case("deep, reached", 2, &[&flush_opts, &x, &y, &more_y], &[(X, 5), (Y, 16)]),
-        case("deep, budget used up", 4, &[&x, &y, &z, &w], &[(X, 7), (W, 8)]),
+        case(reached, 2, &[&flush_opts, &x, &y, &more_y], &[(X, count - 3), (Y, 2 * count)]),
+        case(used_up, 4, &[&x, &y, &z, &w], &[(X, count - 1), (W, count)]),
     ]
 }
 
+/// A row of seven words with their fence, then the valid word: sixteen instructions.
+fn wide_row() -> Case {
+    let words = 0..7;
+    let row = [
+        words.clone().map(|word| StoreWord(word, 5)).collect(),
+        words.map(FlushOpt).collect(),
+        vec![Sfence, StoreWord(7, 1)],
+    ];
+    case("a row of seven words", 8, &[&row.concat()], &[(X, 0), (7, 1)])
+}
+
 pub fn cases() -> Vec<Case> {
-    [of_one_thread(), of_more_threads(), deep()].into_iter().flatten().collect()
+    let eights = deep(["deep, reached", "deep, budget used up"], 8);
+    let sixteens = deep(["sixteens, reached", "sixteens, used up"], 16);
+    [of_one_thread(), of_more_threads(), eights, vec![wide_row()], sixteens].concat()
 }

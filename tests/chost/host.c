@@ -9,8 +9,8 @@ enum { X, Y, Z, W };
 enum { STORE = 1, STORE_REGISTER, LOAD, EXCHANGE, FLUSH, FLUSH_OPT, SFENCE, MFENCE, COMPARE };
 enum { MILLION = 1000000, GUARD = 64, ROOM = MILLION + 2 * GUARD, UNTOUCHED = 0xEE };
 
-/* The budget of the question program. */
-enum { BUDGET = 1000000 };
+/* The budget of the question program, and the most instructions of a program. */
+enum { BUDGET = 1000000, INSTRUCTIONS = GARLUVENI_THREADS * GARLUVENI_INSTRUCTIONS };
 
 static unsigned checks;
 
@@ -86,16 +86,22 @@ static void passed(struct file *file, uint8_t thread, uint8_t least)
     ADD(file, 2, 0, 5, 0, thread, least);
 }
 
-/* A run in words: "I0" thread 0 issues, "M1.2" thread 1 moves at position 2, "P3" line 3 persists. */
+/* The number that a word's digits make. */
+static uint8_t number(const char *digits)
+{
+    return (uint8_t)strtoul(digits, NULL, 10);
+}
+
+/* A run in words: "I0" thread 0 issues, "M1.12" thread 1 moves at position 12, "P3" line 3 persists. */
 static void run(struct file *file, const char *words)
 {
     for (const char *at = words; *at != 0; at++) {
         if (*at == 'I')
-            ADD(file, 4, 0, 6, 0, at[1] - '0', 0, 0, 0);
+            ADD(file, 4, 0, 6, 0, number(at + 1), 0, 0, 0);
         if (*at == 'M')
-            ADD(file, 4, 0, 6, 0, at[1] - '0', 1, at[3] - '0', 0);
+            ADD(file, 4, 0, 6, 0, number(at + 1), 1, number(at + 3), 0);
         if (*at == 'P')
-            ADD(file, 4, 0, 6, 0, 0, 2, 0, at[1] - '0');
+            ADD(file, 4, 0, 6, 0, 0, 2, 0, number(at + 1));
     }
 }
 
@@ -184,6 +190,12 @@ static void refused(int line, const struct file *file, uint32_t answer, uint32_t
 
 static struct file f, steps;
 
+static void fences(uint8_t thread, int count)
+{
+    for (int i = 0; i < count; i++)
+        instruction(&f, thread, SFENCE, 0, 0);
+}
+
 /* Behind a program record of two locations. */
 static void torn_row(void)
 {
@@ -201,20 +213,21 @@ static void outage(void)
     run(&steps, "I0 I0 M0.0 M0.0 P1");
 }
 
+/* Each thread stores to each location once, which is on a line of its own. */
 static void longest(void)
 {
-    LINED(&f, 4, 0, 1, 2, 3, 4, 5, 6, 7);
-    for (uint8_t location = 0; location < 8; location++)
+    LINED(&f, GARLUVENI_THREADS, 0, 1, 2, 3, 4, 5, 6, 7, 8, 9, 10, 11, 12, 13, 14, 15);
+    for (uint8_t location = 0; location < GARLUVENI_LOCATIONS; location++)
         first_content(&f, location, 1);
-    for (uint8_t i = 0; i < 32; i++)
-        instruction(&f, i / 8, STORE, i % 8, i);
-    for (uint8_t location = 0; location < 8; location++)
+    for (uint8_t i = 0; i < INSTRUCTIONS; i++)
+        instruction(&f, i / GARLUVENI_INSTRUCTIONS, STORE, i % GARLUVENI_LOCATIONS, i);
+    for (uint8_t location = 0; location < GARLUVENI_LOCATIONS; location++)
         want(&f, location, 1);
-    for (uint8_t thread = 0; thread < 4; thread++)
-        passed(&f, thread, 8);
-    repeat(&f, "I0 I1 I2 I3", 8);
-    repeat(&f, "M0.0 M1.0 M2.0 M3.0", 8);
-    repeat(&f, "P0 P1 P2 P3 P4 P5 P6 P7", 4);
+    for (uint8_t thread = 0; thread < GARLUVENI_THREADS; thread++)
+        passed(&f, thread, GARLUVENI_INSTRUCTIONS);
+    repeat(&f, "I0 I1 I2 I3", GARLUVENI_INSTRUCTIONS);
+    repeat(&f, "M0.0 M1.0 M2.0 M3.0", GARLUVENI_INSTRUCTIONS);
+    repeat(&f, "P0 P1 P2 P3 P4 P5 P6 P7 P8 P9 P10 P11 P12 P13 P14 P15", GARLUVENI_THREADS);
 }
 
 static void reading_refusals(void)
@@ -240,15 +253,37 @@ static void reading_refusals(void)
     want(&f, X, 1);
     REFUSED(&f, GARLUVENI_RISING, 17);
     program(&f, 1, 1);
-    for (int i = 0; i < 9; i++)
-        instruction(&f, 0, SFENCE, 0, 0);
-    REFUSED(&f, GARLUVENI_INSTRUCTION, 104);
+    fences(0, 17);
+    REFUSED(&f, GARLUVENI_INSTRUCTION, 200);
     program(&f, 1, 1);
     first_content(&f, X, 0);
     REFUSED(&f, GARLUVENI_UNUSED, 8);
     program(&f, 1, 1);
-    repeat(&f, "I0", 97);
-    REFUSED(&f, GARLUVENI_STEP, 776);
+    repeat(&f, "I0", 193);
+    REFUSED(&f, GARLUVENI_STEP, 1544);
+}
+
+/* The most of each thing is read, and one more refused. */
+static void most_of_each(void)
+{
+    program(&f, 1, 1);
+    fences(0, GARLUVENI_INSTRUCTIONS);
+    JUDGES(&f, GARLUVENI_LEGAL, 0);
+    program(&f, GARLUVENI_THREADS, GARLUVENI_LOCATIONS);
+    JUDGES(&f, GARLUVENI_LEGAL, 0);
+    program(&f, GARLUVENI_THREADS + 1, GARLUVENI_LOCATIONS);
+    REFUSED(&f, GARLUVENI_RANGE, 0);
+    program(&f, GARLUVENI_THREADS, GARLUVENI_LOCATIONS + 1);
+    REFUSED(&f, GARLUVENI_RANGE, 0);
+    program(&f, 1, 1);
+    run(&f, "M0.15");
+    JUDGES(&f, GARLUVENI_NO_ENTRY, 0);
+    program(&f, 1, 1);
+    run(&f, "M0.16");
+    REFUSED(&f, GARLUVENI_RANGE, 8);
+    program(&f, 1, 1);
+    repeat(&f, "P0", GARLUVENI_STEPS);
+    JUDGES(&f, GARLUVENI_QUEUE_EMPTY, 0);
 }
 
 /* A store of the register and a compare need one that an earlier load, exchange or compare of the same thread sets. */
@@ -276,17 +311,15 @@ static void register_refusals(uint8_t operation)
     with_register(&f, 0, operation, X, 1);
     ADD(&f, 0, 0, 7, 0);
     REFUSED(&f, GARLUVENI_REGISTER, 8);
-    /* of an eighth instruction; a ninth is one too many */
+    /* of the last instruction that there may be; the next is one too many */
     program(&f, 4, 1);
-    for (int i = 0; i < 7; i++)
-        instruction(&f, 3, SFENCE, 0, 0);
+    fences(3, GARLUVENI_INSTRUCTIONS - 1);
     with_register(&f, 3, operation, X, 3);
-    REFUSED(&f, GARLUVENI_REGISTER, 92);
+    REFUSED(&f, GARLUVENI_REGISTER, 188);
     program(&f, 4, 1);
-    for (int i = 0; i < 8; i++)
-        instruction(&f, 3, SFENCE, 0, 0);
+    fences(3, GARLUVENI_INSTRUCTIONS);
     with_register(&f, 3, operation, X, 3);
-    REFUSED(&f, GARLUVENI_INSTRUCTION, 104);
+    REFUSED(&f, GARLUVENI_INSTRUCTION, 200);
 }
 
 /* What a load or an exchange sets may be compared and stored; 5, 8 and 6 of the same record come before 10. */
@@ -375,15 +408,36 @@ static void blockers(void)
     instruction(&f, 1, FLUSH_OPT, X, 0);
     run(&f, "I1 M1.0 I0 I0 I0 M0.0 M0.0 M0.0");
     BLOCKED(&f, GARLUVENI_MARKER_LEFT, 7, GARLUVENI_IN_QUEUE, X, 1);
-    LINED(&f, 1, 0, 1, 2, 3, 4, 5, 6, 7);
-    instruction(&f, 0, FLUSH_OPT, 7, 0);
+    LINED(&f, 1, 0, 1, 2, 3, 4, 5, 6, 7, 8, 9, 10, 11, 12, 13, 14, 15);
+    instruction(&f, 0, FLUSH_OPT, 15, 0);
     instruction(&f, 0, EXCHANGE, X, 5);
     run(&f, "I0 M0.0 I0");
-    BLOCKED(&f, GARLUVENI_MARKER_QUEUED, 2, GARLUVENI_IN_QUEUE, 7, 0);
-    uint32_t third = blocker(GARLUVENI_IN_QUEUE, 7, 2);
+    BLOCKED(&f, GARLUVENI_MARKER_QUEUED, 2, GARLUVENI_IN_QUEUE, 15, 0);
+    uint32_t third = blocker(GARLUVENI_IN_QUEUE, 15, 2);
     CHECK(garluveni_blocker_in(third) == GARLUVENI_IN_QUEUE);
-    CHECK(garluveni_blocker_number(third) == 7);
+    CHECK(garluveni_blocker_number(third) == 15);
     CHECK(garluveni_blocker_position(third) == 2);
+}
+
+/* The last positions: of a buffer that all of a thread fills, and of a queue that all but a fence go into. */
+static void last_blockers(void)
+{
+    program(&f, 1, 2);
+    for (int i = 0; i < 14; i++)
+        instruction(&f, 0, STORE, Y, 5);
+    instruction(&f, 0, STORE, X, 5);
+    instruction(&f, 0, FLUSH_OPT, X, 0);
+    repeat(&f, "I0", 16);
+    run(&f, "M0.15");
+    BLOCKED(&f, GARLUVENI_BARRED, 16, GARLUVENI_IN_BUFFER, 0, 14);
+    program(&f, 4, 1);
+    for (uint8_t i = 0; i < INSTRUCTIONS - 2; i++)
+        instruction(&f, i / GARLUVENI_INSTRUCTIONS, STORE, X, 5);
+    instruction(&f, 3, FLUSH_OPT, X, 0);
+    instruction(&f, 3, SFENCE, 0, 0);
+    repeat(&f, "I0 M0.0 I1 M1.0 I2 M2.0", 16);
+    repeat(&f, "I3 M3.0", 16);
+    BLOCKED(&f, GARLUVENI_MARKER_LEFT, 127, GARLUVENI_IN_QUEUE, 0, 62);
 }
 
 /* The start of a program whose compares are of X with 0, which X holds at first or not. */
@@ -510,14 +564,14 @@ static void lines(void)
     BLOCKED(&f, GARLUVENI_QUEUE_NOT_EMPTY, 3, GARLUVENI_IN_QUEUE, 0, 0);
 }
 
-/* A program record: outside 4 to 12, cut, out of place, out of range, another length than its own, out of order. */
+/* A program record: outside 4 to 20, cut, out of place, out of range, another length than its own, out of order. */
 static void line_refusals(void)
 {
     f.length = 0;
     ADD(&f, 3, 0, 1, 0, 2, 0, 1);
     REFUSED(&f, GARLUVENI_LENGTH, 0);
     f.length = 0;
-    ADD(&f, 13, 0, 1, 0, 2, 0, 1, 8, 0, 1, 2, 3, 4, 5, 6, 7, 0);
+    ADD(&f, 21, 0, 1, 0, 2, 0, 1, 16, 0, 1, 2, 3, 4, 5, 6, 7, 8, 9, 10, 11, 12, 13, 14, 15, 0);
     REFUSED(&f, GARLUVENI_LENGTH, 0);
     LINED(&f, 1, 0, 0);
     f.length -= 1;
@@ -593,27 +647,30 @@ static void compare_questions(void)
     ASKS(&f, 24, 3, GARLUVENI_UNREACHABLE, &none);
 }
 
-/* Full length 96, and the only run that reaches the question among the first is the first of that length. */
+/* The greatest full length, and the only run that reaches the question among the first is the first of that length. */
 static void deepest(void)
 {
     program(&f, 4, 4);
-    for (uint8_t i = 0; i < 32; i++)
-        instruction(&f, i / 8, i / 8 == Z ? FLUSH_OPT : STORE, i / 8, i / 8 == Z ? 0 : i % 8 + 1);
+    for (uint8_t i = 0; i < INSTRUCTIONS; i++) {
+        uint8_t thread = i / GARLUVENI_INSTRUCTIONS;
+        instruction(&f, thread, thread == Z ? FLUSH_OPT : STORE, thread,
+                    thread == Z ? 0 : i % GARLUVENI_INSTRUCTIONS + 1);
+    }
     steps.length = 0;
     for (uint8_t i = 0; i < 12; i++) {
         const char *each[] = {"I0", "I1", "I2", "I3", "M0.0", "M1.0", "M2.0", "M3.0", "P0", "P1", "P2", "P3"};
-        repeat(&steps, each[i], 8);
+        repeat(&steps, each[i], GARLUVENI_INSTRUCTIONS);
     }
 }
 
 static void depth(void)
 {
     deepest();
-    want(&f, W, 8);
+    want(&f, W, GARLUVENI_INSTRUCTIONS);
     ASKS(&f, GARLUVENI_STEPS_BYTES, GARLUVENI_STEPS, GARLUVENI_UNDECIDED, &none);
     lengths(GARLUVENI_STEPS_BYTES, GARLUVENI_STEPS + 1);
     deepest();
-    want(&f, W, 9);
+    want(&f, W, GARLUVENI_INSTRUCTIONS + 1);
     ASKS(&f, GARLUVENI_STEPS_BYTES, 20000, GARLUVENI_UNDECIDED, &none);
 }
 
@@ -630,12 +687,12 @@ static void empty_buffers(void)
     lengths(0, 1);
 }
 
-/* A million bytes: step records, the ninety-seventh of which is refused, and zeros, which have no kind. */
+/* A million bytes: step records, the 193rd of which is refused, and zeros, which have no kind. */
 static void million_bytes(void)
 {
     program(&f, 1, 1);
     repeat(&f, "P0", (MILLION - 8) / GARLUVENI_STEP_BYTES);
-    REFUSED(&f, GARLUVENI_STEP, 776);
+    REFUSED(&f, GARLUVENI_STEP, 1544);
     memset(f.bytes, 0, MILLION);
     REFUSED(&f, GARLUVENI_KIND, 0);
     outage();
@@ -656,12 +713,14 @@ static void thousand_calls(void)
 int main(void)
 {
     reading_refusals();
+    most_of_each();
     register_refusals(STORE_REGISTER);
     register_refusals(COMPARE);
     registers_set();
     issue_rules();
     move_rules();
     blockers();
+    last_blockers();
     compare_rules(0);
     compare_rules(7);
     compare_runs();

@@ -11,7 +11,7 @@ abbrev pub mostInput : ℕ
 mostInput = 65536
 
 abbrev pub mostRoom : ℕ
-mostRoom = 2048
+mostRoom = 8192
 
 abbrev pub stateBytes : ℕ
 stateBytes =

@@ -5,7 +5,7 @@ ghost use lib.ListN.{length};
 ghost use Rattle.batch.specs.Sizes.{mostRoom};
 
 // The most bytes that are printed at once.
-pub const ROOM: usize = 2048;
+pub const ROOM: usize = 8192;
 
 // Two digits for each.
 const TEXT: usize = 2 * ROOM;

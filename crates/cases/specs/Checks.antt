@@ -152,8 +152,8 @@ pub record Limits : Type 0 where
 abbrev pub limitsOf : Program → Limits
 limitsOf p = record { threads = p .threads; lines = linesOf p }
 
--- "Step codes: 0 issue (thread); 1 move (thread, position 0 to 7); 2 persist (location)." A persist names a
--- queue, by its number.
+-- "Step codes: 0 issue (thread); 1 move (thread, position ..); 2 persist (location)." P6: "Position goes to 15", a
+-- thread's most instructions less one. A persist names a queue, by its number.
 unfoldable pub stepOut : Limits → Step → Bool
 stepOut limits k =
     either (ltb lastCode (k .code))

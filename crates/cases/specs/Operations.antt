@@ -1,7 +1,7 @@
 -- Document 01, "Operations (fields used): 1 store word (location, word); 2 store register (location, register);
 -- 3 load (location, register); 4 exchange (location, register, word: writes the word, the register takes the
 -- old one); 5 flush (location); 6 flush-opt (location); 7 sfence; 8 mfence. Step codes: 0 issue (thread); 1
--- move (thread, position 0 to 7); 2 persist (location)." Document 02, P5: "Operation 9: location, register,
+-- move (thread, position ..); 2 persist (location)." Document 02, P5: "Operation 9: location, register,
 -- word", compare and swap. Their numbers stand here and nowhere else of the definitions; src/operations.rt has
 -- the same for the code.
 --   storeWord, storeRegister, load, exchange, flush, flushOpt, sfence, mfence, compare

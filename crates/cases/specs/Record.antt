@@ -3,7 +3,7 @@
 --   payloadOf k        how long the payload of kind k is at least; 0: there is no such kind
 --   spareOf k          how much longer it may be: a line byte for each location, of kind 1
 --   mislong k n        a payload of n bytes is shorter or longer than one of kind k may be
---   rowList x, asRow xs   eight bytes, one by one, and such a list as eight bytes
+--   rowList x, asRow xs   a byte for each location, one by one, and such a list as these bytes
 --   lineBytes h        the line bytes of a program's record
 --   recordBytes r      the record's bytes: "a two-byte payload length, a two-byte kind, the payload"
 --   payloadBytes r     its payload's
@@ -60,7 +60,9 @@ unfoldable pub mislong : ℕ → ℕ → Bool
 mislong k n = either (ltb n (payloadOf k)) (ltb (spareOf k) (n - payloadOf k))
 
 abbrev pub rowList : Row → List ℕ
-rowList x = x .0 ∷ x .1 ∷ x .2 ∷ x .3 ∷ x .4 ∷ x .5 ∷ x .6 ∷ x .7 ∷ []
+rowList x =
+    x .0 ∷ x .1 ∷ x .2 ∷ x .3 ∷ x .4 ∷ x .5 ∷ x .6 ∷ x .7
+    ∷ x .8 ∷ x .9 ∷ x .10 ∷ x .11 ∷ x .12 ∷ x .13 ∷ x .14 ∷ x .15 ∷ []
 
 unfoldable pub asRow : List ℕ → Row
 asRow xs =
@@ -73,6 +75,14 @@ asRow xs =
       5 = getD xs 5 0;
       6 = getD xs 6 0;
       7 = getD xs 7 0;
+      8 = getD xs 8 0;
+      9 = getD xs 9 0;
+      10 = getD xs 10 0;
+      11 = getD xs 11 0;
+      12 = getD xs 12 0;
+      13 = getD xs 13 0;
+      14 = getD xs 14 0;
+      15 = getD xs 15 0;
     }
 
 unfoldable pub lineBytes : Header → List ℕ

@@ -1,4 +1,5 @@
--- Document 01, "Sizes": the most of each thing. src/sizes.rt has the same numbers for the code.
+-- Document 01, "Sizes", and 02, P6: "Sixteen instructions a thread, sixteen locations, 192 step records." The most of
+-- each thing; src/sizes.rt has the same numbers for the code.
 --   mostThreads, mostLocations, mostSteps        of a case
 --   mostInstructions, mostRegisters              of a thread
 --   allCode         all threads' instructions
@@ -13,16 +14,16 @@ abbrev pub mostThreads : ℕ
 mostThreads = 4
 
 abbrev pub mostInstructions : ℕ
-mostInstructions = 8
+mostInstructions = 16
 
 abbrev pub mostLocations : ℕ
-mostLocations = 8
+mostLocations = 16
 
 abbrev pub mostRegisters : ℕ
 mostRegisters = 4
 
 abbrev pub mostSteps : ℕ
-mostSteps = 96
+mostSteps = 192
 
 -- all threads' instructions, one thread's behind the other's
 abbrev pub allCode : ℕ

@@ -54,6 +54,14 @@ pub struct Row(
     pub u8,
     pub u8,
     pub u8,
+    pub u8,
+    pub u8,
+    pub u8,
+    pub u8,
+    pub u8,
+    pub u8,
+    pub u8,
+    pub u8,
 );
 
 // `listed`: how many line bytes stand in the record; `line`: those bytes, 0 behind them.
@@ -136,13 +144,47 @@ fn is_mislong(kind: u16, n: u16) -> bool
 pub(crate) fn row_list(x: Row) -> [u8; LOCATIONS]
     ensures { λ r. ⌜ r ≡ rowList x ⌝ }
 {
-    [x.0, x.1, x.2, x.3, x.4, x.5, x.6, x.7]
+    [
+        x.0,
+        x.1,
+        x.2,
+        x.3,
+        x.4,
+        x.5,
+        x.6,
+        x.7,
+        x.8,
+        x.9,
+        x.10,
+        x.11,
+        x.12,
+        x.13,
+        x.14,
+        x.15,
+    ]
 }
 
 pub(crate) fn as_row(a: [u8; LOCATIONS]) -> Row
     ensures { λ r. ⌜ r ≡ asRow a ⌝ }
 {
-    Row(a[0], a[1], a[2], a[3], a[4], a[5], a[6], a[7])
+    Row(
+        a[0],
+        a[1],
+        a[2],
+        a[3],
+        a[4],
+        a[5],
+        a[6],
+        a[7],
+        a[8],
+        a[9],
+        a[10],
+        a[11],
+        a[12],
+        a[13],
+        a[14],
+        a[15],
+    )
 }
 
 // The line bytes of a program's record, 0 behind them.

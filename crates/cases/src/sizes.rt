@@ -1,14 +1,14 @@
-// Document 01, "Sizes": the most of each thing. specs/Sizes.antt has the same numbers for the definitions.
+// Document 01, "Sizes", and 02, P6: the most of each thing. specs/Sizes.antt has the same numbers for the definitions.
 
 pub const THREADS: usize = 4;
 
-pub const INSTRUCTIONS: usize = 8;
+pub const INSTRUCTIONS: usize = 16;
 
-pub const LOCATIONS: usize = 8;
+pub const LOCATIONS: usize = 16;
 
 pub const REGISTERS: usize = 4;
 
-pub const STEPS: usize = 96;
+pub const STEPS: usize = 192;
 
 // All threads' instructions, one thread's behind the other's.
 pub const CODE: usize = THREADS * INSTRUCTIONS;

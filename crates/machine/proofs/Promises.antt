@@ -133,7 +133,7 @@ module _ (p : Program) (fits : ProgramFits p) where
   pub start-fits : Fits p (startOf p)
   start-fits = StartLaws.start-fits p fits
 
-  -- "The sum at the start is the program's full length, at most 96."
+  -- "The sum at the start is the program's full length, at most 96." With P6 192.
   pub full-length-most : fullLength (ptso p) ≤ mostWork
   full-length-most = StartLaws.full-most p fits
 

@@ -77,7 +77,7 @@ unfoldable pub instructionsOf : Program → ℕ
 instructionsOf p = sumTo mostThreads (countAt p)
 
 -- "more issued than the thread has"; an entry "that stands in the buffer .. of .. a thread .. the program
--- lacks"; "a store buffer's entries plus that thread's unissued instructions above 8"
+-- lacks"; "a store buffer's entries plus that thread's unissued instructions above 8", with P6 16
 unfoldable pub threadMisfits : Program → State → ℕ → Bool
 threadMisfits p s t =
     either (ltb (countAt p t) (issuedOf s t))
@@ -92,7 +92,7 @@ foreign p q m =
     (leb (markOf (p .threads)) m)
 
 -- "any entry in the queue of a line the program lacks"; "a queue's entries plus all entries in store buffers plus
--- all unissued instructions above 32"; an entry that does not belong there
+-- all unissued instructions above 32", with P6 64; an entry that does not belong there
 unfoldable pub queueMisfits : Program → State → ℕ → Bool
 queueMisfits p s q =
     either (both (leb (linesOf p) q) (ltb 0 (queueLen s q)))

@@ -166,7 +166,7 @@ persistFirst s q (h ∷ rest) = withQueue (settled s h) q rest
 unfoldable pub persistOf : State → ℕ → State
 persistOf s q = persistFirst s q (queue s q)
 
--- "Step codes: 0 issue (thread); 1 move (thread, position 0 to 7); 2 persist (location)."
+-- "Step codes: 0 issue (thread); 1 move (thread, position ..); 2 persist (location)."
 unfoldable pub ruleIn : Program → Parts → Step → ℕ
 ruleIn p x k =
     pick (eqb (k .code) issue) (issueRule p x (k .thread .0))

@@ -128,14 +128,14 @@ bothLoadZero =
     ∷ persist 0 ∷ persist 1 ∷ persist 2 ∷ persist 3 ∷ []))
     ∷ []
 
--- "Eight instructions read, nine: 7. Ninety-six steps read, ninety-seven: 9." Behind the program's 8 bytes an
--- instruction takes 12, a step 8.
+-- P6: "Sixteen instructions read, seventeen: 7. A hundred and ninety-two steps read, 193: 9." Behind the program's 8
+-- bytes an instruction takes 12, a step 8.
 abbrev mostOfEach : List Row
 mostOfEach =
-    opened (threads 1 ∷ replicate 8 (store 0 x 500)) 0 104
-    ∷ opened (threads 1 ∷ replicate 9 (store 0 x 500)) 7 104
-    ∷ opened (threads 1 ∷ taking (replicate 96 (issue 0))) 0 776
-    ∷ opened (threads 1 ∷ taking (replicate 97 (issue 0))) 9 776
+    opened (threads 1 ∷ replicate 16 (store 0 x 500)) 0 200
+    ∷ opened (threads 1 ∷ replicate 17 (store 0 x 500)) 7 200
+    ∷ opened (threads 1 ∷ taking (replicate 192 (issue 0))) 0 1544
+    ∷ opened (threads 1 ∷ taking (replicate 193 (issue 0))) 9 1544
     ∷ []
 
 -- P3: "x, y on line 0, z on line 1 unless said otherwise"
@@ -256,15 +256,15 @@ eitherTakes =
 
 -- P8: "A store from a register that no earlier load, exchange or compare of that thread has written .., and a compare
 -- on such a register too. Refuse it with 10 at that instruction, checked after 7." Nothing before it; only another
--- thread's load; only a later one; the eighth; the ninth. Behind a load, an exchange, a load and a compare they read.
+-- thread's load; only a later one; the last that there may be; one more. Behind a load, an exchange, a load and a compare they read.
 abbrev unsetRegister : List Row
 unsetRegister =
     opened (threads 1 ∷ storeRegister 0 x ∷ []) 10 8
     ∷ opened (threads 1 ∷ compare 0 x 7 ∷ []) 10 8
     ∷ opened (threads 2 ∷ load 0 y ∷ storeRegister 1 x ∷ []) 10 20
     ∷ opened (threads 1 ∷ storeRegister 0 x ∷ load 0 y ∷ []) 10 8
-    ∷ opened (threads 1 ∷ replicate 7 (store 0 x 500) ++ (storeRegister 0 x ∷ [])) 10 92
-    ∷ opened (threads 1 ∷ replicate 8 (store 0 x 500) ++ (storeRegister 0 x ∷ [])) 7 104
+    ∷ opened (threads 1 ∷ replicate 15 (store 0 x 500) ++ (storeRegister 0 x ∷ [])) 10 188
+    ∷ opened (threads 1 ∷ replicate 16 (store 0 x 500) ++ (storeRegister 0 x ∷ [])) 7 200
     ∷ opened (threads 1 ∷ load 0 y ∷ storeRegister 0 x ∷ []) 0 32
     ∷ opened (threads 1 ∷ exchange 0 y 7 ∷ storeRegister 0 x ∷ []) 0 32
     ∷ opened (threads 1 ∷ load 0 y ∷ compare 0 x 7 ∷ storeRegister 0 x ∷ []) 0 44

@@ -100,7 +100,7 @@ module _ (p : Program) (g : ProgramFits p) where
         borne = λ q h. rw (no-marks p q) (unfold AllOf in tt);
       }
 
--- "The sum at the start is the program's full length, at most 96."
+-- "The sum at the start is the program's full length, at most 96." With P6 192.
 module _ (p : Program) (g : ProgramFits p) where
   start-thread : (t : ℕ) → t < mostThreads → threadWork p (startOf p) t ≤ 3 * mostInstructions
   unfolding threadWork unissuedCode

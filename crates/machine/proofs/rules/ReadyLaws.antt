@@ -31,7 +31,7 @@ use Rattle.machine.proofs.steps.StepFaultLaws.{fault-none}
 use Rattle.machine.proofs.steps.IssueLaws.{issue-left}
 use Rattle.machine.proofs.steps.StepLaws.{move-there, move-named, persist-there}
 
--- what names one of a program's locations names one of eight
+-- what names one of a program's locations names one of those that there may be
 named-low : (n : ℕ) (e : Entry) → n ≤ mostLocations → Named n e → Named mostLocations e
 unfolding Named
 named-low n (Store w) h a = omega arith

@@ -43,7 +43,7 @@ rule-low p s k = go (rule-table p s k)
     go (inl e) = omega arith
     go (inr e) = let h = e .1 in omega arith
 
--- a run of 96 steps at most: the place is their number, or an index below it
+-- of a run that a file can hold the place is the number of its steps, or an index below it
 run-low : (p : Program) (s : State) (ks : List Step) → length ks ≤ mostSteps
     → Low (judgeFrom (ptso p) 0 s ks .verdict)
 run-low p s ks h = go (leads-or-stops (ptso p) s ks)

@@ -29,6 +29,30 @@ array-read-t23 c = search needs
 array-read-t26 : tie.Need-array-read-t26
 array-read-t26 c = search needs
 
+array-read-t29 : tie.Need-array-read-t29
+array-read-t29 c = search needs
+
+array-read-t32 : tie.Need-array-read-t32
+array-read-t32 c = search needs
+
+array-read-t35 : tie.Need-array-read-t35
+array-read-t35 c = search needs
+
+array-read-t38 : tie.Need-array-read-t38
+array-read-t38 c = search needs
+
+array-read-t41 : tie.Need-array-read-t41
+array-read-t41 c = search needs
+
+array-read-t44 : tie.Need-array-read-t44
+array-read-t44 c = search needs
+
+array-read-t47 : tie.Need-array-read-t47
+array-read-t47 c = search needs
+
+array-read-t50 : tie.Need-array-read-t50
+array-read-t50 c = search needs
+
 returns : tie.Need-returns
 unfolding asRow
 returns c = search (choices, needs)
@@ -45,4 +69,12 @@ as-row-spec =
     array-read-t20
     array-read-t23
     array-read-t26
+    array-read-t29
+    array-read-t32
+    array-read-t35
+    array-read-t38
+    array-read-t41
+    array-read-t44
+    array-read-t47
+    array-read-t50
     returns)
