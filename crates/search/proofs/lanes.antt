@@ -15,7 +15,7 @@ pub mod TagLaws
 pub mod LayLaws
 -- even, length: rows of two lanes an entry, where one joins or leaves
 pub mod EvenLaws
--- row: what an entry that joins a row, leaves one or goes to another makes of a view
+-- padded: how many lanes there are; row: what an entry that joins a row, leaves one or goes to another makes of a view
 pub mod LayRowLaws
 -- split, seenOf, row, long, even, entries, few, lay: of a state
 pub mod StateLaws
@@ -41,7 +41,7 @@ pub mod IssueLanesLaws
 pub mod MoveLanesLaws
 -- persist: a persist over the lanes of a state
 pub mod PersistLanesLaws
--- Kinds, few, step: a step over the lanes of a state, and what the code asks of it
+-- Kinds, few, lanes, step: a step over the lanes of a state, and what the code asks of it
 pub mod StepLanesLaws
 -- alike: equal lanes
 pub mod AlikeLaws

@@ -84,9 +84,7 @@ headerFront h n =
     (4 + n) ∷ 0 ∷ 1 ∷ 0 ∷ h .version % 256 ∷ h .version / 256 % 256 ∷ h .threads ∷ h .locations ∷ 0 ∷ 0 ∷ 0 ∷ 0 ∷ []
 
 abbrev headerStart : Header → ℕ → List ℕ
-headerStart h n =
-    (4 + n) ∷ 0 ∷ 1 ∷ 0 ∷ h .version % 256 ∷ h .version / 256 % 256 ∷ h .threads ∷ h .locations
-    ∷ replicate mostLocations 0
+headerStart h n = headerFront h n ++ replicate (longestRecord - shortRecord) 0
 
 -- and when they are
 module _ (h : Header) (n : ℕ) (is : n ≡ length (lineBytes h)) where
