@@ -160,7 +160,8 @@ mod tests {
         let next = Some(vec![MOVE, PERSIST, PERSIST, MOVE]);
         assert_eq!(settled(&[MOVE; 2], "28 6 0 6| Q0.1"), (next, vec![]));
         // a program that never passes anything does not keep the front door trying
-        assert_eq!(settled(&[PERSIST; 91], "28 9 0 6| Q0.0").0, None);
-        assert!(settled(&[PERSIST; 90], "28 9 0 6| Q0.0").0.is_some());
+        let full = [PERSIST; sizes::STEPS - 5];
+        assert_eq!(settled(&full, "28 9 0 6| Q0.0").0, None);
+        assert!(settled(&full[1..], "28 9 0 6| Q0.0").0.is_some());
     }
 }

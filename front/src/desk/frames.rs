@@ -7,10 +7,10 @@ use crate::sizes;
 use crate::story::{blocker::Place, state::State};
 
 /// Reading looks at no byte behind the longest file and one record more, so that a longer file is answered by so many.
-const MOST_INPUT: usize = 2048;
+const MOST_INPUT: usize = sizes::LONGEST + sizes::LONGEST_RECORD;
 const JUDGE: u32 = 2_147_483_648;
 const QUESTION: u32 = JUDGE + 3;
-const RECORD: usize = 8;
+const RECORD: usize = sizes::STEP_RECORD;
 
 #[derive(Clone, Debug, PartialEq, Eq)]
 pub enum Asked {

@@ -1,6 +1,7 @@
 //! A case as records, and records that the proved reader has taken as a case. docs/FORMAT.md has the records.
 
 use crate::case::{Case, Instruction, Step};
+use crate::sizes;
 use crate::text::layout::NAMES;
 
 /// Whether a file is records: its first record's kind is that of a program. No text has a zero byte.
@@ -108,7 +109,8 @@ fn put_steps(out: &mut Vec<u8>, run: &[Step]) {
 /// A case of records that the proved reader has taken. It tests nothing, and is asked of no other bytes.
 pub fn case_of(bytes: &[u8]) -> Case {
     let byte = |at: usize| bytes.get(at).copied().unwrap_or(0);
-    let (threads, locations) = (byte(6).min(4) as usize, byte(7).min(8) as usize);
+    let count = |at: usize, most: usize| (byte(at) as usize).min(most);
+    let (threads, locations) = (count(6, sizes::THREADS), count(7, sizes::LOCATIONS));
     let version = byte(4);
     let line = |at: usize| if version == 1 { at as u8 } else { byte(8 + at) };
     let mut case = Case {

@@ -1,5 +1,7 @@
 //! The colours and letters of the picture, for light and for dark: each rule is written once, with names for the colours.
 
+use crate::sizes;
+
 /// A colour's name, then what it is in light and in dark. Text on any ground it is used on has a contrast of 4.5 to 1 or more.
 const COLOURS: [(&str, &str, &str); 13] = [
     ("$ground", "#ffffff", "#0e1318"),
@@ -18,7 +20,7 @@ const COLOURS: [(&str, &str, &str); 13] = [
 ];
 
 /// The locations' colours, by number.
-const LOCATIONS: [(&str, &str); 8] = [
+const LOCATIONS: [(&str, &str); sizes::LOCATIONS] = [
     ("#1c5fc2", "#7db9ff"),
     ("#a84a00", "#ffb45c"),
     ("#1a7538", "#72d68c"),
@@ -27,7 +29,18 @@ const LOCATIONS: [(&str, &str); 8] = [
     ("#b01660", "#ff9ec4"),
     ("#666000", "#dad45e"),
     ("#4a5868", "#b9c5d2"),
+    ("#241a8f", "#8694ff"),
+    ("#9c0b9d", "#f65df5"),
+    ("#6b2410", "#d68b3c"),
+    ("#0c5413", "#35c04a"),
+    ("#5c0f52", "#c686b6"),
+    ("#0a4a63", "#45a8ce"),
+    ("#544600", "#a3a838"),
+    ("#2d2be0", "#bb7cff"),
 ];
+
+/// So many of these every picture has, so that the picture of a small case is the same however many a case may have.
+const LEAST: usize = 8;
 
 const RULES: &str = "
 .run .ground{fill:$ground}.run .panel{fill:$panel}.run .again{fill:$again}
@@ -67,49 +80,59 @@ const SHAPES: &str = "
 .run .gone .box{stroke-dasharray:4 3}.run .gone text{text-decoration:line-through}
 ";
 
-pub fn style() -> String {
-    let light = paint(|(name, light, _)| (name, light), |(light, _)| light);
-    let dark = paint(|(name, _, dark)| (name, dark), |(_, dark)| dark);
+/// For a case of so many locations.
+pub fn style(count: usize) -> String {
+    let own = locations(count);
+    let light = paint(own, |(name, light, _)| (name, light), |(light, _)| light);
+    let dark = paint(own, |(name, _, dark)| (name, dark), |(_, dark)| dark);
     format!("<style>{SHAPES}{light}@media (prefers-color-scheme:dark){{{dark}}}\n</style>")
 }
 
 /// The same colours as variables, for a page around the picture.
-pub fn variables() -> String {
-    let light = declare(|(_, light, _)| light, |(light, _)| light);
-    let dark = declare(|(_, _, dark)| dark, |(_, dark)| dark);
-    let own: String = (0..LOCATIONS.len())
+pub fn variables(count: usize) -> String {
+    let own = locations(count);
+    let light = declare(own, |(_, light, _)| light, |(light, _)| light);
+    let dark = declare(own, |(_, _, dark)| dark, |(_, dark)| dark);
+    let classes: String = (0..own.len())
         .map(|at| format!(".c{at}{{--c:var(--c{at})}}"))
         .collect();
-    format!(":root{{{light}}}\n@media (prefers-color-scheme:dark){{:root{{{dark}}}}}\n{own}")
+    format!(":root{{{light}}}\n@media (prefers-color-scheme:dark){{:root{{{dark}}}}}\n{classes}")
+}
+
+fn locations(count: usize) -> &'static [Pair] {
+    &LOCATIONS[..count.clamp(LEAST, LOCATIONS.len())]
 }
 
 fn declare(
+    own: &[Pair],
     colour: impl Fn(Colour) -> &'static str,
-    location: impl Fn((&'static str, &'static str)) -> &'static str,
+    location: impl Fn(Pair) -> &'static str,
 ) -> String {
     let named = COLOURS
         .into_iter()
         .map(|one| format!("--{}:{};", &one.0[1..], colour(one)));
-    let numbered = LOCATIONS.into_iter().enumerate();
+    let numbered = own.iter().enumerate();
     named
-        .chain(numbered.map(|(at, pair)| format!("--c{at}:{};", location(pair))))
+        .chain(numbered.map(|(at, pair)| format!("--c{at}:{};", location(*pair))))
         .collect()
 }
 
 type Colour = (&'static str, &'static str, &'static str);
+type Pair = (&'static str, &'static str);
 
 /// The rules with the colours put in.
 fn paint(
-    colour: impl Fn(Colour) -> (&'static str, &'static str),
-    location: impl Fn((&'static str, &'static str)) -> &'static str,
+    own: &[Pair],
+    colour: impl Fn(Colour) -> Pair,
+    location: impl Fn(Pair) -> &'static str,
 ) -> String {
     let pairs = COLOURS.into_iter().map(colour);
-    let own = |(number, pair): (usize, _)| {
+    let rules = |(number, pair): (usize, &Pair)| {
         LOCATION
             .replace('#', &number.to_string())
-            .replace("$c", location(pair))
+            .replace("$c", location(*pair))
     };
-    let locations: String = LOCATIONS.into_iter().enumerate().map(own).collect();
+    let locations: String = own.iter().enumerate().map(rules).collect();
     locations
         + &pairs.fold(RULES.to_string(), |rules, (name, value)| {
             rules.replace(name, value)

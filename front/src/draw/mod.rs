@@ -46,7 +46,7 @@ pub fn width(story: &Story) -> i32 {
 fn framed(plan: &Plan, height: i32, drawn: &str) -> String {
     let width = plan.width;
     let (title, desc) = (escape(&title(plan)), escape(&telling(plan)));
-    let style = look::style();
+    let style = look::style(plan.bands.len());
     format!(
         r#"<svg xmlns="http://www.w3.org/2000/svg" class="run" role="img" aria-labelledby="run-title run-desc"
  width="{width}" height="{height}" viewBox="0 0 {width} {height}">
@@ -214,6 +214,23 @@ mod tests {
         assert!(drawn.contains("P1 is not possible here") && drawn.contains("breaks rule 29"));
         assert!(!drawn.contains("POWER CUT") && !drawn.contains("chip gone"));
         assert!(!drawn.contains("in the way"));
+    }
+
+    #[test]
+    fn a_position_that_is_beyond_its_column_has_its_cross_at_the_edge() {
+        let mut story = outage();
+        story.answer = Answer::Illegal {
+            index: 5,
+            rule: 24,
+            blocker: None,
+        };
+        story.run.push(crate::case::Step::Move {
+            thread: 0,
+            position: 15,
+        });
+        let (drawn, plan) = (svg(&story), Plan::new(&story));
+        let (left, top) = (plan.buffers[0].left + 5, plan.bottom() - 13);
+        assert!(drawn.contains(&format!("M{left} {top}l10 10m0 -10l-10 10")));
     }
 
     #[test]

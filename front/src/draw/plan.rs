@@ -20,9 +20,13 @@ const PITCH: i32 = 13;
 const GAP: i32 = 3;
 /// What a chip may need on its left, the head of the arrow that leads to it, and on its right, an arrow to memory.
 const STUB: i32 = 12;
+/// The width of a step as the programs print it.
+const CODE: i32 = 50;
 /// What stands below the last step, so that its end is seen.
 const TAIL: i32 = 16;
 const LEAST_WIDTH: i32 = 340;
+/// A picture that is wider has the steps at its right side too, and sentences that are not as wide as it is.
+const WIDE: i32 = 1600;
 
 /// A buffer's or a queue's place. Position 0, the oldest entry, has the lane at the right: entries go from left to right.
 #[derive(Clone, Copy)]
@@ -82,7 +86,8 @@ pub struct Plan<'a> {
     pub failed: Vec<(usize, Compared)>,
     /// The number of legal steps.
     pub legal: usize,
-    /// The width of the steps' labels.
+    /// The width of the steps' numbers, and of their whole labels.
+    pub numbers: i32,
     pub labels: i32,
     pub buffers: Vec<Column>,
     /// By cache line.
@@ -90,6 +95,8 @@ pub struct Plan<'a> {
     /// By location.
     pub bands: Vec<Band>,
     pub width: i32,
+    /// Where the steps stand: at the left, and perhaps at the right.
+    pub sides: Vec<i32>,
     pub verdict: Vec<String>,
     /// The top of the columns' heads.
     pub top: i32,
@@ -102,19 +109,27 @@ impl<'a> Plan<'a> {
             lives: lives::lives(story),
             failed: compares::failed(story).collect(),
             legal: story.states.len().saturating_sub(1).min(story.run.len()),
+            numbers: 0,
             labels: 0,
             buffers: Vec::new(),
             queues: Vec::new(),
             bands: Vec::new(),
             width: 0,
+            sides: vec![MARGIN],
             verdict: Vec::new(),
             top: 0,
         };
+        plan.numbers = 7 * columns(&plan.legal.to_string()).max(2) + 6;
         plan.labels = plan.label_width();
         plan.place_columns();
-        plan.verdict = wrap(&words::verdict(story), 16, plan.width - 2 * MARGIN);
+        plan.verdict = wrap(&words::verdict(story), 16, plan.reading());
         plan.top = 50 + 21 * plan.verdict.len() as i32;
         plan
+    }
+
+    /// How wide its sentences are.
+    pub fn reading(&self) -> i32 {
+        self.width.min(WIDE) - 2 * MARGIN
     }
 
     /// The life that a step touches.
@@ -132,7 +147,7 @@ impl<'a> Plan<'a> {
 
     fn label_width(&self) -> i32 {
         let deeds = (0..self.legal).map(|index| small_width(&self.deed(index, words::SHORT)));
-        deeds.max().unwrap_or(0).max(70) + 4
+        deeds.max().unwrap_or(0).max(self.numbers + CODE) + 4
     }
 
     fn place_columns(&mut self) {
@@ -153,6 +168,10 @@ impl<'a> Plan<'a> {
         }
         self.queues = self.buffers.split_off(threads);
         self.width = left - GAP + MARGIN;
+        if self.width > WIDE {
+            self.sides.push(self.width);
+            self.width += self.numbers + CODE + MARGIN;
+        }
         self.place_bands(&lines);
     }
 

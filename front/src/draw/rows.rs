@@ -91,8 +91,10 @@ pub fn labels(ink: &mut Ink, plan: &Plan) {
     for row in 0..plan.legal {
         let top = plan.row_top(row);
         let step = layout::short_step(&plan.story.run[row]);
-        ink.text(MARGIN, top + 18, "soft mono", &(row + 1).to_string());
-        ink.text(MARGIN + 20, top + 18, "step mono", &step);
+        for left in &plan.sides {
+            ink.text(*left, top + 18, "soft mono", &(row + 1).to_string());
+            ink.text(left + plan.numbers, top + 18, "step mono", &step);
+        }
         let (deed, full) = (plan.deed(row, words::SHORT), plan.deed(row, words::FULL));
         ink.told_text(MARGIN, top + ROW - 9, "deed", &deed, &full);
     }

@@ -1,7 +1,7 @@
 //! The end of a run that is not legal: the step that is not possible, and the entry that is in its way.
 
 use super::close::STRIP;
-use super::ink::{chip_width, wrap, Ink, CHIP_HEIGHT, CHIP_OVER};
+use super::ink::{chip_width, wrap, Ink, CHIP_HEIGHT, CHIP_OVER, CROSS};
 use super::lines::look;
 use super::plan::{Column, Plan, MARGIN};
 use super::words;
@@ -33,9 +33,7 @@ pub fn draw(ink: &mut Ink, plan: &Plan, rule: u32) -> i32 {
     }
     let mut why = vec![rules::sentence(&plan.story.case, rule)];
     why.extend(blocker::sentences(plan.story));
-    let lines = why
-        .iter()
-        .flat_map(|one| wrap(one, 12, plan.width - 2 * MARGIN));
+    let lines = why.iter().flat_map(|one| wrap(one, 12, plan.reading()));
     for line in lines {
         ink.text(MARGIN, below + 20, "soft", &line);
         below += 16;
@@ -51,7 +49,7 @@ fn strip(ink: &mut Ink, plan: &Plan, rule: u32, found: Option<&Blocker>) -> i32 
     if let Some(found) = found {
         words += &format!(", and {} is in the way", found.place);
     }
-    let lines = wrap(&words, 15, plan.width - 2 * MARGIN - 40);
+    let lines = wrap(&words, 15, plan.reading() - 40);
     let (top, height) = (plan.bottom(), STRIP - 16 + 18 * lines.len() as i32);
     ink.rect("stop", MARGIN, top, plan.width - 2 * MARGIN, height, 4);
     ink.cross("cross", MARGIN + 16, top + height / 2);
@@ -70,10 +68,11 @@ fn stopped(ink: &mut Ink, plan: &Plan, step: Step, y: i32) {
                 .get(thread as usize)
                 .map(|column| column.lane_of(waits))
         }
+        // where there is no entry at that position it may be beyond the column
         Step::Move { thread, position } => plan
             .buffers
             .get(thread as usize)
-            .map(|column| column.lane_of(position as usize)),
+            .map(|column| column.lane_of(position as usize).max(column.left + CROSS)),
         Step::Persist { line } => plan.queues.get(line as usize).map(|column| column.lane),
     };
     if let Some(lane) = lane {

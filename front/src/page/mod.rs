@@ -17,7 +17,7 @@ pub fn html(story: &Story, told: &[String]) -> String {
             words::file_name(story),
             words::answer(story)
         )),
-        "colours" => draw::variables(),
+        "colours" => draw::variables(story.case.names.len()),
         "style" => include_str!("page.css").to_string(),
         "answer" => words::answer(story),
         "file" => escape(words::file_name(story)),

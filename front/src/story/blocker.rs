@@ -144,10 +144,10 @@ pub mod tests {
             position: 2,
         };
         let queue = Place::Queue {
-            line: 7,
-            position: 31,
+            line: 15,
+            position: 63,
         };
-        for (text, place) in [("B0.2", buffer), ("Q7.31", queue)] {
+        for (text, place) in [("B0.2", buffer), ("Q15.63", queue)] {
             assert_eq!(Place::read(text), Some(place));
             assert_eq!(place.to_string(), text);
         }

@@ -157,7 +157,7 @@ pub fn refused(file: &str, command: &str, refused: &Refusal) -> String {
     let mut object = Object::new(file, command, 3, "refused");
     object.put("number", refused.number.to_string());
     object.put("offset", refused.offset.to_string());
-    object.put("meaning", text(rules::refusal(refused)));
+    object.put("meaning", text(&rules::refusal(refused)));
     object.line()
 }
 

@@ -197,29 +197,32 @@ pub fn steps(count: usize) -> String {
 fn told(story: &Story) -> Vec<String> {
     let case = &story.case;
     let mut lines = Vec::new();
+    // the columns of a step's number, and those before its sentence
+    let number = story.run.len().to_string().len().max(2);
+    let margin = number + 11;
     if let Some(start) = story.states.first() {
-        lines.push(format!("  at first   memory: {}", run::memory(case, start)));
+        let memory = run::memory(case, start);
+        lines.push(format!("{:<margin$}memory: {memory}", "  at first"));
     }
     let told = run::sentences(story);
     for (i, sentence) in told.iter().enumerate() {
         let (before, after) = (&story.states[i], &story.states[i + 1]);
         lines.push(format!(
-            "  {:>2}  {:<6} {sentence}.",
+            "  {:>number$}  {:<6} {sentence}.",
             i + 1,
             layout::short_step(&story.run[i])
         ));
-        lines.push(format!(
-            "             waiting: {}",
-            run::waiting(case, after)
-        ));
+        let waiting = run::waiting(case, after);
+        lines.push(format!("{:margin$}waiting: {waiting}", ""));
         if before.words != after.words {
-            lines.push(format!("             memory: {}", run::memory(case, after)));
+            let memory = run::memory(case, after);
+            lines.push(format!("{:margin$}memory: {memory}", ""));
         }
     }
     if let Answer::Illegal { index, .. } = story.answer {
         let step = layout::short_step(&story.run[index]);
         let attempt = run::attempt(story, index);
-        lines.push(format!("  {:>2}  {step:<6} {attempt}.", index + 1));
+        lines.push(format!("  {:>number$}  {step:<6} {attempt}.", index + 1));
     }
     lines
 }

@@ -1,6 +1,7 @@
 //! Document 01's rules and refusal numbers, each in a sentence.
 
 use crate::case::Case;
+use crate::sizes;
 use crate::story::Refusal;
 
 /// A rule as a sentence with its number.
@@ -44,19 +45,42 @@ fn rule_of_locations(number: u32) -> &'static str {
 }
 
 /// A refusal; of a program record that may give cache lines, in words of its fields.
-pub fn refusal(refused: &Refusal) -> &'static str {
-    match refused.number {
+pub fn refusal(refused: &Refusal) -> String {
+    let words = match refused.number {
         3 if refused.is_lined => {
             "a program's length is 4, and in version 2 one more for each location"
-        }
-        5 if refused.is_lined => {
-            "a program has version 1 or 2, 1 to 4 threads and 1 to 8 locations"
         }
         8 if refused.is_lined => {
             "a program's line numbers are not in order: each is one before it or the next, from 0"
         }
+        5 if refused.is_lined => return ranges(),
+        7 => return one_more(sizes::INSTRUCTIONS, "instruction of a thread"),
+        9 => return one_more(sizes::STEPS, "step record"),
         number => refusal_of_any(number),
-    }
+    };
+    words.to_string()
+}
+
+fn ranges() -> String {
+    let (threads, locations) = (sizes::THREADS, sizes::LOCATIONS);
+    format!("a program has version 1 or 2, 1 to {threads} threads and 1 to {locations} locations")
+}
+
+/// The first that is too many.
+fn one_more(most: usize, of: &str) -> String {
+    format!("a {} {of}", ordinal(most + 1))
+}
+
+/// A place in a row as it is said: 1st, 2nd, 3rd, 4th, but 11th, 12th and 13th.
+fn ordinal(number: usize) -> String {
+    let end = match (number % 100, number % 10) {
+        (11..=13, _) => "th",
+        (_, 1) => "st",
+        (_, 2) => "nd",
+        (_, 3) => "rd",
+        _ => "th",
+    };
+    format!("{number}{end}")
 }
 
 fn refusal_of_any(number: u32) -> &'static str {
@@ -69,11 +93,24 @@ fn refusal_of_any(number: u32) -> &'static str {
         }
         5 => "a number is out of range",
         6 => "records are not in their order",
-        7 => "a ninth instruction of a thread",
         8 => "an unused field is not 0, or a first content or a passed count is 0",
-        9 => "a ninety-seventh step",
         10 => "a register is stored or compared, and no instruction of its thread before that sets it",
         33 => "a state does not fit its case: it has what the program lacks, more than there is room for, or a write in another line's queue",
         _ => "a number that this front door has no words for",
+    }
+}
+
+#[cfg(test)]
+mod tests {
+    use super::*;
+
+    #[test]
+    fn an_ordinal_ends_as_it_is_said() {
+        let ends = [(1, "st"), (2, "nd"), (3, "rd"), (4, "th"), (10, "th")];
+        let teens = [(11, "th"), (12, "th"), (13, "th"), (17, "th")];
+        let more = [(21, "st"), (102, "nd"), (111, "th"), (193, "rd")];
+        for (number, end) in ends.into_iter().chain(teens).chain(more) {
+            assert_eq!(ordinal(number), format!("{number}{end}"));
+        }
     }
 }

@@ -1,9 +1,12 @@
 //! The one text of a case, as docs/TEXT.md lays it out, and single instructions and steps in words.
 
 use crate::case::{Case, Instruction, Step};
+use crate::sizes;
 
-/// The names of locations that come as records.
-pub const NAMES: [&str; 8] = ["x", "y", "z", "w", "a", "b", "c", "d"];
+/// The names of locations that come as records: letters that are easily told apart, so no i, l or o.
+pub const NAMES: [&str; sizes::LOCATIONS] = [
+    "x", "y", "z", "w", "a", "b", "c", "d", "e", "f", "g", "h", "j", "k", "m", "n",
+];
 
 pub fn text(case: &Case) -> String {
     let mut groups = vec![vec![format!("locations {}", case.names.join(" "))]];
