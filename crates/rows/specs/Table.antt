@@ -1,8 +1,8 @@
 -- Document 01, "Rows proved of the rules (marked *) and rows run": all of them, a list for each line of 01.
 -- Above each stands 01's line, with a * where 01 has one. Behind them the rows of the requests P3, P4 and P5 of
--- document 02, and of P8, which has none, its sentence in rows. A run, an index, a full length, an offset or a place
+-- document 02, and of P8 and P6, whose sentences are put in rows. A run, an index, a full length, an offset or a place
 -- that they do not name is as the second judge tells it.
---   table         the rows, in 01's order, then P3's, P4's, P5's and P8's
+--   table         the rows, in 01's order, then P3's, P4's, P5's, P8's and P6's
 --   outage        the records of its second row; outageBytes: the 50 bytes that 01 has for it
 -- "In the rows below "store x" means x=500, and a budget not named is 1,000,000."
 -- Assumes nothing.
@@ -270,6 +270,21 @@ unsetRegister =
     ∷ opened (threads 1 ∷ load 0 y ∷ compare 0 x 7 ∷ storeRegister 0 x ∷ []) 0 44
     ∷ []
 
+-- P6: "Position goes to 15, .. and the longest version 2 payload is 20." The last location, and one more; sixteen
+-- locations on a line; four threads of sixteen stores.
+abbrev sixteen : List Row
+sixteen =
+    opened (threads 1 ∷ taking (move 0 15 ∷ [])) 0 16
+    ∷ opened (threads 1 ∷ taking (move 0 16 ∷ [])) 5 8
+    ∷ opened (program 1 16 ∷ taking (persist 15 ∷ [])) 0 16
+    ∷ opened (program 1 17 ∷ []) 5 0
+    ∷ opened (lined (replicate 16 0) ∷ []) 0 24
+    ∷ asked
+    (program 4 1 ∷ replicate 16 (store 0 x 1) ++ replicate 16 (store 1 x 1)
+    ++ replicate 16 (store 2 x 1) ++ replicate 16 (store 3 x 1))
+    192 1 (reached [])
+    ∷ []
+
 unfoldable pub table : List Row
 table =
     noInstructions ++ tornRow ++ flushed ++ flushedOpt ++ fenceIssued
@@ -277,4 +292,4 @@ table =
     ++ oneLine ++ twoLines ++ neighbourFlushed ++ neighboursWait ++ headers
     ++ barBehind ++ markerBehind ++ lowestQueue
     ++ lockTaken ++ lockHeld ++ compareWaits ++ eitherTakes
-    ++ unsetRegister
+    ++ unsetRegister ++ sixteen
