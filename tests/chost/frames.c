@@ -12,7 +12,7 @@
 #include "garluveni.h"
 
 enum { JUDGE = 0, CASE = 1, STEP = 2, QUESTION = 3, START = 4 };
-enum { HEAD = 16, MOST = 2048, STEP_FIELDS = 4, STATE = 1584 };
+enum { HEAD = 16, MOST = 8192, STEP_FIELDS = 4, STATE = 5656 };
 enum { GUARD = 64, ROOM = MOST + 2 * GUARD };
 enum { UNTOUCHED = 0xA5, GUARDED = 0xEE };
 

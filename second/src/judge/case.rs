@@ -1,11 +1,14 @@
 //! A case in memory, the sizes of document 01 and the versions of a program record.
 
 pub const MOST_THREADS: usize = 4;
-pub const MOST_LOCATIONS: usize = 8;
-pub const MOST_INSTRUCTIONS: usize = 8;
-pub const MOST_STEPS: usize = 96;
+pub const MOST_LOCATIONS: usize = 16;
+pub const MOST_INSTRUCTIONS: usize = 16;
+pub const MOST_STEPS: usize = 192;
 pub const REGISTERS: u8 = 4;
-pub const POSITIONS: u8 = 8;
+/// Of a store buffer: it has room for all that its thread has.
+pub const POSITIONS: u8 = MOST_INSTRUCTIONS as u8;
+/// Instructions of all threads together.
+pub const ALL_CODE: usize = MOST_THREADS * MOST_INSTRUCTIONS;
 
 /// A line for each location; the record says nothing of lines.
 pub const OWN_LINES: u16 = 1;
@@ -53,8 +56,8 @@ pub struct Case {
     pub first: [u32; MOST_LOCATIONS],
     /// Instructions of each thread.
     pub counts: [u8; MOST_THREADS],
-    /// Instruction i of thread t stands at 8 * t + i.
-    pub code: [Instruction; MOST_THREADS * MOST_INSTRUCTIONS],
+    /// Instruction i of thread t stands at `MOST_INSTRUCTIONS` * t + i.
+    pub code: [Instruction; ALL_CODE],
     pub wanted: [bool; MOST_LOCATIONS],
     pub want: [u32; MOST_LOCATIONS],
     /// 0: no passed count.
@@ -74,7 +77,7 @@ impl Case {
             line: [0; MOST_LOCATIONS],
             first: [0; MOST_LOCATIONS],
             counts: [0; MOST_THREADS],
-            code: [Instruction::default(); MOST_THREADS * MOST_INSTRUCTIONS],
+            code: [Instruction::default(); ALL_CODE],
             wanted: [false; MOST_LOCATIONS],
             want: [0; MOST_LOCATIONS],
             passed: [0; MOST_THREADS],
@@ -109,6 +112,12 @@ impl Case {
     /// The places in `code` of one thread.
     pub fn places(thread: usize) -> std::ops::Range<usize> {
         thread * MOST_INSTRUCTIONS..(thread + 1) * MOST_INSTRUCTIONS
+    }
+
+    /// As many threads and locations as a program may have, and at least one of each.
+    pub fn sizes_fit(threads: u8, locations: u8) -> bool {
+        (1..=MOST_THREADS).contains(&threads.into())
+            && (1..=MOST_LOCATIONS).contains(&locations.into())
     }
 
     /// The run to be judged, in place of what stood there.

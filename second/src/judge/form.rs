@@ -7,8 +7,7 @@ use super::lines;
 
 /// Whether some byte string reads as the case.
 pub fn fits(case: &Case) -> bool {
-    (1..=4).contains(&case.threads)
-        && (1..=8).contains(&case.locations)
+    Case::sizes_fit(case.threads, case.locations)
         && lines_fit(case)
         && firsts_fit(case)
         && (0..case.counts.len()).all(|thread| instructions_fit(case, thread))

@@ -110,8 +110,7 @@ impl Reader {
         let version = u16::from_le_bytes([payload[0], payload[1]]);
         let (threads, locations) = (payload[2], payload[3]);
         require((OWN_LINES..=TOLD_LINES).contains(&version), OUT_OF_RANGE)?;
-        require((1..=4).contains(&threads), OUT_OF_RANGE)?;
-        require((1..=8).contains(&locations), OUT_OF_RANGE)?;
+        require(Case::sizes_fit(threads, locations), OUT_OF_RANGE)?;
         let lines = &payload[SIZES..];
         let told = if version == TOLD_LINES { locations } else { 0 };
         require(lines.len() == usize::from(told), WRONG_LENGTH)?;
@@ -144,7 +143,7 @@ impl Reader {
         self.not_fall(thread)?;
         let count = &mut self.case.counts[usize::from(thread)];
         let index = usize::from(*count);
-        require(index < MOST_INSTRUCTIONS, NINTH_INSTRUCTION)?;
+        require(index < MOST_INSTRUCTIONS, ONE_INSTRUCTION_TOO_MANY)?;
         let code = &mut self.case.code[Case::places(usize::from(thread))];
         check_register(&code[..index], &instruction)?;
         *count += 1;
@@ -181,7 +180,7 @@ impl Reader {
         };
         check_step(self.case.threads, self.case.lines, &step)?;
         let index = usize::from(self.case.count);
-        require(index < MOST_STEPS, NINETY_SEVENTH_STEP)?;
+        require(index < MOST_STEPS, ONE_STEP_TOO_MANY)?;
         self.case.steps[index] = step;
         self.case.count += 1;
         Ok(())

@@ -6,10 +6,10 @@ pub const WRONG_LENGTH: u8 = 3;
 pub const KIND_OUT_OF_PLACE: u8 = 4;
 pub const OUT_OF_RANGE: u8 = 5;
 pub const ORDER_BROKEN: u8 = 6;
-pub const NINTH_INSTRUCTION: u8 = 7;
+pub const ONE_INSTRUCTION_TOO_MANY: u8 = 7;
 /// Of a program record: line numbers out of order.
 pub const UNUSED_NOT_ZERO: u8 = 8;
-pub const NINETY_SEVENTH_STEP: u8 = 9;
+pub const ONE_STEP_TOO_MANY: u8 = 9;
 /// A register is stored or compared that nothing before has set.
 pub const UNSET_REGISTER: u8 = 10;
 pub const BUFFER_TOO_SHORT: u8 = 31;

@@ -47,7 +47,7 @@ impl Layout {
     fn mixed(random: &mut Random, locations: u8) -> Layout {
         let mut line = vec![0];
         let mut seen = 1;
-        let rarely = random.pick(&[2, 3, 6]);
+        let rarely = random.pick(&[2, 3, locations.max(6).into()]);
         for _ in 1..locations {
             let again = random.between(0, seen - 1);
             let next = if random.one_in(rarely) { again } else { seen };

@@ -2,12 +2,15 @@
 //! streams share.
 
 pub mod cases;
+pub mod extents;
 pub mod layouts;
 pub mod machine;
+pub mod once;
 pub mod parts;
 pub mod question;
 pub mod random;
 pub mod registers;
+pub mod sizes;
 pub mod tally;
 pub mod text;
 pub mod whole;

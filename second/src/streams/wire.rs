@@ -2,7 +2,7 @@
 
 use std::io::{self, ErrorKind, Read};
 
-pub const MOST_ROOM: u32 = 2048;
+pub const MOST_ROOM: u32 = 8192;
 /// Each byte of a lent buffer beforehand.
 pub const UNTOUCHED: u8 = 0xA5;
 

@@ -65,14 +65,14 @@ pub const CLAUSES: [Clause; 9] = [
         },
     },
     Clause {
-        name: "buffer and unissued above 8",
+        name: "buffer and unissued above room",
         broken: |case, state| {
             let to_wait = |thread| waiting(state, thread) + state.unissued(case, thread).len();
             (0..state.buffers.len()).any(|thread| to_wait(thread) > MOST_INSTRUCTIONS)
         },
     },
     Clause {
-        name: "queue and to come above 32",
+        name: "queue and to come above room",
         broken: |case, state| {
             let to_come = to_come(case, state);
             let mut queues = state.queues.iter();

@@ -1,11 +1,12 @@
 //! A state of the machine.
 
-use super::row::Row;
-use crate::judge::case::{Case, Instruction, MOST_INSTRUCTIONS, MOST_LOCATIONS, MOST_THREADS};
+use super::row::{Row, Shared};
+use crate::judge::case::{Case, Instruction, ALL_CODE, REGISTERS};
+use crate::judge::case::{MOST_INSTRUCTIONS, MOST_LOCATIONS, MOST_THREADS};
 
-/// No queue of a fitting state grows beyond this.
-pub const QUEUE_ROOM: usize = 32;
-pub const THREAD_REGISTERS: usize = 4;
+/// No queue of a fitting state grows beyond this: every instruction leaves one entry at the most.
+pub const QUEUE_ROOM: usize = ALL_CODE;
+pub const THREAD_REGISTERS: usize = REGISTERS as usize;
 
 /// Marks from here on are those of flush-opt markers, by thread; below, of writes, by location.
 pub const MARKER: u8 = 128;
@@ -85,8 +86,8 @@ pub struct State {
     /// The persistent words.
     pub words: [u32; MOST_LOCATIONS],
     /// By line: there are no more lines than locations.
-    pub queues: [Queue; MOST_LOCATIONS],
-    pub buffers: [Buffer; MOST_THREADS],
+    pub queues: [Shared<Queue>; MOST_LOCATIONS],
+    pub buffers: [Shared<Buffer>; MOST_THREADS],
     pub registers: [[u32; THREAD_REGISTERS]; MOST_THREADS],
     pub issued: [u8; MOST_THREADS],
 }
@@ -94,10 +95,11 @@ pub struct State {
 impl State {
     /// First contents, and nothing queued, waiting or issued.
     pub fn start(case: &Case) -> State {
+        let (queue, buffer) = (Shared::new(Queue::new()), Shared::new(Buffer::new()));
         State {
             words: case.first,
-            queues: std::array::from_fn(|_| Queue::new()),
-            buffers: std::array::from_fn(|_| Buffer::new()),
+            queues: std::array::from_fn(|_| queue.clone()),
+            buffers: std::array::from_fn(|_| buffer.clone()),
             registers: [[0; THREAD_REGISTERS]; MOST_THREADS],
             issued: [0; MOST_THREADS],
         }

@@ -108,7 +108,7 @@ impl Found {
         self.states += 1;
         self.steps += visit.edges.len() as u64;
         self.runs = self.runs.saturating_add(visit.runs);
-        self.shared += u64::from(visit.point.state.queues.iter().any(is_shared));
+        self.shared += u64::from(has_shared(&visit.point.state));
         self.stored += visit.issues(STORE_REGISTER);
         self.succeeded += visit.compares(Outcome::Succeeds);
         self.failed += visit.compares(Outcome::Fails);
@@ -176,6 +176,11 @@ impl Found {
             self.blame(WRITTEN_OUT, program, &text);
         }
     }
+}
+
+/// Writes of two locations stand in some queue.
+pub fn has_shared(state: &State) -> bool {
+    state.queues.iter().any(|queue| is_shared(queue))
 }
 
 /// Writes of two locations stand in it.

@@ -4,15 +4,20 @@ use super::answer::{answer, Answer};
 use super::frame::Frame;
 use super::marks::{mark_of, FAMILIES};
 use super::sorts::{changes, rewritten, SORTS};
-use crate::judge::refusal::UNSET_REGISTER;
+use crate::judge::case::{MOST_LOCATIONS, MOST_STEPS};
+use crate::judge::reading::Reading;
+use crate::judge::refusal::{UNSET_REGISTER, WRONG_LENGTH};
+use crate::streams::extents::ExtentCounts;
 use crate::streams::layouts::LayoutCounts;
+use crate::streams::once::OnceCounts;
+use crate::streams::sizes::{HEAD, LONGEST, LONG_HEADER, SHORT_HEADER};
 use crate::streams::tally::{few_of, row, Counts, Row};
 
 /// Files are cut at every length up to the longest file's.
-const LENGTHS: usize = 1337;
+const LENGTHS: usize = LONGEST + 1;
 
-/// Lengths that a program record tells: 3 to 13, and the greatest.
-const TOLD: [u16; 12] = [3, 4, 5, 6, 7, 8, 9, 10, 11, 12, 13, 65535];
+/// Lengths that a program record tells, up to one beyond the longest.
+const TOLD: usize = LONG_HEADER as usize + 2;
 
 pub struct FrameCounts {
     frames: u64,
@@ -22,9 +27,12 @@ pub struct FrameCounts {
     sorts: [u64; SORTS.len()],
     families: [u64; FAMILIES.len()],
     lengths: [bool; LENGTHS],
-    told: [bool; TOLD.len()],
+    /// First records that tell such a length: those that were read, and those that were refused with 3.
+    told: [[u64; 2]; TOLD],
     /// Of the cases that were read and not changed.
     layouts: LayoutCounts,
+    extents: ExtentCounts,
+    once: OnceCounts,
     faults: Vec<String>,
 }
 
@@ -37,10 +45,38 @@ impl FrameCounts {
             sorts: [0; SORTS.len()],
             families: [0; FAMILIES.len()],
             lengths: [false; LENGTHS],
-            told: [false; TOLD.len()],
+            told: [[0; 2]; TOLD],
             layouts: LayoutCounts::default(),
+            extents: ExtentCounts::new(),
+            once: OnceCounts::default(),
             faults: Vec::new(),
         }
+    }
+
+    /// Read is a program record that something stands behind, or nothing.
+    fn take_header(&mut self, frame: &Frame, answer: &Answer) {
+        if let Some(&[low, high, 1, 0]) = frame.input.get(..HEAD) {
+            let told = self.told.get_mut(u16::from_le_bytes([low, high]) as usize);
+            let Reading { number, offset, .. } = answer.reading;
+            if let Some([read, refused]) = told {
+                *read += u64::from(number == 0 || offset > 0);
+                *refused += u64::from(number == WRONG_LENGTH && offset == 0);
+            }
+        }
+    }
+
+    /// Each length is read in some version, but for the one below all and the one beyond.
+    fn header_rows(&self) -> Vec<Row> {
+        let mut rows = Vec::new();
+        for length in SHORT_HEADER - 1..=LONG_HEADER + 1 {
+            let [read, refused] = self.told[usize::from(length)];
+            if (SHORT_HEADER..=LONG_HEADER).contains(&length) {
+                let name = format!("header of {length}, read");
+                rows.push(row(&name, read, 100));
+            }
+            rows.push(row(&format!("header of {length}: 3"), refused, 15));
+        }
+        rows
     }
 
     /// A marked frame has one right answer; a case as it was read always fits.
@@ -77,14 +113,11 @@ impl Counts<Frame> for FrameCounts {
         if let Some(seen) = self.lengths.get_mut(frame.input.len()) {
             *seen = true;
         }
-        if let Some(&[low, high, 1, 0]) = frame.input.get(..4) {
-            let length = u16::from_le_bytes([low, high]);
-            for (told, seen) in TOLD.iter().zip(&mut self.told) {
-                *seen |= *told == length;
-            }
-        }
+        self.take_header(frame, &answer);
         if rewritten(frame, &answer) {
             self.layouts.take(&answer.reading.case);
+            self.extents.take(&answer.reading.case);
+            self.once.take(&answer.reading.case);
         }
         self.check(frame, &answer);
     }
@@ -102,11 +135,16 @@ impl Counts<Frame> for FrameCounts {
         for (family, &count) in FAMILIES.iter().zip(&self.families) {
             rows.push(row(family.name, count, family.least));
         }
-        let seen = |all: &[bool]| all.iter().filter(|&&seen| seen).count() as u64;
-        let (lengths, told) = (seen(&self.lengths), seen(&self.told));
-        rows.push(row("input lengths 0 to 1,336 seen", lengths, 1337));
-        rows.push(row("header's 3 to 13, 65,535 seen", told, 12));
-        rows.extend(self.layouts.rows(20, 1..=8));
+        let lengths = self.lengths.iter().filter(|&&seen| seen).count() as u64;
+        rows.push(row(
+            "input lengths seen, to the longest",
+            lengths,
+            LENGTHS as u64,
+        ));
+        rows.extend(self.header_rows());
+        rows.extend(self.layouts.rows(20, 1..=MOST_LOCATIONS));
+        rows.extend(self.extents.rows(100, MOST_STEPS as u64 + 1));
+        rows.extend(self.once.rows("read", [100, 100, 100, 40, 40]));
         rows
     }
 

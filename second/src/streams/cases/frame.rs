@@ -1,12 +1,11 @@
 //! A frame of cases, and the field of a case that a frame changes.
 
+use super::fields;
 use crate::judge::case::Case;
 use crate::streams::wire::{bad_frame, read_head, read_part, MOST_ROOM};
 use std::io::{self, Read, Write};
 
 pub const MOST_INPUT: u32 = 65536;
-/// From this field number on a frame changes nothing.
-pub const FIELDS_END: u32 = 558;
 
 #[derive(Clone, Debug, PartialEq, Eq)]
 pub struct Frame {
@@ -72,24 +71,25 @@ impl Slot<'_> {
     }
 }
 
-/// The field of that number; none for 0 and from 558 on.
+/// The field of that number; none for 0 and behind the last one.
 pub fn slot(case: &mut Case, field: u32) -> Option<Slot<'_>> {
-    let field = field as usize;
+    let behind = |first: u32| (field - first) as usize;
+    // The last part comes first: each takes what is left from its beginning on.
     let found = match field {
-        1 => Slot::Byte(&mut case.threads),
-        2 => Slot::Byte(&mut case.locations),
-        3..=10 => Slot::Word(&mut case.first[field - 3]),
-        11..=14 => Slot::Byte(&mut case.counts[field - 11]),
-        15..=142 => instruction_slot(case, field - 15),
-        143..=150 => Slot::Flag(&mut case.wanted[field - 143]),
-        151..=158 => Slot::Word(&mut case.want[field - 151]),
-        159..=162 => Slot::Byte(&mut case.passed[field - 159]),
-        163 => Slot::Short(&mut case.count),
-        164..=547 => step_slot(case, field - 164),
-        548 => Slot::Short(&mut case.version),
-        549 => Slot::Byte(&mut case.lines),
-        550..=557 => Slot::Byte(&mut case.line[field - 550]),
-        _ => return None,
+        0 | fields::END.. => return None,
+        fields::LINE.. => Slot::Byte(&mut case.line[behind(fields::LINE)]),
+        fields::LINES => Slot::Byte(&mut case.lines),
+        fields::VERSION => Slot::Short(&mut case.version),
+        fields::STEPS.. => step_slot(case, behind(fields::STEPS)),
+        fields::COUNT => Slot::Short(&mut case.count),
+        fields::PASSED.. => Slot::Byte(&mut case.passed[behind(fields::PASSED)]),
+        fields::WANTS.. => Slot::Word(&mut case.want[behind(fields::WANTS)]),
+        fields::WANTED.. => Slot::Flag(&mut case.wanted[behind(fields::WANTED)]),
+        fields::CODE.. => instruction_slot(case, behind(fields::CODE)),
+        fields::COUNTS.. => Slot::Byte(&mut case.counts[behind(fields::COUNTS)]),
+        fields::FIRSTS.. => Slot::Word(&mut case.first[behind(fields::FIRSTS)]),
+        fields::LOCATIONS => Slot::Byte(&mut case.locations),
+        fields::THREADS => Slot::Byte(&mut case.threads),
     };
     Some(found)
 }

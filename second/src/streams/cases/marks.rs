@@ -18,7 +18,7 @@ const fn family(name: &'static str, least: u64) -> Family {
 /// The number in a name is the expected one; of two in one record it is the first, of two in two records that of
 /// the record which comes first. A header is a program record: its
 /// faults are named in the order of their checks.
-pub const FAMILIES: [Family; 100] = [
+pub const FAMILIES: [Family; 122] = [
     family("fault 1 (head)", 100),
     family("fault 1 (payload)", 100),
     family("fault 2", 100),
@@ -82,6 +82,28 @@ pub const FAMILIES: [Family; 100] = [
     family("valid file", 100),
     family("boundary accepted", 100),
     family("boundary refused", 100),
+    family("limit: instructions", 40),
+    family("beyond: instructions", 40),
+    family("once a limit: instructions", 40),
+    family("once 7: instructions", 40),
+    family("limit: locations", 40),
+    family("beyond: locations", 40),
+    family("once a limit: locations", 40),
+    family("once 5: locations", 40),
+    family("limit: told lines", 40),
+    family("beyond: told lines", 40),
+    family("once a limit: told lines", 40),
+    family("once 3: told lines", 40),
+    family("limit: steps", 40),
+    family("beyond: steps", 40),
+    family("once a limit: steps", 40),
+    family("once 9: steps", 40),
+    family("limit: positions", 40),
+    family("beyond: positions", 40),
+    family("once a limit: positions", 40),
+    family("once 5: positions", 40),
+    family("limit: persisted lines", 40),
+    family("beyond: persisted lines", 40),
     family("fault behind a longest file", 100),
     family("any bytes behind a valid file", 100),
     family("header: head", 60),

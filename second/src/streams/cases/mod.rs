@@ -3,6 +3,7 @@
 
 pub mod answer;
 pub mod counts;
+pub mod fields;
 pub mod frame;
 pub mod generate;
 pub mod marks;

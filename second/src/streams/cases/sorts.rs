@@ -1,14 +1,18 @@
 //! Sorts of frames of cases that are told by the frame and its answer.
 
 use super::answer::Answer;
-use super::frame::{Frame, FIELDS_END};
-use crate::judge::case::{OWN_LINES, TOLD_LINES};
+use super::fields;
+use super::frame::{Frame, MOST_INPUT};
+use crate::judge::case::{MOST_STEPS, MOST_THREADS, OWN_LINES, TOLD_LINES};
 use crate::judge::form::fits;
 use crate::judge::machine::rules::COMPARE;
 use crate::judge::reading::read;
 use crate::judge::refusal::UNSET_REGISTER;
 use crate::judge::writing::encode;
+use crate::streams::sizes::*;
 use crate::streams::tally::{sort, Sort};
+use crate::streams::wire::MOST_ROOM;
+use std::ops::Range;
 
 /// Accepted and written again as it was read.
 pub fn rewritten(frame: &Frame, answer: &Answer) -> bool {
@@ -16,7 +20,7 @@ pub fn rewritten(frame: &Frame, answer: &Answer) -> bool {
 }
 
 pub fn changes(frame: &Frame) -> bool {
-    (1..FIELDS_END).contains(&frame.field)
+    (1..fields::END).contains(&frame.field)
 }
 
 fn length_in(frame: &Frame, answer: &Answer, least: usize, most: usize) -> bool {
@@ -29,7 +33,7 @@ fn shows_its_place(input: &[u8], offset: usize) -> bool {
     within && input[offset - 1..input.len() - 1] != input[offset..]
 }
 
-pub const SORTS: [Sort<fn(&Frame, &Answer) -> bool>; 63] = [
+pub const SORTS: [Sort<fn(&Frame, &Answer) -> bool>; 67] = [
     sort("written: 0", 500, |_, a| a.number == 0),
     sort("written: 31", 500, |_, a| a.number == 31),
     sort("written: 32", 500, |_, a| a.number == 32),
@@ -45,14 +49,16 @@ pub const SORTS: [Sort<fn(&Frame, &Answer) -> bool>; 63] = [
     sort("field of the empty case changed", 100, |f, a| {
         changes(f) && a.reading.number != 0
     }),
-    sort("field beyond all fields", 500, |f, _| f.field >= FIELDS_END),
+    sort("field beyond all fields", 500, |f, _| {
+        f.field >= fields::END
+    }),
     sort("wanted set, word 0, readable", 20, |f, a| {
-        (143..151).contains(&f.field) && f.value != 0 && a.changed != a.reading.case && {
-            a.number == 0 && a.changed.want[f.field as usize - 143] == 0
-        }
+        let word = at(f, fields::WANTED..fields::WANTS).map(|at| a.changed.want[at]);
+        word == Some(0) && f.value != 0 && a.changed != a.reading.case && a.number == 0
     }),
     sort("want word where not wanted", 20, |f, a| {
-        (151..159).contains(&f.field) && !a.changed.wanted[f.field as usize - 151] && f.value != 0
+        let wanted = at(f, fields::WANTS..fields::PASSED).map(|at| a.changed.wanted[at]);
+        wanted == Some(false) && f.value != 0
     }),
     sort("version 1 to 2, readable", 20, |f, a| {
         of_version(f, a, OWN_LINES) && a.changed.version == TOLD_LINES && fits(&a.changed)
@@ -64,10 +70,10 @@ pub const SORTS: [Sort<fn(&Frame, &Answer) -> bool>; 63] = [
         of_version(f, a, TOLD_LINES) && a.changed.version == OWN_LINES && a.number == 32
     }),
     sort("version to no version: 32", 20, |f, a| {
-        f.field == 548 && !(1..=2).contains(&a.changed.version) && a.number == 32
+        f.field == fields::VERSION && !(1..=2).contains(&a.changed.version) && a.number == 32
     }),
     sort("number of lines changed: 32", 30, |f, a| {
-        f.field == 549 && a.changed != a.reading.case && a.number == 32
+        f.field == fields::LINES && a.changed != a.reading.case && a.number == 32
     }),
     sort("line changed, readable", 30, |f, a| {
         of_line(f, a, true) && a.changed != a.reading.case && fits(&a.changed)
@@ -97,7 +103,7 @@ pub const SORTS: [Sort<fn(&Frame, &Answer) -> bool>; 63] = [
         changes(f) && a.number == 32 && read(&encode(&a.changed)).number == UNSET_REGISTER
     }),
     sort("a register changed, readable", 30, |f, a| {
-        let of_register = (15..143).contains(&f.field) && (f.field - 15) % 4 == 2;
+        let of_register = of_code(f).map_or(false, |(_, part)| part == 2);
         of_register && a.changed != a.reading.case && fits(&a.changed)
     }),
     sort("accepted, a compare", 200, |f, a| {
@@ -115,14 +121,23 @@ pub const SORTS: [Sort<fn(&Frame, &Answer) -> bool>; 63] = [
     sort("accepted, 100 to 499 bytes", 100, |f, a| {
         length_in(f, a, 100, 499)
     }),
-    sort("accepted, 500 to 1,327 bytes", 100, |f, a| {
-        length_in(f, a, 500, 1327)
+    sort("accepted, 500 bytes and more", 100, |f, a| {
+        length_in(f, a, 500, LONGEST_OWN - 1)
     }),
-    sort("accepted, 1,328 bytes", 5, |f, a| {
-        length_in(f, a, 1328, 1328)
+    sort("accepted, longest of version 1", 5, |f, a| {
+        length_in(f, a, LONGEST_OWN, LONGEST_OWN)
     }),
-    sort("accepted, 1,336 bytes", 5, |f, a| {
-        length_in(f, a, 1336, 1336)
+    sort("accepted, longest of version 2", 5, |f, a| {
+        length_in(f, a, LONGEST, LONGEST)
+    }),
+    sort("accepted, all threads full", 100, |f, a| {
+        rewritten(f, a) && a.reading.case.counts == [INSTRUCTIONS; MOST_THREADS]
+    }),
+    sort("accepted, one step below the most", 5, |f, a| {
+        rewritten(f, a) && usize::from(a.reading.case.count) + 1 == MOST_STEPS
+    }),
+    sort("accepted, the most steps", 100, |f, a| {
+        rewritten(f, a) && usize::from(a.reading.case.count) == MOST_STEPS
     }),
     sort("room just enough", 100, |f, a| {
         rewritten(f, a) && f.room as usize == f.input.len()
@@ -134,30 +149,36 @@ pub const SORTS: [Sort<fn(&Frame, &Answer) -> bool>; 63] = [
         rewritten(f, a) && f.room as usize + 1 == f.input.len()
     }),
     sort("room 0", 100, |f, _| f.room == 0),
-    sort("room 2,048", 20, |f, _| f.room == 2048),
+    sort("room the most", 20, |f, _| f.room == MOST_ROOM),
     sort("input empty", 5, |f, _| f.input.is_empty()),
-    sort("input above 1,352 bytes", 100, |f, _| f.input.len() > 1352),
-    sort("input of 65,536 bytes", 12, |f, _| f.input.len() == 65536),
-    sort("faulty head at 1,328", 40, |_, a| {
-        a.reading.number != 0 && a.reading.offset == 1328
+    sort("input longer than all that is read", 100, |f, _| {
+        f.input.len() > LONGEST + LONGEST_RECORD
     }),
-    sort("faulty head at 1,336", 50, |_, a| {
-        a.reading.number != 0 && a.reading.offset == 1336
+    sort("input of 65,536 bytes", 12, |f, _| {
+        f.input.len() == MOST_INPUT as usize
     }),
-    sort("header at 1,336, whole: 4", 3, |_, a| {
-        a.reading.number == 4 && a.reading.offset == 1336 && a.unread[..4] == [12, 0, 1, 0]
+    sort("faulty behind a longest, version 1", 40, |_, a| {
+        a.reading.number != 0 && a.reading.offset == LONGEST_OWN
     }),
-    sort("header at 1,336, a byte short: 1", 3, |_, a| {
-        a.reading.number == 1 && a.reading.offset == 1336 && a.unread.len() == 15
+    sort("faulty behind a longest, version 2", 50, |_, a| {
+        a.reading.number != 0 && a.reading.offset == LONGEST
+    }),
+    sort("header there, whole: 4", 3, |_, a| {
+        let told = a.unread.get(..HEAD) == Some(&[LONG_HEADER as u8, 0, 1, 0]);
+        a.reading.number == 4 && a.reading.offset == LONGEST && told
+    }),
+    sort("header there, a byte short: 1", 3, |_, a| {
+        let short = a.unread.len() + 1 == LONGEST_RECORD;
+        a.reading.number == 1 && a.reading.offset == LONGEST && short
     }),
     sort("refused, nothing unread", 5, |_, a| {
         a.reading.number != 0 && a.unread.is_empty()
     }),
-    sort("unread: 1 to 2,048 bytes", 5000, |_, a| {
-        (1..=2048).contains(&a.unread.len())
+    sort("unread: no more than any room", 5000, |_, a| {
+        (1..=MOST_ROOM as usize).contains(&a.unread.len())
     }),
-    sort("unread: above 2,048 bytes", 80, |_, a| {
-        a.unread.len() > 2048
+    sort("unread: more than any room", 60, |_, a| {
+        a.unread.len() > MOST_ROOM as usize
     }),
     sort("unread part tells its place", 5000, |f, a| {
         shows_its_place(&f.input, a.reading.offset)
@@ -169,6 +190,9 @@ pub const SORTS: [Sort<fn(&Frame, &Answer) -> bool>; 63] = [
     sort("3 in document 01, again 3", 100, |_, a| now(a, 3)),
     sort("5 in document 01, now 3: version 2", 10, |_, a| {
         a.reading.number == 3 && a.unread.get(..6) == Some(&[4, 0, 1, 0, 2, 0])
+    }),
+    sort("3 for a header of 65,535", 10, |_, a| {
+        a.reading.number == 3 && a.unread.get(..HEAD) == Some(&[255, 255, 1, 0])
     }),
     sort("header cut in version 1", 30, |_, a| is_cut(a, OWN_LINES)),
     sort("header cut in version 2", 30, |_, a| is_cut(a, TOLD_LINES)),
@@ -205,8 +229,20 @@ fn was_compare(frame: &Frame, answer: &Answer) -> bool {
 
 /// Of the instruction whose operation the frame sets.
 fn place_of(frame: &Frame) -> Option<usize> {
-    let of_code = (15..143).contains(&frame.field) && (frame.field - 15) % 4 == 0;
-    of_code.then(|| (frame.field as usize - 15) / 4)
+    let (place, part) = of_code(frame)?;
+    (part == 0).then_some(place)
+}
+
+/// Of the instruction that the frame changes, and which of its four fields that is.
+fn of_code(frame: &Frame) -> Option<(usize, usize)> {
+    let field = at(frame, fields::CODE..fields::WANTED)?;
+    Some((field / 4, field % 4))
+}
+
+/// The frame's field, counted from the first of these; none where it is no such field.
+fn at(frame: &Frame, these: Range<u32>) -> Option<usize> {
+    let is_such = these.contains(&frame.field);
+    is_such.then(|| (frame.field - these.start) as usize)
 }
 
 /// Refused with 5 is an instruction of that operation.
@@ -219,20 +255,25 @@ fn out_of_range(answer: &Answer, operation: u8) -> bool {
 /// The frame sets the version of a case that was read in that version.
 fn of_version(frame: &Frame, answer: &Answer, version: u16) -> bool {
     let reading = &answer.reading;
-    frame.field == 548 && reading.number == 0 && reading.case.version == version
+    frame.field == fields::VERSION && reading.number == 0 && reading.case.version == version
 }
 
 /// The frame sets the line of a location that the program has, or of one that it lacks.
 fn of_line(frame: &Frame, answer: &Answer, has: bool) -> bool {
-    let of_line = (550..FIELDS_END).contains(&frame.field);
-    of_line && (frame.field - 550 < u32::from(answer.changed.locations)) == has
+    let location = at(frame, fields::LINE..fields::END);
+    location.map_or(false, |at| {
+        (at < usize::from(answer.changed.locations)) == has
+    })
 }
 
 /// The whole program record that was refused, if it is one.
 fn header(answer: &Answer) -> Option<&[u8]> {
-    let bytes = answer.unread.get(..4).filter(|head| head[2..] == [1, 0])?;
+    let bytes = answer
+        .unread
+        .get(..HEAD)
+        .filter(|head| head[2..] == [1, 0])?;
     let length = usize::from(u16::from_le_bytes([bytes[0], bytes[1]]));
-    answer.unread.get(..4 + length)
+    answer.unread.get(..HEAD + length)
 }
 
 /// Refused is a program record that begins in that version and is cut.
@@ -248,9 +289,11 @@ fn has_lines(answer: &Answer, lines: &[u8]) -> bool {
 
 /// Refused with that number is a program record whose length document 01 did not know.
 fn now(answer: &Answer, number: u8) -> bool {
-    let head = answer.unread.get(..4).unwrap_or(&[]);
-    let told = matches!(head, [5..=12, 0, 1, 0]);
-    told && answer.reading.number == number
+    let told = match answer.unread.get(..HEAD) {
+        Some(&[low, high, 1, 0]) => u16::from_le_bytes([low, high]),
+        _ => SHORT_HEADER,
+    };
+    (SHORT_HEADER + 1..=LONG_HEADER).contains(&told) && answer.reading.number == number
 }
 
 /// Refused is a persist whose number is that of a location, but of no line.

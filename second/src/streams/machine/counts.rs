@@ -9,14 +9,16 @@ use super::raw;
 use super::sharing::SHARING;
 use super::sorts::SORTS;
 use super::spots::SpotCounts;
-use crate::judge::case::MOST_STEPS;
+use crate::judge::case::{MOST_LOCATIONS, MOST_STEPS};
 use crate::judge::form;
 use crate::judge::machine::fit::CLAUSES;
 use crate::judge::machine::judge::LEGAL;
 use crate::judge::reading::read;
 use crate::judge::refusal::UNSET_REGISTER;
-use crate::streams::cases::frame::FIELDS_END;
+use crate::streams::cases::fields;
+use crate::streams::extents::ExtentCounts;
 use crate::streams::layouts::LayoutCounts;
+use crate::streams::once::OnceCounts;
 use crate::streams::tally::{few_of, row, Counts, Row};
 
 /// Every number that is answered, and the least number of frames in which it is.
@@ -67,6 +69,8 @@ pub struct TrialCounts {
     compares: CompareCounts,
     /// Of the cases whose run or step was judged.
     layouts: LayoutCounts,
+    extents: ExtentCounts,
+    once: OnceCounts,
     families: [u64; FAMILIES.len()],
     /// Inputs refused with 10, whatever the job, though they were not made to be refused.
     strays: u64,
@@ -88,6 +92,8 @@ impl TrialCounts {
             spots: SpotCounts::new(),
             compares: CompareCounts::default(),
             layouts: LayoutCounts::default(),
+            extents: ExtentCounts::new(),
+            once: OnceCounts::default(),
             families: [0; FAMILIES.len()],
             strays: 0,
             lengths: [false; MOST_STEPS + 1],
@@ -193,6 +199,8 @@ impl Counts<Trial> for TrialCounts {
         let number = answer.verdict.number;
         if trial.job != Job::Start && (number == LEGAL || RULES.contains(&number)) {
             self.layouts.take(&answer.case);
+            self.extents.take(&answer.case);
+            self.once.take(&answer.case);
         }
         let used = self.compares.take(trial, &answer);
         self.check(trial, &answer, used);
@@ -225,14 +233,17 @@ impl Counts<Trial> for TrialCounts {
         }
         rows.extend(self.spots.rows());
         rows.extend(self.compares.rows());
-        rows.extend(self.layouts.rows(150, 1..=8));
+        rows.extend(self.layouts.rows(100, 1..=MOST_LOCATIONS));
+        rows.extend(self.extents.rows(500, MOST_STEPS as u64 + 1));
+        rows.extend(self.once.rows("judged", [100, 100, 100, 40, 40]));
         for (family, &count) in FAMILIES.iter().zip(&self.families) {
             rows.push(row(family.name, count, family.least));
         }
         let seen = |all: &[bool]| all.iter().filter(|&&one| one).count() as u64;
         let (lengths, indexes) = (seen(&self.lengths), seen(&self.indexes));
-        rows.push(row("legal lengths 0 to 96 seen", lengths, 97));
-        rows.push(row("illegal indexes 0 to 95 seen", indexes, 90));
+        let most = MOST_STEPS as u64;
+        rows.push(row("legal lengths seen", lengths, most + 1));
+        rows.push(row("illegal indexes seen", indexes, most - most / 10));
         rows
     }
 
@@ -249,11 +260,12 @@ impl Counts<Trial> for TrialCounts {
 fn is_start(answer: &Answer) -> bool {
     let first = match answer.verdict.number {
         LEGAL => answer.case.first,
-        _ => [0; 8],
+        _ => [0; MOST_LOCATIONS],
     };
     let words: Vec<u8> = first.iter().flat_map(|word| word.to_le_bytes()).collect();
     let bytes = raw::encode(&answer.verdict.state);
-    bytes[..32] == words[..] && bytes[32..].iter().all(|&byte| byte == 0)
+    let (held, rest) = bytes.split_at(raw::WORDS_END);
+    held == words && rest.iter().all(|&byte| byte == 0)
 }
 
 /// Whether the frame was made to have an input that is refused.
@@ -264,5 +276,5 @@ fn is_refusal(trial: &Trial) -> bool {
 
 /// Whether the frame changes a field of its case.
 pub fn changes(trial: &Trial) -> bool {
-    trial.job != Job::Bytes && (1..FIELDS_END).contains(&trial.field)
+    trial.job != Job::Bytes && (1..fields::END).contains(&trial.field)
 }

@@ -5,7 +5,7 @@ use crate::judge::case::Step;
 use crate::streams::wire::{bad_frame, read_head, read_part};
 use std::io::{self, Read, Write};
 
-pub const MOST_INPUT: u32 = 2048;
+pub const MOST_INPUT: u32 = 8192;
 /// What a frame's first number has above its job: no frame of cases begins with so high a number.
 pub const MACHINE: u32 = 1 << 31;
 

@@ -2,9 +2,13 @@
 //! stream of cases; the value holds the expected number, place and, where it is known, blocker.
 
 use super::frame::{Job, Trial};
+use crate::judge::case::{MOST_STEPS, MOST_THREADS};
 use crate::judge::machine::blocker::{Among, Blocker};
 use crate::judge::machine::judge::Verdict;
+use crate::judge::machine::state::QUEUE_ROOM;
+use crate::streams::cases::fields;
 use crate::streams::cases::marks::Family;
+use crate::streams::sizes::{INSTRUCTIONS, LOCATIONS, THREADS};
 
 const FIRST_MARK: u32 = 65536;
 
@@ -19,7 +23,7 @@ const fn family(name: &'static str, least: u64) -> Family {
 }
 
 /// Of two numbers the first is the expected one; `script`, `step` and `start` are by construction.
-pub const FAMILIES: [Family; 132] = [
+pub const FAMILIES: [Family; 142] = [
     family("legal run", 1500),
     family("run: rule 21", 150),
     family("run: rule 22", 150),
@@ -70,12 +74,20 @@ pub const FAMILIES: [Family; 132] = [
     family("script: 22, would fail", 200),
     family("script: 23, would succeed", 200),
     family("script: 23, would fail", 200),
-    family("script: 22, each place", 120),
-    family("script: 23, each place", 720),
-    family("script: 26, each place", 840),
-    family("script: 27, each place", 240),
-    family("script: 28, each place", 720),
+    family("script: 22, each place", 48),
+    family("script: 23, each place", 576),
+    family("script: 26, each place", 720),
+    family("script: 27, each place", 192),
+    family("script: 28, each place", 576),
     family("row: a blocker by hand", 54),
+    family("limit: last position", 40),
+    family("limit: last line", 40),
+    family("limit: last index", 40),
+    family("once 5: a location", 40),
+    family("once 3: a told line", 40),
+    family("once 7: an instruction", 40),
+    family("once 5: a position", 40),
+    family("once 9: a step", 40),
     family("reading refused", 500),
     family("step: reading refused", 50),
     family("step: reachable state", 1000),
@@ -113,11 +125,11 @@ pub const FAMILIES: [Family; 132] = [
     family("step: 22, would fail", 150),
     family("step: 23, would succeed", 150),
     family("step: 23, would fail", 150),
-    family("step: 22, each place", 100),
-    family("step: 23, each place", 600),
-    family("step: 26, each place", 700),
-    family("step: 27, each place", 200),
-    family("step: 28, each place", 600),
+    family("step: 22, each place", 40),
+    family("step: 23, each place", 480),
+    family("step: 26, each place", 600),
+    family("step: 27, each place", 160),
+    family("step: 28, each place", 480),
     family("33 above: lacking thread", 100),
     family("33 above: lacking line", 100),
     family("33 above: location that is no line", 100),
@@ -126,8 +138,8 @@ pub const FAMILIES: [Family; 132] = [
     family("33 above: write's location", 100),
     family("33 above: write of another line", 100),
     family("33 above: issued", 100),
-    family("33 above: buffer of 8", 100),
-    family("33 above: queue of 32", 100),
+    family("33 above: a buffer's sum", 100),
+    family("33 above: a queue's sum", 100),
     family("33 at: last thread", 100),
     family("33 at: last line", 100),
     family("33 at: entry's location", 100),
@@ -137,9 +149,11 @@ pub const FAMILIES: [Family; 132] = [
     family("33 at: write's location", 100),
     family("33 at: write of a shared line", 100),
     family("33 at: issued", 100),
-    family("33 at: buffer of 8", 100),
-    family("33 at: queue of 32", 100),
+    family("33 at: a buffer's sum", 100),
+    family("33 at: a queue's sum", 100),
     family("33 at: queues together", 100),
+    family("once 33: a buffer's sum", 100),
+    family("once 33: a queue's sum", 100),
     family("33+5", 100),
     family("33+8", 100),
     family("33+rule", 100),
@@ -186,21 +200,25 @@ pub fn with_blocker(mut trial: Trial, blocker: Option<Blocker>) -> Trial {
     trial
 }
 
-/// Buffers from 64 on, queues from 512 on, 64 positions each.
+/// The code of no blocker is 0; then come the buffers, then the queues, so many positions each.
+const POSITIONS: u32 = QUEUE_ROOM as u32;
+const BUFFERS: usize = 1;
+const QUEUES: usize = BUFFERS + MOST_THREADS;
+
 fn code(blocker: Blocker) -> u32 {
     let first = match blocker.among {
-        Among::Buffers => 1,
-        Among::Queues => 8,
+        Among::Buffers => BUFFERS,
+        Among::Queues => QUEUES,
     };
-    64 * (first + u32::from(blocker.which)) + u32::from(blocker.position)
+    POSITIONS * (first as u32 + u32::from(blocker.which)) + u32::from(blocker.position)
 }
 
 fn blocker_of(code: u32) -> Option<Blocker> {
-    let (group, position) = ((code / 64) as usize, (code % 64) as usize);
+    let (group, position) = ((code / POSITIONS) as usize, (code % POSITIONS) as usize);
     match group {
         0 => None,
-        1..=7 => Some(Blocker::waiting(group - 1, position)),
-        _ => Some(Blocker::queued(group - 8, position)),
+        QUEUES.. => Some(Blocker::queued(group - QUEUES, position)),
+        _ => Some(Blocker::waiting(group - BUFFERS, position)),
     }
 }
 
@@ -227,13 +245,11 @@ pub fn mark_of(trial: &Trial) -> Option<Mark> {
 fn sets_bad_count(trial: &Trial) -> bool {
     let byte = trial.value as u8;
     let bad = match trial.field {
-        1 => !(1..=4).contains(&byte),
-        2 => !(1..=8).contains(&byte),
-        11..=14 => byte > 8,
-        163 => trial.value as u16 > 96,
-        548 => !(1..=2).contains(&(trial.value as u16)),
-        549 => !(1..=8).contains(&byte),
-        _ => false,
+        fields::THREADS => !(1..=THREADS).contains(&byte),
+        fields::LOCATIONS | fields::LINES => !(1..=LOCATIONS).contains(&byte),
+        fields::COUNT => usize::from(trial.value as u16) > MOST_STEPS,
+        fields::VERSION => !(1..=2).contains(&(trial.value as u16)),
+        field => (fields::COUNTS..fields::CODE).contains(&field) && byte > INSTRUCTIONS,
     };
     bad && trial.job != Job::Bytes
 }

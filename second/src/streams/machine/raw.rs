@@ -1,11 +1,21 @@
-//! A state as the 1,584 bytes of a frame.
+//! A state as the bytes of a frame: words, what the queues hold, its marks, their lengths; the store
+//! buffers' entries, how many wait, registers, issued counts.
 
-use crate::judge::machine::state::{Entry, State};
+use crate::judge::case::{ALL_CODE, MOST_LOCATIONS, MOST_THREADS};
+use crate::judge::machine::state::{Entry, State, QUEUE_ROOM, THREAD_REGISTERS};
+use std::ops::Range;
 
-pub const STATE_BYTES: usize = 1584;
-/// Where the store buffers' entries stand in the bytes, and how long one is.
-pub const ENTRIES_AT: usize = 1320;
+const WORD: usize = 4;
 pub const ENTRY_BYTES: usize = 6;
+
+/// Where the persistent words end.
+pub const WORDS_END: usize = WORD * MOST_LOCATIONS;
+const ENTRIES_AT: usize = WORDS_END + (WORD + 1) * MOST_LOCATIONS * QUEUE_ROOM + MOST_LOCATIONS;
+const ENTRIES_END: usize = ENTRIES_AT + ENTRY_BYTES * ALL_CODE;
+/// Where the store buffers' entries stand in the bytes.
+pub const ENTRIES: Range<usize> = ENTRIES_AT..ENTRIES_END;
+/// Waiting and issued counts are a byte for each thread.
+pub const STATE_BYTES: usize = ENTRIES_END + (2 + WORD * THREAD_REGISTERS) * MOST_THREADS;
 
 struct Bytes<'a>(&'a [u8]);
 

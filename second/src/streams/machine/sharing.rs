@@ -8,14 +8,14 @@ use crate::judge::machine::judge::LEGAL;
 use crate::judge::machine::rules::{check, BARRED, ISSUE, PERSIST, QUEUE_NOT_EMPTY};
 use crate::judge::machine::state::{Entry, Held, State, MARKER};
 use crate::judge::reading::read;
-use crate::judge::whole::confirm::is_shared;
-use crate::streams::cases::frame::FIELDS_END;
+use crate::judge::whole::confirm::{has_shared, is_shared};
+use crate::streams::cases::fields;
 use crate::streams::layouts;
 use crate::streams::tally::{sort, Sort};
 
 pub const SHARING: [Sort<fn(&Trial, &Answer) -> bool>; 17] = [
     sort("run to a queue of two locations", 200, |_, a| {
-        a.given.is_none() && a.verdict.state.queues.iter().any(is_shared)
+        a.given.is_none() && has_shared(&a.verdict.state)
     }),
     sort("load past a neighbour's newer", 30, |t, a| {
         past_newer(t, a, 3)
@@ -127,7 +127,7 @@ fn filled_by_line(answer: &Answer, step: &Step, state: &State) -> bool {
 
 /// The frame changes the line of a location.
 fn is_line_changed(trial: &Trial, answer: &Answer) -> bool {
-    let of_line = changes(trial) && (550..FIELDS_END).contains(&trial.field);
+    let of_line = changes(trial) && (fields::LINE..fields::END).contains(&trial.field);
     of_line && read(&trial.input).case.line != answer.case.line
 }
 

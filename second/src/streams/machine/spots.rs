@@ -2,10 +2,10 @@
 
 use super::answer::Answer;
 use super::frame::{Job, Trial};
-use crate::judge::case::{MOST_INSTRUCTIONS, MOST_LOCATIONS, MOST_THREADS};
 use crate::judge::machine::blocker::Among;
 use crate::judge::machine::judge::Verdict;
 use crate::judge::machine::rules::*;
+use crate::streams::sizes::{INSTRUCTIONS, LOCATIONS, THREADS};
 use crate::streams::tally::{row, Row};
 
 /// The rules that name a blocker.
@@ -36,19 +36,22 @@ pub struct Spot {
     pub seat: Seat,
 }
 
+/// The last position of a buffer but one.
+pub const LAST_BAR: u8 = INSTRUCTIONS - 2;
+
 /// All that there are: a bar has the flush-opt behind it, and the oldest entry is at position 0.
 pub fn spots() -> Vec<Spot> {
-    let bars: Vec<Seat> = (0..MOST_INSTRUCTIONS as u8 - 1).map(Seat::At).collect();
+    let bars: Vec<Seat> = (0..=LAST_BAR).map(Seat::At).collect();
     let markers = [Seat::At(0), Seat::Between, Seat::Last];
     let mut spots = Vec::new();
     for rule in NAMING {
         let (among, count, seats) = match rule {
-            BUFFER_NOT_EMPTY => (Among::Buffers, MOST_THREADS, &markers[..1]),
-            BARRED => (Among::Buffers, MOST_THREADS, &bars[..]),
-            QUEUE_NOT_EMPTY => (Among::Queues, MOST_LOCATIONS, &markers[..1]),
-            _ => (Among::Queues, MOST_LOCATIONS, &markers[..]),
+            BUFFER_NOT_EMPTY => (Among::Buffers, THREADS, &markers[..1]),
+            BARRED => (Among::Buffers, THREADS, &bars[..]),
+            QUEUE_NOT_EMPTY => (Among::Queues, LOCATIONS, &markers[..1]),
+            _ => (Among::Queues, LOCATIONS, &markers[..]),
         };
-        for which in 0..count as u8 {
+        for which in 0..count {
             let at = |&seat: &Seat| Spot {
                 rule,
                 among,
@@ -100,7 +103,7 @@ pub struct SpotCounts {
 }
 
 /// By construction there are so many frames of each job for each spot.
-pub const BY_JOB: [usize; 3] = [20, 10, 25];
+pub const BY_JOB: [usize; 3] = [8, 4, 10];
 
 impl SpotCounts {
     pub fn new() -> SpotCounts {
@@ -131,7 +134,7 @@ impl SpotCounts {
     pub fn rows(&self) -> Vec<Row> {
         let all = self.spots.iter().map(|(spot, counts)| {
             let count: u64 = counts.iter().sum();
-            row(&spot.name(), count, 50)
+            row(&spot.name(), count, 20)
         });
         let mut rows: Vec<Row> = all.collect();
         for (job, least) in BY_JOB.into_iter().enumerate() {

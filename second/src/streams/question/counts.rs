@@ -5,7 +5,7 @@ use super::answer::{answer, Answer};
 use super::frame::Query;
 use super::ledger::{without_steps, Ledger};
 use super::sorts::SORTS;
-use crate::judge::ask::{reaches, REACHED, RECORD, UNDECIDED};
+use crate::judge::ask::{reaches, REACHED, RECORD, UNDECIDED, UNREACHABLE};
 use crate::judge::case::{Case, Step};
 use crate::judge::machine::judge::{judge_bytes, single_step, LEGAL};
 use crate::judge::machine::rules::STORE_REGISTER;
@@ -14,6 +14,7 @@ use crate::judge::machine::work::full_length;
 use crate::judge::reading::read;
 use crate::judge::refusal::{BUFFER_TOO_SHORT, UNSET_REGISTER};
 use crate::judge::whole::outcome::{along, issued, Outcome};
+use crate::streams::once::OnceCounts;
 use crate::streams::tally::{few_of, row, Counts, Row};
 use crate::streams::wire::UNTOUCHED;
 
@@ -69,6 +70,8 @@ pub struct QueryCounts {
     /// Of the runs shown: stores from a register, compares that succeed and that fail.
     shown: [u64; 3],
     ledger: Ledger,
+    /// Of the frames that are decided.
+    once: OnceCounts,
     faults: Vec<String>,
 }
 
@@ -189,6 +192,9 @@ impl Counts<Query> for QueryCounts {
         for (count, more) in self.shown.iter_mut().zip(shown) {
             *count += more as u64;
         }
+        if [REACHED, UNREACHABLE].contains(&answer.reply.number) {
+            self.once.take(&sight.case);
+        }
         self.check(&sight);
         self.check_run(&sight);
         if sight.refusal == 0 {
@@ -215,6 +221,7 @@ impl Counts<Query> for QueryCounts {
             rows.push(row(name, count, *least));
         }
         rows.extend(self.ledger.rows());
+        rows.extend(self.once.rows("decided", [100; 5]));
         rows.push(row("runs looked at, all together", self.runs, 1_000_000));
         rows
     }

@@ -3,7 +3,7 @@
 
 use super::counts::Sight;
 use crate::judge::ask::{search, End, REACHED, RECORD, UNDECIDED, UNREACHABLE};
-use crate::judge::case::{Case, Step};
+use crate::judge::case::{Case, Step, MOST_LOCATIONS};
 use crate::judge::refusal::BUFFER_TOO_SHORT;
 use crate::judge::writing::encode;
 use crate::streams::layouts::{self, LayoutCounts};
@@ -128,7 +128,7 @@ impl Ledger {
             row("31, but the run has room", self.short_but_fits, 200),
             row("101, with a line each 100", self.kept_whole, 30),
         ];
-        rows.extend(self.layouts.rows(20, 1..=8));
+        rows.extend(self.layouts.rows(12, 1..=MOST_LOCATIONS));
         for number in [31, 100, 101, 102] {
             let name = format!("other steps, again {number}");
             let count = self.twins.get(&number).copied().unwrap_or(0);

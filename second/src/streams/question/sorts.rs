@@ -2,19 +2,27 @@
 
 use super::counts::Sight;
 use crate::judge::ask::{REACHED, RECORD, UNDECIDED, UNREACHABLE};
+use crate::judge::case::{MOST_STEPS, MOST_THREADS};
 use crate::judge::machine::rules::COMPARE;
 use crate::judge::machine::work::full_length;
 use crate::judge::reading::read;
 use crate::judge::refusal::BUFFER_TOO_SHORT;
 use crate::judge::whole::outcome::Outcome::{Fails, Succeeds};
+use crate::streams::once;
+use crate::streams::sizes::INSTRUCTIONS;
 use crate::streams::tally::{sort, Sort};
+use crate::streams::wire::MOST_ROOM;
 
-pub const SORTS: [Sort<fn(&Sight) -> bool>; 60] = [
+const MOST: usize = MOST_ROOM as usize;
+/// The least room for the greatest full length.
+const FULL: usize = RECORD * MOST_STEPS;
+
+pub const SORTS: [Sort<fn(&Sight) -> bool>; 66] = [
     sort("100, room just enough", 200, |s| {
         reached(s) && room(s) == s.need
     }),
     sort("100, bytes behind", 200, |s| reached(s) && room(s) > s.need),
-    sort("100, room 2,048", 20, |s| reached(s) && room(s) == 2048),
+    sort("100, room the most", 20, |s| reached(s) && room(s) == MOST),
     sort("101, with room", 200, |s| is(s, UNREACHABLE) && room(s) > 0),
     sort("102, with room", 200, |s| is(s, UNDECIDED) && room(s) > 0),
     sort("31, room one byte short", 200, |s| {
@@ -26,8 +34,8 @@ pub const SORTS: [Sort<fn(&Sight) -> bool>; 60] = [
         short(s) && budget(s) == u32::MAX
     }),
     sort("refused, room 0", 100, |s| s.refusal != 0 && room(s) == 0),
-    sort("refused, room 2,048", 100, |s| {
-        s.refusal != 0 && room(s) == 2048
+    sort("refused, room the most", 100, |s| {
+        s.refusal != 0 && room(s) == MOST
     }),
     sort("refused, where 31 would be", 100, |s| {
         s.refusal != 0 && short_before(s)
@@ -51,12 +59,28 @@ pub const SORTS: [Sort<fn(&Sight) -> bool>; 60] = [
     sort("full length 0, room 0", 30, |s| {
         asked(s) && s.need == 0 && room(s) == 0
     }),
-    sort("full length 96", 100, |s| asked(s) && s.need == 96 * RECORD),
+    sort("full length the most", 100, |s| asked(s) && s.need == FULL),
+    sort("full length the most, just enough", 50, |s| {
+        asked(s) && s.need == FULL && room(s) == FULL
+    }),
+    sort("full length the most, a byte less", 20, |s| {
+        short(s) && s.need == FULL && room(s) + 1 == FULL
+    }),
+    sort("full length above 96", 200, |s| {
+        asked(s) && s.need > once::STEPS * RECORD
+    }),
     sort("100 in 0 steps", 50, |s| reached_in(s, 0, 0)),
     sort("100 in 1 to 9 steps", 200, |s| reached_in(s, 1, 9)),
     sort("100 in 10 to 29 steps", 100, |s| reached_in(s, 10, 29)),
-    sort("100 in 30 to 95 steps", 100, |s| reached_in(s, 30, 95)),
-    sort("100 in 96 steps", 50, |s| reached_in(s, 96, 96)),
+    sort("100 in 30 to 96 steps", 100, |s| {
+        reached_in(s, 30, once::STEPS)
+    }),
+    sort("100 in 97 steps and more", 100, |s| {
+        reached_in(s, once::STEPS + 1, MOST_STEPS - 1)
+    }),
+    sort("100 in the most steps", 50, |s| {
+        reached_in(s, MOST_STEPS, MOST_STEPS)
+    }),
     sort("100 in less than full length", 200, |s| {
         reached(s) && place(s) * RECORD < s.need
     }),
@@ -130,8 +154,14 @@ pub const SORTS: [Sort<fn(&Sight) -> bool>; 60] = [
         reached(s) && failed > 0 && (place(s) + failed) * RECORD == s.need
     }),
     sort("steps in the input", 200, |s| asked(s) && s.case.count > 0),
-    sort("96 steps in the input", 20, |s| {
-        asked(s) && s.case.count == 96
+    sort("the most steps in the input", 20, |s| {
+        asked(s) && usize::from(s.case.count) == MOST_STEPS
+    }),
+    sort("decided, all threads full", 100, |s| {
+        decided(s) && s.case.counts == [INSTRUCTIONS; MOST_THREADS]
+    }),
+    sort("decided, a thread full, others not", 20, |s| {
+        decided(s) && s.case.counts.contains(&INSTRUCTIONS) && s.case.counts.contains(&0)
     }),
 ];
 

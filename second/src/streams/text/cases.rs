@@ -2,16 +2,18 @@
 
 use super::written::Written;
 use crate::judge::ask::{search, End};
-use crate::judge::case::{Case, Step, MOST_STEPS};
+use crate::judge::case::{Case, Step, MOST_STEPS, MOST_THREADS};
 use crate::judge::reading::read;
 use crate::streams::cases::generate::sketch::Sketch;
 use crate::streams::cases::generate::valid::ROW;
+use crate::streams::layouts::{self, Layout};
 use crate::streams::machine::frame::Trial;
 use crate::streams::machine::generate::programs::{add, any, dress, instruction, program, EVERY};
 use crate::streams::machine::generate::runs::{self, walk};
 use crate::streams::parts::{hand_out, Part, Take};
 use crate::streams::random::Random;
 use crate::streams::registers::mend;
+use crate::streams::sizes::{LOCATIONS, THREADS};
 use std::io;
 
 /// A question counts as decided if so many runs of the walk decide it.
@@ -45,15 +47,20 @@ fn written(random: &mut Random, part: Part<Case>) -> Vec<Written> {
     cases.iter().map(|case| Written::of(random, case)).collect()
 }
 
+/// Each number of locations, on lines in any way and on a line each that the text says.
 fn empty(random: &mut Random) -> Vec<Case> {
-    let sizes = (1..=4).flat_map(|threads| [(threads, 1), (threads, 8)]);
-    sizes
-        .map(|(threads, locations)| program(random, locations, &vec![0; threads], &EVERY))
-        .collect()
+    let mut cases = Vec::new();
+    for locations in 1..=LOCATIONS {
+        let counts = vec![0; 1 + usize::from(locations) % MOST_THREADS];
+        cases.push(program(random, locations, &counts, &EVERY));
+        let own = Layout::own(locations);
+        cases.push(layouts::case(1, &Layout::told(&own.line)));
+    }
+    cases
 }
 
 fn longest(random: &mut Random) -> Vec<Case> {
-    let files = (0..12).map(|_| Sketch::longest(random).bytes());
+    let files = (0..20).map(|_| Sketch::longest(random).bytes());
     files.map(|file| read(&file).case).collect()
 }
 
@@ -61,7 +68,7 @@ fn longest(random: &mut Random) -> Vec<Case> {
 fn every_operation(random: &mut Random) -> Vec<Case> {
     let mut cases = Vec::new();
     while cases.len() < 60 {
-        let locations = random.between(1, 8);
+        let locations = random.between(1, LOCATIONS);
         let mut case = program(random, locations, &[0, 0], &EVERY);
         let mut left: Vec<u8> = (1..=9).collect();
         while !left.is_empty() {
@@ -112,10 +119,10 @@ fn draw_decided(random: &mut Random) -> Case {
 
 /// Small, and mostly what some run leaves.
 fn asking(random: &mut Random) -> Case {
-    let threads = random.between(1, 4);
+    let threads = random.between(1, THREADS);
     let most = [5, 2, 2, 1][usize::from(threads) - 1];
     let counts: Vec<u8> = (0..threads).map(|_| random.between(0, most)).collect();
-    let locations = random.pick(&[1, 2, 2, 3, 8]);
+    let locations = random.pick(&[1, 2, 2, 3, LOCATIONS]);
     let mut case = program(random, locations, &counts, &EVERY);
     dress(random, &mut case);
     let length = random.below(12);

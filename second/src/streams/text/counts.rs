@@ -4,6 +4,7 @@ use super::freedoms::FREEDOMS;
 use super::sight::Sight;
 use super::sorts::SORTS;
 use super::written::Written;
+use crate::judge::case::MOST_LOCATIONS;
 use crate::streams::layouts::LayoutCounts;
 use crate::streams::tally::{row, Counts, Row};
 
@@ -47,7 +48,8 @@ impl Counts<Written> for TextCounts {
     fn rows(&self) -> Vec<Row> {
         let sorts = SORTS.iter().chain(&FREEDOMS).zip(self.sorts);
         let rows = sorts.map(|(sort, count)| row(sort.name, count, sort.least));
-        rows.chain(self.layouts.rows(10, 1..=8)).collect()
+        rows.chain(self.layouts.rows(5, 1..=MOST_LOCATIONS))
+            .collect()
     }
 
     fn frames(&self) -> u64 {

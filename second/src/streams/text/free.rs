@@ -3,7 +3,7 @@
 use super::mistakes::Place;
 use super::names;
 use super::statements::*;
-use crate::judge::case::Case;
+use crate::judge::case::{Case, MOST_LOCATIONS};
 use crate::streams::random::Random;
 
 /// What comments are made of: any character but the end of a line.
@@ -167,7 +167,7 @@ impl<'a> Pen<'a> {
     /// Which location of its line a persist names.
     fn neighbour(&mut self) -> usize {
         if self.taken(self.habits.beside) {
-            self.random.below(8)
+            self.random.below(MOST_LOCATIONS)
         } else {
             0
         }

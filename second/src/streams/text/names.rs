@@ -1,8 +1,11 @@
 //! Names of locations: those of the one text, and any that the grammar lets pass.
 
+use crate::judge::case::MOST_LOCATIONS;
 use crate::streams::random::Random;
 
-pub const PLAIN: [&str; 8] = ["x", "y", "z", "w", "a", "b", "c", "d"];
+pub const PLAIN: [&str; MOST_LOCATIONS] = [
+    "x", "y", "z", "w", "a", "b", "c", "d", "e", "f", "g", "h", "j", "k", "m", "n",
+];
 
 pub const REGISTERS: [&str; 4] = ["r0", "r1", "r2", "r3"];
 

@@ -3,8 +3,10 @@
 use super::sight::Sight;
 use super::statements::steps;
 use crate::judge::ask::{REACHED, UNDECIDED, UNREACHABLE};
+use crate::judge::case::{MOST_LOCATIONS, MOST_STEPS, MOST_THREADS};
 use crate::judge::machine::judge::LEGAL;
 use crate::judge::machine::rules::{COMPARE, ISSUE, MOVE, PERSIST};
+use crate::streams::sizes::{INSTRUCTIONS, LOCATIONS};
 use crate::streams::tally::{sort, Sort};
 
 pub const SORTS: [Sort<fn(&Sight) -> bool>; 50] = [
@@ -23,32 +25,38 @@ pub const SORTS: [Sort<fn(&Sight) -> bool>; 50] = [
     sort("3 threads", 100, |s| s.case.threads == 3),
     sort("4 threads", 100, |s| s.case.threads == 4),
     sort("1 location", 100, |s| s.case.locations == 1),
-    sort("8 locations", 100, |s| s.case.locations == 8),
-    sort("8 instructions of a thread", 200, |s| {
-        s.case.counts.contains(&8)
+    sort("the most locations", 100, |s| s.case.locations == LOCATIONS),
+    sort("a thread full", 200, |s| {
+        s.case.counts.contains(&INSTRUCTIONS)
     }),
-    sort("32 instructions", 20, |s| s.case.counts == [8; 4]),
+    sort("all threads full", 20, |s| {
+        s.case.counts == [INSTRUCTIONS; MOST_THREADS]
+    }),
     sort("a thread without instructions", 200, |s| {
         s.case.counts[..s.case.threads.into()].contains(&0)
     }),
-    sort("no instructions", 20, |s| s.case.counts == [0; 4]),
+    sort("no instructions", 20, |s| {
+        s.case.counts == [0; MOST_THREADS]
+    }),
     sort("a first content", 500, |s| firsts(s) > 0),
     sort("no first contents", 200, |s| firsts(s) == 0),
-    sort("8 first contents", 20, |s| firsts(s) == 8),
+    sort("all first contents", 20, |s| firsts(s) == MOST_LOCATIONS),
     sort("a want", 500, |s| wants(s) > 0),
     sort("a want of 0", 200, |s| wants_word(s, 0)),
     sort("a want of 4,294,967,295", 50, |s| wants_word(s, u32::MAX)),
-    sort("8 wants", 20, |s| wants(s) == 8),
+    sort("all wants", 20, |s| wants(s) == MOST_LOCATIONS),
     sort("a passed count", 500, |s| passed(s) > 0),
     sort("passed, the whole thread", 100, whole_thread_passed),
-    sort("4 passed counts", 20, |s| passed(s) == 4),
+    sort("all passed counts", 20, |s| passed(s) == MOST_THREADS),
     sort("nothing asked", 100, |s| wants(s) + passed(s) == 0),
     sort("question reached", 200, |s| s.asked == REACHED),
     sort("question unreachable", 100, |s| s.asked == UNREACHABLE),
     sort("question undecided", 100, |s| s.asked == UNDECIDED),
     sort("a run", 500, |s| s.case.count > 0),
     sort("no run", 1000, |s| s.case.count == 0),
-    sort("96 steps", 10, |s| s.case.count == 96),
+    sort("the most steps", 10, |s| {
+        usize::from(s.case.count) == MOST_STEPS
+    }),
     sort("an issue", 400, |s| steps_of(s, ISSUE)),
     sort("a move", 400, |s| steps_of(s, MOVE)),
     sort("a persist", 400, |s| steps_of(s, PERSIST)),

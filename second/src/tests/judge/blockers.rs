@@ -26,12 +26,12 @@ fn places_as_text() {
     assert_eq!(Blocker::waiting(0, 2).to_string(), "B0.2");
     assert_eq!(Blocker::waiting(3, 6).to_string(), "B3.6");
     assert_eq!(Blocker::queued(1, 0).to_string(), "Q1.0");
-    assert_eq!(Blocker::queued(7, 31).to_string(), "Q7.31");
+    assert_eq!(Blocker::queued(15, 63).to_string(), "Q15.63");
 }
 
-/// Four threads with that next instruction each behind a load, eight locations on a line each, nothing else.
+/// Four threads with that next instruction each behind a load, sixteen locations on a line each, nothing else.
 fn four(next: Instruction) -> (Case, State) {
-    let case = laid_out(&Layout::own(8), &[&[load(X, 0), next][..]; 4]);
+    let case = laid_out(&Layout::own(16), &[&[load(X, 0), next][..]; 4]);
     let mut state = State::start(&case);
     state.issued = [1; 4];
     (case, state)
@@ -104,7 +104,7 @@ fn markers_by_queue_and_then_by_position() {
 #[test]
 fn a_marker_at_every_place() {
     let most = QUEUE_ROOM - 5;
-    for (line, position) in (0..8).flat_map(|line| (0..most).map(move |at| (line, at))) {
+    for (line, position) in (0..16).flat_map(|line| (0..most).map(move |at| (line, at))) {
         for length in [position + 1, most] {
             let mut held = vec![Held::write(line as u8, 9); length];
             held[position] = Held::marker(3);
@@ -188,7 +188,7 @@ fn other_numbers_name_none() {
     state.issued[1] = 1;
     assert_eq!(told(&case, &state, &shift(0, 1)), "33 ");
     let mut unreadable = case.clone();
-    unreadable.locations = 9;
+    unreadable.locations = 17;
     assert_eq!(told(&unreadable, &state, &shift(0, 1)), "32 ");
     assert_eq!(judge(&unreadable).blocker, None);
     assert_eq!(judge_bytes(&ROW[..45]).blocker, None);

@@ -26,10 +26,10 @@ fn numbers_in_the_order_of_their_first_location() {
         &[0],
         &[0, 0],
         &[0, 1, 0, 2, 1],
-        &[0; 8],
-        &[0, 1, 2, 3, 4, 5, 6, 7],
+        &[0; 16],
+        &[0, 1, 2, 3, 4, 5, 6, 7, 8, 9, 10, 11, 12, 13, 14, 15],
     ];
-    assert_eq!(good.map(count), [0, 1, 1, 3, 1, 8].map(Some));
+    assert_eq!(good.map(count), [0, 1, 1, 3, 1, 16].map(Some));
     let bad: [&[u8]; 6] = [&[1], &[0, 2], &[1, 0], &[0, 1, 3], &[0, 255], &[255, 0]];
     assert_eq!(bad.map(count), [None; 6]);
     // All of four locations: a number is good if every lower one stands before it.
@@ -60,6 +60,12 @@ fn headers() {
     assert_eq!(number(&[2, 0, 1, 2, 0, 0]), 0);
     assert_eq!(number(&[2, 0, 1, 2, 0, 1]), 0);
     assert_eq!(number(&[2, 0, 4, 8, 0, 1, 0, 2, 2, 3, 1, 0]), 0);
+    let own: Vec<u8> = (0..16).collect();
+    assert_eq!(number(&[&[2, 0, 4, 16], &own[..]].concat()), 0);
+    assert_eq!(number(&[&[2, 0, 4, 15], &own[..15]].concat()), 0);
+    assert_eq!(number(&[&[2, 0, 4, 16], &own[..15]].concat()), 3);
+    assert_eq!(number(&[1, 0, 4, 16]), 0);
+    assert_eq!(number(&[1, 0, 4, 17]), 5);
     assert_eq!(number(&[2, 0, 1, 2, 0, 2]), 8);
     assert_eq!(number(&[2, 0, 1, 2, 1, 0]), 8);
     assert_eq!(number(&[2, 0, 1, 2, 255, 0]), 8);
@@ -67,7 +73,7 @@ fn headers() {
     assert_eq!(number(&[2, 0, 1, 2, 0]), 3);
     assert_eq!(number(&[2, 0, 1, 2]), 3);
     assert_eq!(number(&[1, 0, 1, 2]), 0);
-    for length in 5..=12 {
+    for length in 5..=20 {
         let mut payload = vec![1, 0, 1, 2];
         payload.resize(length, 0);
         assert_eq!(number(&payload), 3);
@@ -78,12 +84,12 @@ fn headers() {
 fn what_a_header_says() {
     let told = read(&[7, 0, 1, 0, 2, 0, 3, 3, 0, 1, 0]).case;
     assert_eq!((told.version, told.threads, told.locations), (2, 3, 3));
-    assert_eq!((told.lines, told.line), (2, [0, 1, 0, 0, 0, 0, 0, 0]));
+    assert_eq!((told.lines, &told.line[..4]), (2, &[0, 1, 0, 0][..]));
     let own = read(&[4, 0, 1, 0, 1, 0, 3, 3]).case;
     assert_eq!((own.version, own.threads, own.locations), (1, 3, 3));
-    assert_eq!((own.lines, own.line), (3, [0, 1, 2, 0, 0, 0, 0, 0]));
+    assert_eq!((own.lines, &own.line[..4]), (3, &[0, 1, 2, 0][..]));
     let empty = Case::empty();
-    assert_eq!((empty.version, empty.lines, empty.line), (1, 1, [0; 8]));
+    assert_eq!((empty.version, empty.lines, empty.line), (1, 1, [0; 16]));
 }
 
 /// Two faults in one header: the check that comes first.
@@ -95,20 +101,21 @@ fn the_order_of_a_headers_checks() {
         assert_eq!(reading.offset, 8);
         reading.number
     };
-    // A length outside 4 to 12, before the cut, 4, 5 and 8.
-    for length in [0, 3, 13, 255] {
+    // A length outside 4 to 20, before the cut, 4, 5 and 8.
+    for length in [0, 3, 21, 255] {
         assert_eq!(number(&[length, 0, 1, 0, 9]), 3);
         assert_eq!(misplaced(&[length, 0, 1, 0, 9]), 3);
     }
-    assert_eq!(
-        number(&[13, 0, 1, 0, 2, 0, 1, 9, 1, 0, 0, 0, 0, 0, 0, 0, 0]),
-        3
-    );
+    let seventeen = |length: u8, lines: usize| {
+        let head = [length, 0, 1, 0, 2, 0, 1, 17];
+        number(&[&head[..], &vec![0; lines]].concat())
+    };
+    assert_eq!(seventeen(21, 17), 3);
     assert_eq!(number(&[255, 255, 1, 0, 1, 0, 1, 1]), 3);
     // Cut, before 4, 5, the other 3 and 8.
     assert_eq!(misplaced(&[6, 0, 1, 0, 2, 0, 1, 2, 0]), 1);
     assert_eq!(number(&[6, 0, 1, 0, 3, 0, 1, 2, 0]), 1);
-    assert_eq!(number(&[12, 0, 1, 0, 1, 0, 1, 2]), 1);
+    assert_eq!(number(&[20, 0, 1, 0, 1, 0, 1, 2]), 1);
     assert_eq!(number(&[6, 0, 1, 0, 2, 0, 1, 2, 1]), 1);
     // 4, before 5, the other 3 and 8.
     assert_eq!(misplaced(&[6, 0, 1, 0, 3, 0, 1, 2, 0, 0]), 4);
@@ -116,10 +123,7 @@ fn the_order_of_a_headers_checks() {
     assert_eq!(misplaced(&[6, 0, 1, 0, 2, 0, 1, 2, 0, 2]), 4);
     // 5, before the other 3 and 8.
     assert_eq!(number(&[5, 0, 1, 0, 3, 0, 1, 2, 0]), 5);
-    assert_eq!(
-        number(&[12, 0, 1, 0, 2, 0, 1, 9, 0, 0, 0, 0, 0, 0, 0, 0]),
-        5
-    );
+    assert_eq!(seventeen(20, 16), 5);
     assert_eq!(number(&[6, 0, 1, 0, 2, 0, 0, 2, 0, 2]), 5);
     // The other 3, before 8.
     assert_eq!(number(&[7, 0, 1, 0, 2, 0, 1, 2, 1, 0, 0]), 3);
@@ -130,7 +134,7 @@ fn the_order_of_a_headers_checks() {
 fn readable(case: &Case, change: fn(&mut Case)) -> bool {
     let mut case = case.clone();
     change(&mut case);
-    let (number, _) = write(&case, &mut [0; 2048]);
+    let (number, _) = write(&case, &mut [0; 2640]);
     assert_eq!(fits(&case), number == 0);
     assert!(number == 0 || number == 32);
     number == 0
@@ -156,6 +160,7 @@ fn cases_that_no_bytes_read_as() {
     assert!(!readable(&own, |case| case.line[2] = 1));
     assert!(!readable(&own, |case| case.lines = 2));
     assert!(!readable(&own, |case| case.line[7] = 7));
+    assert!(!readable(&own, |case| case.line[15] = 15));
     assert!(!readable(&own, |case| case.set_lines(1, &[0, 0, 1])));
     assert!(readable(&own, |case| case.set_lines(2, &[0, 0, 1])));
 }
@@ -164,12 +169,12 @@ fn cases_that_no_bytes_read_as() {
 #[test]
 fn a_line_that_the_program_lacks() {
     let case = laid_out(&rows(), &[&[]]);
-    // One issue and eight moves come before.
-    assert_eq!(all_steps(&case)[9..], [persist(0), persist(1)]);
+    // One issue and sixteen moves come before.
+    assert_eq!(all_steps(&case)[17..], [persist(0), persist(1)]);
     let run = |line: u8| [&encode(&case)[..], &[4, 0, 6, 0, 0, 2, 0, line]].concat();
     assert_eq!((read(&run(1)).number, read(&run(2)).number), (0, 5));
     let step = |line| single_step(&case, State::start(&case), &persist(line)).number;
-    assert_eq!((step(1), step(2), step(8)), (29, 5, 5));
+    assert_eq!((step(1), step(2), step(16)), (29, 5, 5));
     let mut with_run = case.clone();
     with_run.set_run(&[persist(2)]);
     assert!(!fits(&with_run));

@@ -147,8 +147,9 @@ fn full_lengths_of_the_rows() {
     assert_eq!(length(&[flush_opt(X), SFENCE]), Ok(11));
     assert_eq!(length(&[exchange(X, 0, 1), load(X, 0), MFENCE]), Ok(10));
     assert_eq!(length(&[load(X, 0), compare(X, 0, 1)]), Ok(9));
-    let most = [store(X, 1); 8];
-    assert_eq!(full_length(&program(&[&most, &most, &most, &most])), Ok(96));
+    let most = [store(X, 1); 16];
+    let full = full_length(&program(&[&most, &most, &most, &most]));
+    assert_eq!(full, Ok(192));
 }
 
 #[test]
@@ -159,7 +160,7 @@ fn reading_and_32_stop_the_judge() {
     assert_eq!(verdict.state, empty);
     let mut case = read(&ROW).case;
     case.first[0] = 7;
-    case.locations = 9;
+    case.locations = 17;
     let verdict = judge(&case);
     assert_eq!((verdict.number, verdict.place), (32, 0));
     assert_eq!(verdict.state, empty);
@@ -174,7 +175,7 @@ fn steps_lower_the_work_left_by_their_cost() {
     for (case, steps) in runs_for_tests(&mut Random::new(11), 300) {
         let mut state = State::start(&case);
         let mut left = full_length(&case).unwrap_or(0);
-        assert!(left <= 96 && steps.len() <= left as usize);
+        assert!(left <= 192 && steps.len() <= left as usize);
         for step in steps {
             let is_compare = |one: &Instruction| step.code == 0 && one.operation == 9;
             let next = state.unissued(&case, step.thread.into()).first().copied();

@@ -100,7 +100,7 @@ fn asked(input: &[u8], room: usize, budget: u32) -> (u8, usize, Vec<u8>) {
 #[test]
 fn reading_then_31_then_the_walk() {
     let untouched = |number, place, room| (number, place, vec![0xA5; room]);
-    for (room, budget) in [(0, 0), (47, 8), (48, 8), (2048, u32::MAX)] {
+    for (room, budget) in [(0, 0), (47, 8), (48, 8), (8192, u32::MAX)] {
         assert_eq!(asked(&ROW[..45], room, budget), untouched(1, 41, room));
     }
     // The run shown would have room in 40 bytes.
@@ -126,7 +126,7 @@ fn the_run_stands_at_the_front_and_nothing_behind_is_touched() {
     .iter()
     .flat_map(|fields| [&[4, 0, 6, 0], &fields[..]].concat())
     .collect();
-    for room in [48, 49, 2048] {
+    for room in [48, 49, 8192] {
         let (number, place, lent) = asked(&ROW, room, 8);
         assert_eq!((number, place), (100, 5));
         assert_eq!(lent[..40], records);
@@ -137,7 +137,7 @@ fn the_run_stands_at_the_front_and_nothing_behind_is_touched() {
 #[test]
 fn steps_of_the_input_are_not_looked_at() {
     let mut case = read(&ROW).case;
-    for steps in [vec![issue(0)], vec![persist(X); 96], vec![issue(0); 3]] {
+    for steps in [vec![issue(0)], vec![persist(X); 192], vec![issue(0); 3]] {
         case.set_run(&steps);
         for (room, budget) in [(47, 8), (48, 7), (48, 8), (60, MILLION)] {
             let with_steps = asked(&encode(&case), room, budget);
@@ -146,25 +146,26 @@ fn steps_of_the_input_are_not_looked_at() {
     }
 }
 
-/// Thirty-two stores: the walk's first branch has all 96 steps, and its last run is the 97th.
+/// Sixty-four stores: the walk's first branch has all 192 steps, and its last run is the 193rd.
 #[test]
 fn the_deepest_branch() {
-    let mut case = program(&[&[store(X, 1); 8], &[store(X, 2); 8], &[store(X, 3); 8]]);
+    let code = [[store(X, 1); 16], [store(X, 2); 16], [store(X, 3); 16]];
+    let mut case = program(&[&code[0], &code[1], &code[2]]);
     case.threads = 4;
-    case.counts[3] = 8;
-    case.code[24..].fill(store(Y, 4));
-    case.code[31] = store(Y, 5);
+    case.counts[3] = 16;
+    case.code[48..].fill(store(Y, 4));
+    case.code[63] = store(Y, 5);
     case.wanted[1] = true;
     case.want[1] = 5;
     let file = encode(&case);
-    assert_eq!(asked(&file, 767, 97).0, 31);
-    assert_eq!(asked(&file, 768, 96).0, 102);
-    let (number, place, lent) = asked(&file, 768, 97);
-    assert_eq!((number, place), (100, 96));
+    assert_eq!(asked(&file, 1535, 193).0, 31);
+    assert_eq!(asked(&file, 1536, 192).0, 102);
+    let (number, place, lent) = asked(&file, 1536, 193);
+    assert_eq!((number, place), (100, 192));
     assert_eq!(lent[..8], [4, 0, 6, 0, 0, 0, 0, 0]);
     assert_eq!(
-        lent[248..264],
+        lent[504..520],
         [4, 0, 6, 0, 3, 0, 0, 0, 4, 0, 6, 0, 0, 1, 0, 0]
     );
-    assert_eq!(lent[760..], [4, 0, 6, 0, 0, 2, 0, 1]);
+    assert_eq!(lent[1528..], [4, 0, 6, 0, 0, 2, 0, 1]);
 }

@@ -78,8 +78,8 @@ fn words_and_passed_counts() {
 fn instructions() {
     let one = [8, 0, 3, 0, 1, 7, 0, 0, 0, 0, 0, 0];
     assert_eq!(after_program(&one), (0, 20));
-    assert_eq!(after_program(&one.repeat(8)), (0, 104));
-    assert_eq!(after_program(&one.repeat(9)), (7, 104));
+    assert_eq!(after_program(&one.repeat(16)), (0, 200));
+    assert_eq!(after_program(&one.repeat(17)), (7, 200));
     let falling = [one, [8, 0, 3, 0, 0, 7, 0, 0, 0, 0, 0, 0]].concat();
     assert_eq!(after_program(&falling), (6, 20));
     assert_eq!(after_program(&[8, 0, 3, 0, 1, 7, 9, 0, 0, 0, 0, 0]), (8, 8));
@@ -104,11 +104,11 @@ fn instructions() {
 
 #[test]
 fn steps() {
-    let one = [4, 0, 6, 0, 1, 1, 7, 0];
+    let one = [4, 0, 6, 0, 1, 1, 15, 0];
     assert_eq!(after_program(&one), (0, 16));
-    assert_eq!(after_program(&one.repeat(96)), (0, 776));
-    assert_eq!(after_program(&one.repeat(97)), (9, 776));
-    assert_eq!(after_program(&[4, 0, 6, 0, 1, 1, 8, 0]), (5, 8));
+    assert_eq!(after_program(&one.repeat(192)), (0, 1544));
+    assert_eq!(after_program(&one.repeat(193)), (9, 1544));
+    assert_eq!(after_program(&[4, 0, 6, 0, 1, 1, 16, 0]), (5, 8));
     assert_eq!(after_program(&[4, 0, 6, 0, 2, 0, 0, 0]), (5, 8));
     assert_eq!(after_program(&[4, 0, 6, 0, 2, 2, 0, 2]), (8, 8));
     assert_eq!(after_program(&[4, 0, 6, 0, 2, 2, 0, 3]), (5, 8));

@@ -65,8 +65,8 @@ fn each_that_sets_a_register() {
         // A compare, which something has to stand before itself.
         check_good(&[&[load(X, 1), compare(X, 1, 7), taker]]);
     }
-    // The last of eight.
-    let full = [&[load(X, 1)][..], &[MFENCE; 6], &[STORE]].concat();
+    // The last of sixteen.
+    let full = [&[load(X, 1)][..], &[MFENCE; 14], &[STORE]].concat();
     check_good(&[&full]);
 }
 
@@ -128,9 +128,9 @@ fn all_other_numbers_come_before() {
     let unset = record(0, [2, 0, 1], 0);
     assert_eq!(after_program(&[unset]), (10, 8));
     let fence = record(0, [8, 0, 0], 0);
-    let full = [fence; 8];
-    assert_eq!(after_program(&[&full[..], &[unset]].concat()), (7, 104));
-    assert_eq!(after_program(&[&full[..7], &[unset]].concat()), (10, 92));
+    let full = [fence; 16];
+    assert_eq!(after_program(&[&full[..], &[unset]].concat()), (7, 200));
+    assert_eq!(after_program(&[&full[..15], &[unset]].concat()), (10, 188));
     assert_eq!(after_program(&[record(1, [8, 0, 0], 0), unset]), (6, 20));
     assert_eq!(after_program(&[record(0, [2, 0, 1], 9)]), (8, 8));
     assert_eq!(after_program(&[record(0, [2, 2, 1], 0)]), (5, 8));

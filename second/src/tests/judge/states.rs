@@ -92,12 +92,12 @@ fn fill(state: &mut State, count: u8) {
 #[test]
 fn each_clause_at_its_limit_and_above() {
     assert!(after(|_| {}));
-    assert!(after(|state| state.buffers[0].count = 7));
-    assert!(!after(|state| state.buffers[0].count = 8));
+    assert!(after(|state| state.buffers[0].count = 15));
+    assert!(!after(|state| state.buffers[0].count = 16));
     assert!(!after(|state| state.buffers[0].count = 255));
     assert!(!after(|state| state.buffers[1].count = 1));
-    assert!(after(|state| fill(state, 31)));
-    assert!(!after(|state| fill(state, 32)));
+    assert!(after(|state| fill(state, 63)));
+    assert!(!after(|state| fill(state, 64)));
     assert!(!after(|state| state.queues[1].count = 255));
     assert!(!after(|state| state.queues[2].count = 1));
     assert!(after(|state| state.issued[0] = 1));
@@ -111,8 +111,8 @@ fn each_clause_at_its_limit_and_above() {
     assert!(!after(|state| state.queues[0].push(Held::marker(1))));
     // Each queue alone; words and registers that the program lacks are not looked at.
     assert!(after(|state| {
-        state.queues[0].count = 31;
-        fill(state, 31);
+        state.queues[0].count = 63;
+        fill(state, 63);
         state.words[5] = 1;
         state.registers[3][3] = 1;
     }));
@@ -135,7 +135,7 @@ fn marks_that_fit_their_queue() {
     assert_eq!(fitting(0).collect::<Vec<u8>>(), [0, 2, 128, 129]);
     assert_eq!(fitting(1).collect::<Vec<u8>>(), [1, 128, 129]);
     // There is a location 2, and no line 2.
-    for line in 2..8 {
+    for line in 2..16 {
         assert_eq!(fitting(line).count(), 0);
     }
 }
@@ -146,7 +146,7 @@ fn numbers_of_a_single_step_come_in_their_order() {
     let mut unfit = start.clone();
     unfit.issued[0] = 9;
     let mut unreadable = case.clone();
-    unreadable.count = 97;
+    unreadable.count = 193;
     let bad_step = Step {
         position: 1,
         ..issue(1)

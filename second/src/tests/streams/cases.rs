@@ -2,21 +2,54 @@
 
 use crate::judge::case::Case;
 use crate::streams::cases::answer::answer;
-use crate::streams::cases::frame::{slot, Frame, FIELDS_END};
-use crate::streams::cases::generate::valid::ROW;
+use crate::streams::cases::fields;
+use crate::streams::cases::frame::{slot, Frame};
+use crate::streams::cases::generate::{sketch::Sketch, valid::ROW};
+use crate::streams::random::Random;
+use crate::streams::sizes::{LONGEST, LONGEST_OWN, LONGEST_RECORD};
+
+/// Where docs/FRAMES.md has them.
+#[test]
+fn each_part_has_its_fields() {
+    let parts = [
+        fields::FIRSTS,
+        fields::COUNTS,
+        fields::CODE,
+        fields::WANTED,
+        fields::WANTS,
+        fields::PASSED,
+        fields::COUNT,
+        fields::STEPS,
+    ];
+    assert_eq!(parts, [3, 19, 23, 279, 295, 311, 315, 316]);
+    let last = [fields::VERSION, fields::LINES, fields::LINE, fields::END];
+    assert_eq!(last, [1084, 1085, 1086, 1102]);
+}
+
+/// The file of a case with a record at every place, in either version.
+#[test]
+fn no_file_is_longer() {
+    assert_eq!((LONGEST_RECORD, LONGEST_OWN, LONGEST), (24, 2624, 2640));
+    let mut random = Random::new(1);
+    for _ in 0..20 {
+        let file = Sketch::longest(&mut random).bytes();
+        let version = usize::from(file[4]);
+        assert_eq!(file.len(), [LONGEST_OWN, LONGEST][version - 1]);
+    }
+}
 
 #[test]
 fn fields_are_all_different() {
-    for field in 0..FIELDS_END + 2 {
+    for field in 0..fields::END + 2 {
         let mut changed = Case::empty();
         let there = slot(&mut changed, field).map(|mut found| {
             let other = found.get() ^ 1;
             found.set(other);
             assert_eq!(found.get(), other);
         });
-        assert_eq!(there.is_some(), (1..FIELDS_END).contains(&field));
+        assert_eq!(there.is_some(), (1..fields::END).contains(&field));
         assert_eq!(there.is_some(), changed != Case::empty());
-        for later in field + 1..FIELDS_END {
+        for later in field + 1..fields::END {
             let before = slot(&mut Case::empty(), later).map(|found| found.get());
             assert_eq!(slot(&mut changed, later).map(|found| found.get()), before);
         }

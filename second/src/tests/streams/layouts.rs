@@ -1,6 +1,6 @@
 //! Layouts: every way to number the lines is drawn, and told of its case.
 
-use crate::judge::case::Case;
+use crate::judge::case::{Case, MOST_LOCATIONS};
 use crate::streams::layouts::{self, Layout, LayoutCounts};
 use crate::streams::random::Random;
 use std::collections::BTreeSet;
@@ -30,7 +30,7 @@ fn told(version: u16, line: &[u8]) -> Vec<String> {
     };
     let mut counts = LayoutCounts::default();
     counts.take(&layouts::case(1, &layout));
-    let rows = counts.rows(1, 1..=8);
+    let rows = counts.rows(1, 1..=MOST_LOCATIONS);
     let counted = rows.iter().filter(|row| row.count > 0);
     counted
         .map(|row| row.name.replace("version 2, ", ""))

@@ -11,7 +11,7 @@ use crate::streams::machine::answer::{answer, judged_line};
 use crate::streams::machine::counts::TrialCounts;
 use crate::streams::machine::frame::{Job, Trial};
 use crate::streams::machine::generate::{blocked, rows};
-use crate::streams::machine::raw::{decode, encode, ENTRIES_AT, STATE_BYTES};
+use crate::streams::machine::raw::{decode, encode, ENTRIES, STATE_BYTES};
 use crate::streams::machine::spots::{spots, SpotCounts};
 use crate::streams::random::Random;
 use crate::streams::tally::{amiss, Counts, Row};
@@ -26,17 +26,17 @@ fn states_come_back_from_their_bytes() {
         let again = encode(&state);
         assert_eq!(again.len(), STATE_BYTES);
         assert_eq!(decode(&again), state);
-        assert_eq!(again[..ENTRIES_AT], bytes[..ENTRIES_AT]);
-        assert_eq!(again[ENTRIES_AT + 192..], bytes[ENTRIES_AT + 192..]);
+        assert_eq!(again[..ENTRIES.start], bytes[..ENTRIES.start]);
+        assert_eq!(again[ENTRIES.end..], bytes[ENTRIES.end..]);
     }
 }
 
 #[test]
 fn each_part_stands_at_its_bytes() {
     let mut state = State::start(&Case::empty());
-    state.words[7] = 1;
+    state.words[15] = 1;
     state.queues[1].places[2] = Held { word: 2, mark: 3 };
-    state.queues[6].count = 4;
+    state.queues[14].count = 4;
     state.buffers[1].places[3] = Entry::Store {
         location: 5,
         word: 6,
@@ -46,35 +46,36 @@ fn each_part_stands_at_its_bytes() {
     state.registers[1][2] = 9;
     state.issued[0] = 10;
     let mut bytes = vec![0; STATE_BYTES];
-    bytes[28] = 1;
-    bytes[32 + 4 * 34] = 2;
-    bytes[1056 + 34] = 3;
-    bytes[1312 + 6] = 4;
-    bytes[1320 + 6 * 11 + 1] = 5;
-    bytes[1320 + 6 * 11 + 2] = 6;
-    bytes[1320 + 6 * 16] = 2;
-    bytes[1320 + 6 * 16 + 1] = 7;
-    bytes[1512 + 3] = 8;
-    bytes[1516 + 4 * 6] = 9;
-    bytes[1580] = 10;
+    bytes[60] = 1;
+    bytes[64 + 4 * 66] = 2;
+    bytes[4160 + 66] = 3;
+    bytes[5184 + 14] = 4;
+    bytes[5200 + 6 * 19 + 1] = 5;
+    bytes[5200 + 6 * 19 + 2] = 6;
+    bytes[5200 + 6 * 32] = 2;
+    bytes[5200 + 6 * 32 + 1] = 7;
+    bytes[5584 + 3] = 8;
+    bytes[5588 + 4 * 6] = 9;
+    bytes[5652] = 10;
+    assert_eq!(STATE_BYTES, 5656);
     assert_eq!(encode(&state), bytes);
     // A kind is taken modulo 4; an sfence has no location and no word, a flush-opt no word.
     let mut other = bytes.clone();
-    other[1320 + 6 * 16] = 254;
-    other[1320 + 6 * 16 + 5] = 255;
+    other[5200 + 6 * 32] = 254;
+    other[5200 + 6 * 32 + 5] = 255;
     assert_eq!(decode(&other), state);
-    other[1320 + 6 * 16] = 255;
-    bytes[1320 + 6 * 16] = 3;
-    bytes[1320 + 6 * 16 + 1] = 0;
+    other[5200 + 6 * 32] = 255;
+    bytes[5200 + 6 * 32] = 3;
+    bytes[5200 + 6 * 32 + 1] = 0;
     assert_eq!(encode(&decode(&other)), bytes);
 }
 
-/// Issue, from the start, of the row's first store with another word: field 18.
+/// Issue, from the start, of the row's first store with another word: field 26.
 fn first_issue() -> Trial {
     Trial {
         job: Job::Step(issue(0), vec![0; STATE_BYTES]),
         input: ROW.to_vec(),
-        field: 18,
+        field: 26,
         value: 0x0102_0304,
     }
 }
@@ -137,7 +138,7 @@ fn lines_of_a_start() {
     let filled = [&ROW[..8], &[5, 0, 2, 0, 1, 4, 3, 2, 1]].concat();
     let start = format!("103 0 0 0 {}\n", word(1));
     assert_eq!(line(&filled, 0, 0), start);
-    assert_eq!(line(&filled, 2, 9), refused);
+    assert_eq!(line(&filled, 2, 17), refused);
     // Bytes that do not read: the empty case, of one thread and one location.
     assert_eq!(line(&[7], 0, 0), format!("103 0 0 0 {nothing}\n"));
     let first = format!("103 0 0 0 {}\n", word(0));
@@ -315,19 +316,19 @@ fn a_place_that_is_left_out_is_missed() {
         }
         amiss(&counts.rows())
     };
-    let job = "blockers' places, 20 by job 0: 87, at least 88 wanted";
+    let job = "blockers' places, 8 by job 0: 175, at least 176 wanted";
     assert_eq!(missed("no such line", ""), [""; 0]);
-    // Those of the other jobs stay: 35 of 55.
-    let bar = "26 at B3.6: 35, at least 50 wanted";
-    assert_eq!(missed("26 ", " B3.6"), [bar, job]);
-    let marker = "28 at Q7.0: 35, at least 50 wanted";
-    assert_eq!(missed("28 ", " Q7.0"), [marker, job]);
+    // Those of the other jobs stay: 14 of 22.
+    let bar = "26 at B3.14: 14, at least 20 wanted";
+    assert_eq!(missed("26 ", " B3.14"), [bar, job]);
+    let marker = "28 at Q15.0: 14, at least 20 wanted";
+    assert_eq!(missed("28 ", " Q15.0"), [marker, job]);
 }
 
 /// A rule's blocker may not be missing, and no rule has one of another's.
 #[test]
 fn blockers_that_no_rule_names() {
-    let buffer = [1, 7].map(|position| Blocker::waiting(0, position));
+    let buffer = [1, 15].map(|position| Blocker::waiting(0, position));
     let queue = [0, 1, 2].map(|position| Blocker::queued(0, position));
     let trial = barred(3);
     let is_good = |blocker: Option<Blocker>, number: u8| {
@@ -358,6 +359,6 @@ fn blockers_that_no_rule_names() {
 #[test]
 fn spots_are_all_that_the_sizes_allow() {
     let count = |rule| spots().iter().filter(|spot| spot.rule == rule).count();
-    assert_eq!([22, 23, 26, 27, 28].map(count), [4, 24, 28, 8, 24]);
-    assert_eq!(spots().len(), 88);
+    assert_eq!([22, 23, 26, 27, 28].map(count), [4, 48, 60, 16, 48]);
+    assert_eq!(spots().len(), 176);
 }

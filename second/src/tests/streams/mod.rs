@@ -3,6 +3,7 @@
 mod cases;
 mod layouts;
 mod machine;
+mod once;
 mod question;
 mod registers;
 mod text;

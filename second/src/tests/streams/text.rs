@@ -450,7 +450,7 @@ fn a_folder_of_cases() -> io::Result<()> {
     let query = files::question(inputs.remove(0), 7);
     assert_eq!(
         (&query.input[..], query.room, query.budget),
-        (&ROW[..], 768, 7)
+        (&ROW[..], 1536, 7)
     );
     let trial = files::judge(query.input);
     assert_eq!((trial.job, &trial.input[..]), (Job::Bytes, &ROW[..]));

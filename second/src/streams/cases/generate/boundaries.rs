@@ -1,12 +1,13 @@
-//! Each field at its last good and its first bad value, each count at its limit.
+//! Each field at its last good and its first bad value.
 
 use super::records::*;
-use super::sketch::Sketch;
+use crate::judge::case::{MOST_LOCATIONS, POSITIONS};
 use crate::streams::cases::frame::Frame;
 use crate::streams::cases::marks::marked;
 use crate::streams::layouts::Layout;
 use crate::streams::random::Random;
 use crate::streams::registers::takes;
+use crate::streams::sizes::*;
 
 /// The last record decides: its number is 0 or what it must be refused with.
 struct Edge {
@@ -18,14 +19,21 @@ pub fn all(random: &mut Random) -> Vec<Frame> {
     let mut edges = programs();
     edges.extend(lengths());
     edges.extend(lines());
-    for (threads, locations) in [(1, 1), (1, 8), (4, 1), (4, 8), (2, 3), (3, 5)] {
+    for (threads, locations) in [
+        (1, 1),
+        (1, LOCATIONS),
+        (THREADS, 1),
+        (THREADS, LOCATIONS),
+        (2, 3),
+        (3, 5),
+    ] {
         edges.extend(behind_program(threads, &Layout::own(locations)));
         edges.extend(passed(random, threads, locations));
     }
-    let all = (0..8).collect::<Vec<u8>>();
+    let all = (0..LOCATIONS).collect::<Vec<u8>>();
     for line in [
         &[0][..],
-        &[0; 8],
+        &[0; MOST_LOCATIONS],
         &all,
         &[0, 0],
         &[0, 1, 0],
@@ -33,22 +41,26 @@ pub fn all(random: &mut Random) -> Vec<Frame> {
     ] {
         edges.extend(behind_program(2, &Layout::told(line)));
     }
-    for _ in 0..8 {
-        edges.extend(limits(random));
-    }
-    edges.iter().map(|edge| frame(random, edge)).collect()
+    let name = |edge: &Edge| match edge.number {
+        0 => "boundary accepted",
+        _ => "boundary refused",
+    };
+    edges
+        .iter()
+        .map(|edge| frame(random, name(edge), &edge.records, edge.number))
+        .collect()
 }
 
-fn frame(random: &mut Random, edge: &Edge) -> Frame {
-    let input = join(&edge.records);
-    let valid = &edge.records[..edge.records.len() - 1];
-    let (name, offset) = match edge.number {
-        0 => ("boundary accepted", input.len()),
-        _ => ("boundary refused", join(valid).len()),
+/// The last record decides.
+pub fn frame(random: &mut Random, name: &str, records: &[Record], number: u8) -> Frame {
+    let input = join(records);
+    let offset = match number {
+        0 => input.len(),
+        _ => join(&records[..records.len() - 1]).len(),
     };
     let length = input.len() as u32;
     let room = random.pick(&[0, 8, length, length, length - 1, length + 3]);
-    marked(name, edge.number, offset, input, room)
+    marked(name, number, offset, input, room)
 }
 
 fn or(good: bool, number: u8) -> u8 {
@@ -104,25 +116,29 @@ fn programs() -> Vec<Edge> {
     let mut try_payload = |payload: [u8; 4], good: bool| {
         edges.push(alone(&payload, or(good, 5)));
     };
-    for threads in [0, 1, 2, 3, 4, 5, 255] {
-        for locations in [0, 1, 7, 8, 9, 255] {
-            let good = (1..=4).contains(&threads) && (1..=8).contains(&locations);
+    let (threads_good, locations_good) = (
+        |threads: u8| (1..=THREADS).contains(&threads),
+        |locations: u8| (1..=LOCATIONS).contains(&locations),
+    );
+    for threads in [0, 1, 2, THREADS - 1, THREADS, THREADS + 1, 255] {
+        for locations in [0, 1, LOCATIONS - 1, LOCATIONS, LOCATIONS + 1, 255] {
+            let good = threads_good(threads) && locations_good(locations);
             try_payload([1, 0, threads, locations], good);
         }
     }
     for version in [0u16, 1, 3, 255, 256, 257, 258, 512, 65535] {
         let [low, high] = version.to_le_bytes();
-        try_payload([low, high, 4, 8], version == 1);
+        try_payload([low, high, THREADS, LOCATIONS], version == 1);
         try_payload([low, high, 1, 1], version == 1);
     }
-    for threads in [0, 1, 4, 5, 255] {
-        let number = or((1..=4).contains(&threads), 5);
+    for threads in [0, 1, THREADS, THREADS + 1, 255] {
+        let number = or(threads_good(threads), 5);
         edges.push(alone(&[2, 0, threads, 2, 0, 0], number));
     }
-    for locations in [0, 1, 8, 9, 255] {
-        let lines = vec![0; usize::from(locations).min(8)];
+    for locations in [0, 1, LOCATIONS, LOCATIONS + 1, 255] {
+        let lines = vec![0; usize::from(locations.min(LOCATIONS))];
         let payload = [&[2, 0, 1, locations], &lines[..]].concat();
-        edges.push(alone(&payload, or((1..=8).contains(&locations), 5)));
+        edges.push(alone(&payload, or(locations_good(locations), 5)));
     }
     for version in [0u16, 2, 3, 256, 257, 258, 512, 514, 65535] {
         let payload = [&version.to_le_bytes()[..], &[1, 3, 0, 1, 0]].concat();
@@ -131,14 +147,16 @@ fn programs() -> Vec<Edge> {
     edges
 }
 
-/// Every length from 3 to 13 of both versions, with each number of locations and lines in order.
+/// Every length up to one beyond the longest, of both versions, with each number of locations and lines in
+/// order.
 fn lengths() -> Vec<Edge> {
     let mut edges = Vec::new();
-    for locations in 1..=8 {
-        for (version, right) in [(1, 4), (2, 4 + usize::from(locations))] {
-            for length in 3..=13 {
+    for locations in 1..=LOCATIONS {
+        let told = SHORT_HEADER + u16::from(locations);
+        for (version, right) in [(1, SHORT_HEADER), (2, told)] {
+            for length in SHORT_HEADER - 1..=LONG_HEADER + 1 {
                 let mut payload = vec![version, 0, 1, locations];
-                payload.resize(length, 0);
+                payload.resize(length.into(), 0);
                 edges.push(alone(&payload, or(length == right, 3)));
             }
         }
@@ -149,12 +167,13 @@ fn lengths() -> Vec<Edge> {
 /// Each line byte at its last good value and beyond it, behind lines that are seen or all new.
 fn lines() -> Vec<Edge> {
     let mut edges = Vec::new();
-    for (at, seen) in (0..8u8).flat_map(|at| [(at, at), (at, at.min(1)), (at, at.min(2))]) {
+    let places = (0..LOCATIONS).flat_map(|at| [(at, at), (at, at.min(1)), (at, at.min(2))]);
+    for (at, seen) in places {
         let before = (0..at).map(|one| one.min(seen.saturating_sub(1)));
         let before: Vec<u8> = before.collect();
         for next in [0, seen, seen + 1, 127, 128, 254, 255] {
-            let mut payload = [&[2, 0, 1, 8][..], &before, &[next]].concat();
-            payload.resize(12, 0);
+            let mut payload = [&[2, 0, 1, LOCATIONS][..], &before, &[next]].concat();
+            payload.resize(LONG_HEADER.into(), 0);
             edges.push(alone(&payload, or(next <= seen, 8)));
         }
     }
@@ -226,7 +245,7 @@ fn steps(threads: u8, lines: u8) -> Vec<(Record, u8)> {
             let number = field_number(uses[0], thread, good);
             tried.push((Record::new(6, &[thread, code, 0, 0]), number));
         }
-        for (position, good) in [(7, true), (8, false), (255, false)] {
+        for (position, good) in [(POSITIONS - 1, true), (POSITIONS, false), (255, false)] {
             let number = field_number(uses[1], position, good);
             tried.push((Record::new(6, &[0, code, position, 0]), number));
         }
@@ -241,9 +260,9 @@ fn steps(threads: u8, lines: u8) -> Vec<(Record, u8)> {
 /// Passed counts 0, 1, all instructions, one more, and for a thread the program lacks.
 fn passed(random: &mut Random, threads: u8, locations: u8) -> Vec<Edge> {
     let mut edges = Vec::new();
-    for count in [0u8, 1, 5, 8] {
+    for count in [0u8, 1, 5, INSTRUCTIONS] {
         for (thread, there) in ends(threads) {
-            for least in [0, 1, count, count + 1, 9, 255] {
+            for least in [0, 1, count, count + 1, INSTRUCTIONS + 1, 255] {
                 let mut records = vec![program(threads, &Layout::own(locations))];
                 let issuer = if there { thread } else { 0 };
                 records.extend(random_thread(random, issuer, count, locations));
@@ -257,30 +276,5 @@ fn passed(random: &mut Random, threads: u8, locations: u8) -> Vec<Edge> {
             }
         }
     }
-    edges
-}
-
-/// Eight and nine instructions of each thread, ninety-six and ninety-seven steps.
-fn limits(random: &mut Random) -> Vec<Edge> {
-    let mut edges = Vec::new();
-    let locations = random.between(1, 8);
-    for thread in 0..4 {
-        let mut records = vec![program(4, &Layout::draw(random, locations))];
-        records.extend(random_thread(random, thread, 8, locations));
-        edges.push(Edge {
-            records: records.clone(),
-            number: 0,
-        });
-        records.push(random_instruction(random, thread, locations));
-        edges.push(Edge { records, number: 7 });
-    }
-    let longest = Sketch::longest(random);
-    let mut records = longest.records();
-    edges.push(Edge {
-        records: records.clone(),
-        number: 0,
-    });
-    records.push(longest.record(random, 6));
-    edges.push(Edge { records, number: 9 });
     edges
 }

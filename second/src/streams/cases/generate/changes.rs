@@ -3,32 +3,48 @@
 use super::records::program;
 use super::sketch::{any_layout, Fill, Sketch};
 use super::valid::ROW;
-use crate::judge::case::{Case, Instruction, MOST_INSTRUCTIONS, REGISTERS};
+use crate::judge::case::{Case, Instruction, REGISTERS, TOLD_LINES};
+use crate::judge::case::{MOST_INSTRUCTIONS, MOST_LOCATIONS, MOST_STEPS, MOST_THREADS};
 use crate::judge::form::fits;
 use crate::judge::machine::rules::{COMPARE, STORE_REGISTER};
 use crate::judge::reading::read;
 use crate::streams::cases::answer::answer;
-use crate::streams::cases::frame::{slot, Frame, FIELDS_END};
+use crate::streams::cases::fields;
+use crate::streams::cases::frame::{slot, Frame};
 use crate::streams::layouts::Layout;
 use crate::streams::random::Random;
 use crate::streams::registers::{sets, takes, Registers};
+use crate::streams::sizes::{INSTRUCTIONS, LONGEST_RECORD};
 
-const ALL: (u32, u32) = (1, FIELDS_END);
+/// The fields from the first on, the end left out.
+type Fields = (u32, u32);
+
+const ALL: Fields = (1, fields::END);
+/// Sizes, first contents, and how many instructions there are.
+const SHAPE: Fields = (1, fields::CODE);
+/// All but the steps, which are so many, and these.
+const BEFORE_STEPS: Fields = (1, fields::STEPS);
+const FIRST_STEPS: Fields = (1, fields::STEPS + 36);
+const LAST_OF_STEPS: u32 = fields::VERSION - 1;
 /// The fields of version and lines.
-const LINES: (u32, u32) = (548, FIELDS_END);
+const LINES: Fields = (fields::VERSION, fields::END);
 
-/// Every field, each with telling values.
+/// Every field, each with telling values; those of a step have every other one, and the next step's the others.
 pub fn all(random: &mut Random) -> Vec<Frame> {
     let mut frames = Vec::new();
-    for field in 1..FIELDS_END {
-        for turn in 0..8 {
+    for field in 1..fields::END {
+        let (first, apart) = match field {
+            fields::STEPS..=LAST_OF_STEPS => ((field - fields::STEPS) / 4 % 2, 2),
+            _ => (0, 1),
+        };
+        for turn in (first as usize..8).step_by(apart) {
             let file = base(random);
             let value = value(random, &file, field, turn);
             frames.push(frame(random, file, field, value));
         }
     }
     for value in [0, 1, 255, 65536, u32::MAX] {
-        for field in [0, FIELDS_END, FIELDS_END + 1, 1000, 65535, u32::MAX] {
+        for field in [0, fields::END, fields::END + 1, 2000, 65535, u32::MAX] {
             let file = base(random);
             frames.push(frame(random, file, field, value));
         }
@@ -41,7 +57,7 @@ pub fn some(random: &mut Random) -> Vec<Frame> {
         .map(|_| {
             let file = base(random);
             // The many steps must not crowd out the other fields.
-            let (first, end) = random.pick(&[(1, 15), (1, 164), (1, 200), ALL, LINES]);
+            let (first, end) = random.pick(&[SHAPE, BEFORE_STEPS, FIRST_STEPS, ALL, LINES]);
             let field = first + random.below((end - first) as usize) as u32;
             let turn = random.below(8);
             let value = value(random, &file, field, turn);
@@ -56,12 +72,12 @@ pub fn readable(random: &mut Random) -> Vec<Frame> {
     while frames.len() < 600 {
         let file = base(random);
         let (first, end) = random.pick(&[
-            (1, 15),
-            (15, 143),
-            (143, 163),
-            (163, 548),
+            SHAPE,
+            (fields::CODE, fields::WANTED),
+            (fields::WANTED, fields::COUNT),
+            (fields::COUNT, fields::VERSION),
             LINES,
-            (550, 558),
+            (fields::LINE, fields::END),
         ]);
         let field = first + random.below((end - first) as usize) as u32;
         let turn = 1 + random.below(7);
@@ -108,7 +124,7 @@ pub fn operations(random: &mut Random) -> Vec<Frame> {
             let other = random.pick(&[1, 4, 4, 7, COMPARE + 1]);
             let new = random.pick(&[COMPARE, COMPARE + 1]);
             let operation = if is_compare(&place) { other } else { new };
-            let field = 15 + 4 * place as u32;
+            let field = fields::operation(place);
             frames.push(frame(random, file, field, operation.into()));
         }
     }
@@ -144,7 +160,7 @@ fn registered(case: &Case, place: usize, unset: bool) -> Vec<(u32, u8)> {
         case.code[place],
         place / MOST_INSTRUCTIONS * MOST_INSTRUCTIONS,
     );
-    let (operation, register) = (15 + 4 * place as u32, 17 + 4 * place as u32);
+    let (operation, register) = (fields::operation(place), fields::register(place));
     let others = (0..REGISTERS).filter(|&other| other != one.register);
     let mut tried: Vec<(u32, u8)> = match one.operation {
         2 | 3 => vec![(operation, 5 - one.operation)],
@@ -177,9 +193,9 @@ fn leaves_unset(thread: &[Instruction]) -> bool {
 /// Counts at their ends, junk behind them, wants with and without flag, versions and lines.
 pub fn telling(random: &mut Random) -> Vec<Frame> {
     let mut frames = Vec::new();
-    let mut try_all = |field: u32, values: &[u32]| {
-        for &value in values {
-            let own_lines = Layout::told(&[0, 1]);
+    let own_lines = Layout::told(&[0, 1]);
+    for (field, values) in [counts(), contents()].concat() {
+        for value in values {
             for file in [
                 ROW.to_vec(),
                 base(random),
@@ -190,29 +206,57 @@ pub fn telling(random: &mut Random) -> Vec<Frame> {
                 frames.push(frame(random, file, field, value));
             }
         }
-    };
-    try_all(1, &[0, 1, 2, 3, 4, 5, 255, 256, 257, 260, 261]);
-    try_all(2, &[0, 1, 2, 7, 8, 9, 255, 256, 257, 264, 265]);
-    for place in [0, 1, 8] {
-        try_all(15 + 4 * place, &[0, 1, 4, 8, 9, 10, 11, 255, 265, 266]);
-    }
-    for thread in 0..4 {
-        try_all(11 + thread, &[0, 1, 2, 7, 8, 9, 255, 256, 258]);
-        try_all(159 + thread, &[0, 1, 2, 3, 8, 9, 255, 256, 257]);
-    }
-    try_all(
-        548,
-        &[0, 1, 2, 3, 255, 256, 257, 258, 65535, 65536, 65537, 65538],
-    );
-    try_all(549, &[0, 1, 2, 3, 7, 8, 9, 255, 256, 257, 258, 264]);
-    try_all(163, &[0, 1, 2, 95, 96, 97, 255, 256, 65535, 65536, 65632]);
-    for location in 0..8 {
-        try_all(3 + location, &[0, 1, 256, 65536, 1 << 31]);
-        try_all(143 + location, &[0, 1, 2, 256, 65536, 1 << 31]);
-        try_all(151 + location, &[0, 1, 256, 65536, 1 << 31]);
-        try_all(550 + location, &[0, 1, 2, 7, 8, 255, 256, 257]);
     }
     frames
+}
+
+/// A field, and what it is set to.
+type Tried = (u32, Vec<u32>);
+
+/// Small numbers, those about the most, and the same above the field's width.
+fn ends(field: u32, most: usize, width: u32) -> Tried {
+    let most = most as u32;
+    let within = [0, 1, 2, 3, most - 1, most, most + 1, 255];
+    let above = within.map(|value| (1 << width) + value);
+    (field, [within, above].concat())
+}
+
+/// How many there are of each thing, and the version.
+fn counts() -> Vec<Tried> {
+    let mut tried = vec![
+        ends(fields::THREADS, MOST_THREADS, 8),
+        ends(fields::LOCATIONS, MOST_LOCATIONS, 8),
+        ends(fields::LINES, MOST_LOCATIONS, 8),
+        ends(fields::COUNT, MOST_STEPS, 16),
+        ends(fields::COUNT, MOST_STEPS, 8),
+        ends(fields::VERSION, TOLD_LINES.into(), 16),
+        ends(fields::VERSION, TOLD_LINES.into(), 8),
+    ];
+    for thread in 0..MOST_THREADS as u32 {
+        tried.push(ends(fields::COUNTS + thread, MOST_INSTRUCTIONS, 8));
+        tried.push(ends(fields::PASSED + thread, MOST_INSTRUCTIONS, 8));
+    }
+    tried
+}
+
+/// Operations, and what each location has.
+fn contents() -> Vec<Tried> {
+    let mut tried = Vec::new();
+    for place in [0, 1, MOST_INSTRUCTIONS] {
+        let operations = vec![0, 1, 4, 8, 9, 10, 11, 255, 265, 266];
+        tried.push((fields::operation(place), operations));
+    }
+    for location in 0..MOST_LOCATIONS as u32 {
+        let words = vec![0, 1, 256, 65536, 1 << 31];
+        let flags = vec![0, 1, 2, 256, 65536, 1 << 31];
+        let last = MOST_LOCATIONS as u32 - 1;
+        let lines = vec![0, 1, 2, last, last + 1, 255, 256, 257];
+        tried.push((fields::FIRSTS + location, words.clone()));
+        tried.push((fields::WANTED + location, flags));
+        tried.push((fields::WANTS + location, words));
+        tried.push((fields::LINE + location, lines));
+    }
+    tried
 }
 
 /// The file that is read before the change: small and large, accepted and refused.
@@ -225,7 +269,7 @@ fn base(random: &mut Random) -> Vec<u8> {
         6..=9 => Sketch::any(random).bytes(),
         _ => {
             let fill = Fill {
-                instructions: (4, 8),
+                instructions: (4, INSTRUCTIONS),
                 steps: (0, 40),
                 eighths: 4,
             };
@@ -245,8 +289,12 @@ fn value(random: &mut Random, file: &[u8], field: u32, turn: usize) -> u32 {
         2 => held.wrapping_add(1),
         3 => held.wrapping_sub(1),
         4 => 0,
-        5 => random.below(11) as u32,
-        6 => random.pick(&[4, 5, 8, 9, 10, 96, 97, 255, 65535, u32::MAX]),
+        5 => random.below(MOST_LOCATIONS + 3) as u32,
+        6 => {
+            let size = random.pick(&[MOST_THREADS, MOST_INSTRUCTIONS, MOST_LOCATIONS, MOST_STEPS]);
+            let size = size as u32;
+            random.pick(&[size, size + 1, size + 1, 9, 10, 255, 65535, u32::MAX])
+        }
         _ => random.word(),
     }
 }
@@ -258,7 +306,7 @@ fn frame(random: &mut Random, input: Vec<u8>, field: u32, value: u32) -> Frame {
         0 => length - 1,
         1 => length,
         2 => random.below(8) as u32,
-        _ => length + 12,
+        _ => length + LONGEST_RECORD as u32,
     };
     Frame {
         input,

@@ -3,13 +3,13 @@
 use super::records::*;
 use super::sketch::Sketch;
 use super::valid::ROW;
-use crate::streams::cases::frame::Frame;
+use crate::judge::ask::RECORD;
+use crate::judge::case::MOST_LOCATIONS;
+use crate::streams::cases::frame::{Frame, MOST_INPUT};
 use crate::streams::cases::marks::marked;
 use crate::streams::layouts::Layout;
 use crate::streams::random::Random;
-
-/// No file is longer.
-pub const LONGEST: usize = 1336;
+use crate::streams::sizes::*;
 
 fn plain(random: &mut Random, input: Vec<u8>) -> Frame {
     let length = input.len().min(LONGEST) as u32;
@@ -27,7 +27,7 @@ pub fn truncated(random: &mut Random) -> Vec<Frame> {
         ROW.to_vec(),
         Sketch::lively(random).bytes(),
         Sketch::lively(random).bytes(),
-        longest(random, LONGEST - 8),
+        longest(random, LONGEST_OWN),
         longest(random, LONGEST),
     ];
     let mut frames = Vec::new();
@@ -52,7 +52,8 @@ fn longest(random: &mut Random, length: usize) -> Vec<u8> {
 /// Every bit of the row's file and of headers with lines, every byte of others.
 pub fn flipped(random: &mut Random) -> Vec<Frame> {
     let mut frames = Vec::new();
-    let layouts = [&[0, 1][..], &[0, 0, 1], &[0, 1, 0, 2, 1, 3, 3, 0]];
+    let many = [0, 1, 0, 2, 1, 3, 3, 0, 4, 5, 4, 6, 7, 2, 8, 9];
+    let layouts = [&[0, 1][..], &[0, 0, 1], &many];
     let headers = layouts.map(|line| program(2, &Layout::told(line)).bytes());
     for file in [ROW.to_vec()].into_iter().chain(headers) {
         for at in 0..file.len() * 8 {
@@ -138,15 +139,15 @@ pub fn tailed(random: &mut Random) -> Vec<Frame> {
 
 /// 64 KiB each.
 pub fn large(random: &mut Random) -> Vec<Frame> {
-    const SIZE: usize = 65536;
+    const SIZE: usize = MOST_INPUT as usize;
     let longest = longest(random, LONGEST);
-    let steps: Vec<u8> = (0..8192)
-        .flat_map(|_| random_step(random, 4, 1).bytes())
+    let steps: Vec<u8> = (0..SIZE / RECORD)
+        .flat_map(|_| random_step(random, THREADS, 1).bytes())
         .collect();
     let starts = [
         Vec::new(),
         longest.clone(),
-        longest[..16].to_vec(),
+        longest[..LONGEST_RECORD].to_vec(),
         Sketch::lively(random).bytes(),
     ];
     let mut inputs = Vec::new();
@@ -172,10 +173,10 @@ pub fn long(random: &mut Random) -> Vec<Frame> {
     let mut frames = Vec::new();
     for _ in 0..40 {
         let mut file = Sketch::longest(random).bytes();
-        let length = 25 + random.below(300);
+        let length = LONGEST_RECORD + 1 + random.below(300);
         file.extend_from_slice(&random.bytes(length));
         frames.push(plain(random, file.clone()));
-        let at = random.below(LONGEST - 8);
+        let at = random.below(LONGEST_OWN);
         file[at] ^= 1 << random.below(8);
         frames.push(plain(random, file));
     }
@@ -190,9 +191,10 @@ pub fn long(random: &mut Random) -> Vec<Frame> {
 pub fn followed(random: &mut Random) -> Vec<Frame> {
     let powers = (0..=16).map(|power| 1 << power);
     let mut lengths: Vec<usize> = powers.flat_map(|n| [n - 1, n, n + 1]).collect();
-    lengths.extend((0..60).map(|_| 1 + random.below(65535)));
+    let most = MOST_INPUT as usize;
+    lengths.extend((0..60).map(|_| 1 + random.below(most - 1)));
     lengths.extend((0..60).map(|_| 1 + random.below(4096)));
-    lengths.retain(|&length| (1..=65536).contains(&length));
+    lengths.retain(|&length| (1..=most).contains(&length));
     let starts = [
         Vec::new(),
         ROW.to_vec(),
@@ -203,7 +205,7 @@ pub fn followed(random: &mut Random) -> Vec<Frame> {
     for length in lengths {
         let fitting = starts
             .iter()
-            .filter(|start| start.len() + length <= 65536)
+            .filter(|start| start.len() + length <= most)
             .collect::<Vec<_>>();
         let start = random.pick(&fitting);
         frames.push(behind(random, start, length));
@@ -233,18 +235,18 @@ fn behind_longest(random: &mut Random) -> Frame {
     let mut late = sketch.record(random, 5).bytes();
     late.extend_from_slice(&random.bytes(20));
     let strange = Record::new(7, &random.bytes(20));
-    let beyond = Record::new(6, &[4, 0, 0, 0]);
+    let beyond = Record::new(6, &[THREADS, 0, 0, 0]);
     let junk = Record::new(6, &[0, 0, 1, 0]);
     // The longest record there is, which reading may have to look at up to its end.
-    let header = program(4, &Layout::told(&[0; 8]));
+    let header = program(THREADS, &Layout::told(&[0; MOST_LOCATIONS]));
     let mut cut_header = header.bytes();
-    cut_header.truncate(15);
+    cut_header.truncate(LONGEST_RECORD - 1);
     let choices = [
         (1, step.bytes()[..1 + random.below(3)].to_vec()),
         (1, cut_step),
         (2, strange.bytes()),
         (3, step.with_length(5)),
-        (3, header.with_length(13)),
+        (3, header.with_length(LONG_HEADER + 1)),
         (1, cut_header),
         (4, header.bytes()),
         (4, late),

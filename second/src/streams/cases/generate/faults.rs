@@ -21,7 +21,7 @@ const MAKERS: [(&str, Maker, usize); 38] = [
     ("fault 4", out_of_place, 520),
     ("fault 5", out_of_range, 520),
     ("fault 6", order_broken, 520),
-    ("fault 7", ninth_instruction, 520),
+    ("fault 7", one_instruction_more, 520),
     ("fault 8", unused_set, 520),
     ("fault 9", one_step_more, 520),
     ("fault 10", unset_register, 300),
@@ -34,13 +34,13 @@ const MAKERS: [(&str, Maker, usize); 38] = [
     ("faults 1 (payload)+5", cut_out_of_range, 120),
     ("faults 4+5", out_of_place_out_of_range, 120),
     ("faults 4+8", out_of_place_unused_set, 120),
-    ("faults 4+7", out_of_place_ninth, 120),
+    ("faults 4+7", out_of_place_one_more, 120),
     ("faults 5+8", out_of_range_unused_set, 300),
     ("faults 5+6", out_of_range_order_broken, 120),
     ("faults 8+6", unused_set_order_broken, 120),
-    ("faults 6+7", order_broken_ninth, 120),
-    ("faults 5+7", out_of_range_ninth, 120),
-    ("faults 8+7", unused_set_ninth, 120),
+    ("faults 6+7", order_broken_one_more, 120),
+    ("faults 5+7", out_of_range_one_more, 120),
+    ("faults 8+7", unused_set_one_more, 120),
     ("faults 5+9", out_of_range_step_more, 120),
     ("faults 8+9", unused_set_step_more, 120),
     ("faults 1 (head)+10", cut_head_unset, 60),
@@ -51,7 +51,7 @@ const MAKERS: [(&str, Maker, usize); 38] = [
     ("faults 5+10", out_of_range_unset, 60),
     ("faults 8+10", unused_set_unset, 60),
     ("faults 6+10", order_broken_unset, 60),
-    ("faults 7+10", ninth_unset, 60),
+    ("faults 7+10", one_more_unset, 60),
 ];
 
 /// How many of them have one fault; and how many of these are cut.
@@ -201,7 +201,7 @@ fn order_broken(random: &mut Random) -> Faulty {
     whole(random, &before, record.bytes(), 6)
 }
 
-fn ninth_instruction(random: &mut Random) -> Faulty {
+fn one_instruction_more(random: &mut Random) -> Faulty {
     let (sketch, before, thread) = full_thread(random);
     let record = random_instruction(random, thread, sketch.locations);
     whole(random, &before, record.bytes(), 7)

@@ -8,6 +8,7 @@ use crate::judge::case::{OWN_LINES, TOLD_LINES};
 use crate::streams::cases::frame::Frame;
 use crate::streams::layouts::Layout;
 use crate::streams::random::Random;
+use crate::streams::sizes::*;
 
 /// A program record on its way into a file.
 struct Header {
@@ -109,7 +110,7 @@ impl Header {
             before: Vec::new(),
             kind: 1,
             version: layout.version,
-            threads: random.between(1, 4),
+            threads: random.between(1, THREADS),
             locations: layout.locations(),
             lines: layout.told_lines().to_vec(),
             length: None,
@@ -145,20 +146,22 @@ impl Header {
 /// Nothing at all is a fault only where the first record must start.
 fn cut_head(random: &mut Random, header: &mut Header) {
     let least = usize::from(!header.before.is_empty());
-    let any = least + random.below(4 - least);
+    let any = least + random.below(HEAD - least);
     header.there = Some(random.pick(&[any, 2, 3]));
 }
 
 fn cut_payload(random: &mut Random, header: &mut Header) {
-    let all = 4 + header.lines.len();
+    let all = usize::from(SHORT_HEADER) + header.lines.len();
     let any = random.below(all);
-    header.there = Some(4 + random.pick(&[any, all - 1]));
+    header.there = Some(HEAD + random.pick(&[any, all - 1]));
 }
 
 /// A cut record tells more than is there.
 fn tell_outside(random: &mut Random, header: &mut Header) {
-    let any = 13 + random.below(65523) as u16;
-    let long = random.pick(&[13, 14, 255, 256, 260, 268, 65535, any]);
+    let beyond = LONG_HEADER + 1;
+    let any = beyond + random.below(usize::from(u16::MAX - beyond)) as u16;
+    let (short, wrapped) = (256 + SHORT_HEADER, 256 + LONG_HEADER);
+    let long = random.pick(&[beyond, beyond + 1, 255, 256, short, wrapped, 65535, any]);
     let short = random.pick(&[0, 1, 2, 3, 3]);
     let lengths: &[u16] = if header.there.is_some() {
         &[long]
@@ -177,8 +180,8 @@ fn misplace(random: &mut Random, header: &mut Header) {
 fn leave_range(random: &mut Random, header: &mut Header) {
     match random.below(3) {
         0 => header.version = random.pick(&[0, 3, 4, 255, 256, 257, 258, 512, 65535]),
-        1 => header.threads = random.pick(&[0, 5, 6, 128, 255]),
-        _ => header.locations = random.pick(&[0, 9, 10, 128, 255]),
+        1 => header.threads = random.pick(&[0, THREADS + 1, THREADS + 2, 128, 255]),
+        _ => header.locations = random.pick(&[0, LOCATIONS + 1, LOCATIONS + 2, 128, 255]),
     }
 }
 
@@ -189,9 +192,9 @@ fn tell_another(random: &mut Random, header: &mut Header) {
         (OWN_LINES, _) => header.lines = any_layout(random, 1).line,
         (_, true) => header.version = OWN_LINES,
         _ => {
-            let others = (0..=8).filter(|&count| count != header.lines.len());
-            let others: Vec<usize> = others.collect();
-            header.lines.resize(random.pick(&others), 0);
+            let others = (0..=LOCATIONS).filter(|&count| usize::from(count) != header.lines.len());
+            let others: Vec<u8> = others.collect();
+            header.lines.resize(random.pick(&others).into(), 0);
         }
     }
 }

@@ -5,6 +5,7 @@ pub mod changes;
 mod damage;
 pub mod faults;
 mod headers;
+mod limits;
 mod pairs;
 pub mod records;
 pub mod sketch;
@@ -17,7 +18,7 @@ use crate::streams::parts::{hand_out, Part, Take};
 use std::io;
 
 /// Made once, whatever the number of frames asked for.
-const ONCE: [Part<Frame>; 18] = [
+const ONCE: [Part<Frame>; 19] = [
     valid::all,
     damage::truncated,
     damage::flipped,
@@ -29,6 +30,7 @@ const ONCE: [Part<Frame>; 18] = [
     faults::all,
     headers::all,
     boundaries::all,
+    limits::all,
     unset::places,
     changes::telling,
     changes::versions,

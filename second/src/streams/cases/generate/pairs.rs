@@ -4,6 +4,7 @@ use super::records::*;
 use super::sketch::Sketch;
 use super::spoil::*;
 use crate::streams::random::Random;
+use crate::streams::sizes::INSTRUCTIONS;
 
 pub fn unknown_kind_odd_length(random: &mut Random) -> Faulty {
     let sketch = Sketch::lively(random);
@@ -88,7 +89,7 @@ pub fn out_of_place_unused_set(random: &mut Random) -> Faulty {
     whole(random, &before, record.bytes(), 4)
 }
 
-pub fn out_of_place_ninth(random: &mut Random) -> Faulty {
+pub fn out_of_place_one_more(random: &mut Random) -> Faulty {
     let (sketch, mut before, thread) = full_thread(random);
     let kind = random.pick(&[4, 6]);
     before.push(sketch.record(random, kind));
@@ -127,27 +128,27 @@ pub fn unused_set_order_broken(random: &mut Random) -> Faulty {
     whole(random, &before, record.bytes(), 8)
 }
 
-pub fn order_broken_ninth(random: &mut Random) -> Faulty {
+pub fn order_broken_one_more(random: &mut Random) -> Faulty {
     let mut sketch = Sketch::lively(random);
     let full = random.between(0, sketch.threads - 2);
     let later = random.between(full + 1, sketch.threads - 1);
     sketch.sections[2].clear();
-    sketch.fill_thread(random, full, 8);
-    let count = random.between(1, 8);
+    sketch.fill_thread(random, full, INSTRUCTIONS);
+    let count = random.between(1, INSTRUCTIONS);
     sketch.fill_thread(random, later, count);
     let before = sketch.before(3, sketch.sections[2].len());
     let record = random_instruction(random, full, sketch.locations);
     whole(random, &before, record.bytes(), 6)
 }
 
-pub fn out_of_range_ninth(random: &mut Random) -> Faulty {
+pub fn out_of_range_one_more(random: &mut Random) -> Faulty {
     let (sketch, before, thread) = full_thread(random);
     let mut record = random_instruction(random, thread, sketch.locations);
     leave_range_but_thread(random, &sketch, &mut record);
     whole(random, &before, record.bytes(), 5)
 }
 
-pub fn unused_set_ninth(random: &mut Random) -> Faulty {
+pub fn unused_set_one_more(random: &mut Random) -> Faulty {
     let (sketch, before, thread) = full_thread(random);
     let record = with_unused_set(random, &sketch, 3, Some(thread));
     whole(random, &before, record.bytes(), 8)

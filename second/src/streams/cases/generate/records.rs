@@ -1,9 +1,11 @@
 //! Records in range, made apart from the reader and the writer, so that a fault put into one
 //! is known by construction.
 
+use crate::judge::case::{POSITIONS, REGISTERS};
 use crate::streams::layouts::Layout;
 use crate::streams::random::Random;
 use crate::streams::registers::{Registers, EVERY};
+use crate::streams::sizes::{LONG_HEADER, SHORT_HEADER};
 
 /// Location, register, word: which of them operations 1 to 9 use.
 pub const OPERATION_USES: [[bool; 3]; 9] = [
@@ -26,7 +28,14 @@ pub const CODE_USES: [[bool; 3]; 3] = [
 ];
 
 /// The least and the most payload bytes of kinds 1 to 6.
-pub const LENGTHS: [(u16, u16); 6] = [(4, 12), (5, 5), (8, 8), (5, 5), (2, 2), (4, 4)];
+pub const LENGTHS: [(u16, u16); 6] = [
+    (SHORT_HEADER, LONG_HEADER),
+    (5, 5),
+    (8, 8),
+    (5, 5),
+    (2, 2),
+    (4, 4),
+];
 
 #[derive(Clone, Debug)]
 pub struct Record {
@@ -89,7 +98,11 @@ pub fn random_instruction(random: &mut Random, thread: u8, locations: u8) -> Rec
         } else {
             0
         },
-        if register { random.between(0, 3) } else { 0 },
+        if register {
+            random.between(0, REGISTERS - 1)
+        } else {
+            0
+        },
     ];
     instruction(fields, if word { random.word() } else { 0 })
 }
@@ -117,7 +130,11 @@ pub fn random_step(random: &mut Random, threads: u8, lines: u8) -> Record {
             0
         },
         code,
-        if position { random.between(0, 7) } else { 0 },
+        if position {
+            random.between(0, POSITIONS - 1)
+        } else {
+            0
+        },
         if line {
             random.between(0, lines - 1)
         } else {

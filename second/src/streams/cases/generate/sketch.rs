@@ -1,14 +1,16 @@
 //! A valid file as its records, kind by kind.
 
 use super::records::*;
+use crate::judge::case::{MOST_STEPS, MOST_THREADS};
 use crate::streams::layouts::Layout;
 use crate::streams::random::Random;
+use crate::streams::sizes::{INSTRUCTIONS, LOCATIONS, THREADS};
 
 pub struct Sketch {
     pub threads: u8,
     pub locations: u8,
     pub layout: Layout,
-    pub counts: [u8; 4],
+    pub counts: [u8; MOST_THREADS],
     /// Records of kind k at k - 1.
     pub sections: [Vec<Record>; 6],
 }
@@ -17,7 +19,7 @@ pub struct Sketch {
 /// eighths of the locations and threads have a record of kinds 2, 4 and 5.
 pub struct Fill {
     pub instructions: (u8, u8),
-    pub steps: (u8, u8),
+    pub steps: (usize, usize),
     pub eighths: u8,
 }
 
@@ -27,7 +29,7 @@ impl Sketch {
             threads,
             locations: layout.locations(),
             layout,
-            counts: [0; 4],
+            counts: [0; MOST_THREADS],
             sections: Default::default(),
         };
         sketch.sections[0].push(program(threads, &sketch.layout));
@@ -36,7 +38,8 @@ impl Sketch {
             sketch.fill_thread(random, thread, count);
         }
         sketch.fill_questions(random, fill.eighths);
-        for _ in 0..random.between(fill.steps.0, fill.steps.1) {
+        let (least, most) = fill.steps;
+        for _ in 0..least + random.below(most - least + 1) {
             let step = sketch.record(random, 6);
             sketch.sections[5].push(step);
         }
@@ -69,11 +72,18 @@ impl Sketch {
 
     /// Any size from 8 bytes up, large and small ones alike often.
     pub fn any(random: &mut Random) -> Sketch {
-        let (threads, layout) = (random.between(1, 4), any_layout(random, 1));
-        let most = random.pick(&[0, 1, 2, 4, 8]);
+        let (threads, layout) = (random.between(1, THREADS), any_layout(random, 1));
+        let most = random.pick(&[0, 1, 2, 4, 8, INSTRUCTIONS, INSTRUCTIONS]);
         let fill = Fill {
             instructions: (random.between(0, most), most),
-            steps: random.pick(&[(0, 0), (0, 4), (0, 4), (5, 20), (20, 96), (96, 96)]),
+            steps: random.pick(&[
+                (0, 0),
+                (0, 4),
+                (0, 4),
+                (5, 20),
+                (20, MOST_STEPS),
+                (MOST_STEPS - 1, MOST_STEPS),
+            ]),
             eighths: random.pick(&[0, 2, 4, 6, 8]),
         };
         Sketch::new(random, threads, layout, &fill)
@@ -87,7 +97,7 @@ impl Sketch {
             eighths: 4,
         };
         loop {
-            let (threads, layout) = (random.between(2, 4), any_layout(random, 2));
+            let (threads, layout) = (random.between(2, THREADS), any_layout(random, 2));
             let sketch = Sketch::new(random, threads, layout, &fill);
             if sketch.sections.iter().all(|section| !section.is_empty()) {
                 return sketch;
@@ -95,15 +105,15 @@ impl Sketch {
         }
     }
 
-    /// 1,328 bytes in version 1, 1,336 in version 2.
+    /// As long as a file of its version can be.
     pub fn longest(random: &mut Random) -> Sketch {
         let fill = Fill {
-            instructions: (8, 8),
-            steps: (96, 96),
+            instructions: (INSTRUCTIONS, INSTRUCTIONS),
+            steps: (MOST_STEPS, MOST_STEPS),
             eighths: 8,
         };
-        let layout = Layout::draw(random, 8);
-        Sketch::new(random, 4, layout, &fill)
+        let layout = Layout::draw(random, LOCATIONS);
+        Sketch::new(random, THREADS, layout, &fill)
     }
 
     pub fn records(&self) -> Vec<Record> {
@@ -154,6 +164,6 @@ impl Sketch {
 
 /// Of so many locations at least.
 pub fn any_layout(random: &mut Random, least: u8) -> Layout {
-    let locations = random.between(least, 8);
+    let locations = random.between(least, LOCATIONS);
     Layout::draw(random, locations)
 }

@@ -2,7 +2,9 @@
 
 use super::records::*;
 use super::sketch::Sketch;
+use crate::judge::case::{MOST_STEPS, POSITIONS, REGISTERS};
 use crate::streams::random::Random;
+use crate::streams::sizes::*;
 
 /// A valid part, then the faulty record; the number is the one that must be answered.
 pub struct Faulty {
@@ -117,16 +119,16 @@ pub fn disorder(random: &mut Random, kind: u16) -> (Sketch, Vec<Record>, u8) {
     }
 }
 
-/// A file whose last thread so far has eight instructions.
+/// A file whose last thread so far has as many instructions as it may have.
 pub fn full_thread(random: &mut Random) -> (Sketch, Vec<Record>, u8) {
     let mut sketch = Sketch::lively(random);
     let full = random.between(0, sketch.threads - 1);
     sketch.sections[2].clear();
     for thread in 0..=full {
         let count = if thread == full {
-            8
+            INSTRUCTIONS
         } else {
-            random.between(0, 8)
+            random.between(0, INSTRUCTIONS)
         };
         sketch.fill_thread(random, thread, count);
     }
@@ -134,10 +136,10 @@ pub fn full_thread(random: &mut Random) -> (Sketch, Vec<Record>, u8) {
     (sketch, before, full)
 }
 
-/// A file with ninety-six steps.
+/// A file with the most steps.
 pub fn full_steps(random: &mut Random) -> (Sketch, Vec<Record>) {
     let mut sketch = Sketch::lively(random);
-    while sketch.sections[5].len() < 96 {
+    while sketch.sections[5].len() < MOST_STEPS {
         let step = sketch.record(random, 6);
         sketch.sections[5].push(step);
     }
@@ -178,8 +180,8 @@ fn leave_program_range(random: &mut Random, payload: &mut [u8]) {
             let version: u16 = random.pick(&[0, 3, 4, 256, 257, 258, 512, 65535]);
             payload[..2].copy_from_slice(&version.to_le_bytes());
         }
-        1 => payload[2] = random.pick(&[0, 5, 6, 128, 255]),
-        _ => payload[3] = random.pick(&[0, 9, 10, 128, 255]),
+        1 => payload[2] = random.pick(&[0, THREADS + 1, THREADS + 2, 128, 255]),
+        _ => payload[3] = random.pick(&[0, LOCATIONS + 1, LOCATIONS + 2, 128, 255]),
     }
 }
 
@@ -195,7 +197,7 @@ fn instruction_exits(random: &mut Random, sketch: &Sketch, record: &Record) -> V
         exits.push((2, random.beyond(sketch.locations)));
     }
     if register {
-        exits.push((3, random.beyond(4)));
+        exits.push((3, random.beyond(REGISTERS)));
     }
     exits
 }
@@ -208,7 +210,7 @@ fn step_exits(random: &mut Random, sketch: &Sketch, record: &Record) -> Vec<(usi
         exits.push((0, random.beyond(sketch.threads)));
     }
     if position {
-        exits.push((2, random.beyond(8)));
+        exits.push((2, random.beyond(POSITIONS)));
     }
     if line {
         exits.push((3, random.beyond(sketch.layout.lines())));

@@ -4,10 +4,12 @@
 use super::records::*;
 use super::sketch::{any_layout, Sketch};
 use super::spoil::*;
+use crate::judge::case::MOST_INSTRUCTIONS;
 use crate::streams::cases::frame::Frame;
 use crate::streams::cases::marks::marked;
 use crate::streams::random::Random;
 use crate::streams::registers::Registers;
+use crate::streams::sizes::INSTRUCTIONS;
 
 /// The instructions of a thread.
 fn own(before: &[Record], thread: u8) -> impl Iterator<Item = &Record> {
@@ -42,7 +44,8 @@ fn unset(random: &mut Random) -> (Sketch, Vec<Record>, Record) {
         };
         let before = valid_part(random, &sketch, 3);
         let thread = random.between(last_thread(&before), sketch.threads - 1);
-        let record = unset_in(random, &before, thread).filter(|_| own(&before, thread).count() < 8);
+        let record = unset_in(random, &before, thread)
+            .filter(|_| own(&before, thread).count() < MOST_INSTRUCTIONS);
         if let Some(record) = record {
             return (sketch, before, record);
         }
@@ -129,7 +132,7 @@ pub fn order_broken_unset(random: &mut Random) -> Faulty {
     drawn(random, place, 6)
 }
 
-pub fn ninth_unset(random: &mut Random) -> Faulty {
+pub fn one_more_unset(random: &mut Random) -> Faulty {
     let place = |random: &mut Random| {
         let (_, before, thread) = full_thread(random);
         (before, thread)
@@ -147,7 +150,7 @@ pub fn set_before(random: &mut Random, faulty: &Faulty) -> Option<Faulty> {
     let next = rest.first().filter(|one| one.kind == 3);
     let next = next.map_or(last_thread(before), |one| one.payload[0]);
     let thread = random.pick(&[last_thread(before), next]);
-    if before.is_empty() || own(before, thread).count() == 8 {
+    if before.is_empty() || own(before, thread).count() == MOST_INSTRUCTIONS {
         return None;
     }
     let record = unset_in(random, before, thread)?;
@@ -174,7 +177,7 @@ pub fn set_behind(random: &mut Random, faulty: &Faulty) -> Option<Faulty> {
 /// before it; behind what sets another one, or another thread's; before what sets it; and alone.
 pub fn places(random: &mut Random) -> Vec<Frame> {
     let mut frames = Vec::new();
-    for at in 0..8 {
+    for at in 0..INSTRUCTIONS {
         for taker in [2, 9] {
             let register = random.between(0, 3);
             let (other, taken) = ((register + random.between(1, 3)) % 4, (taker, register));

@@ -6,6 +6,8 @@ use crate::streams::cases::frame::Frame;
 use crate::streams::cases::marks::marked;
 use crate::streams::layouts::Layout;
 use crate::streams::random::Random;
+use crate::streams::sizes::{LOCATIONS, THREADS};
+use crate::streams::wire::MOST_ROOM;
 
 /// The 50 bytes of the second row of document 01.
 pub const ROW: [u8; 50] = [
@@ -17,8 +19,8 @@ pub const ROW: [u8; 50] = [
 
 pub fn all(random: &mut Random) -> Vec<Frame> {
     let mut files = vec![ROW.to_vec()];
-    for threads in 1..=4 {
-        let locations = 9 - 2 * threads;
+    for locations in 1..=LOCATIONS {
+        let threads = 1 + locations % THREADS;
         files.push(program(threads, &Layout::own(locations)).bytes());
         files.push(program(threads, &Layout::draw(random, locations)).bytes());
     }
@@ -50,7 +52,7 @@ fn in_rooms(random: &mut Random, file: &[u8]) -> Vec<Frame> {
     let less = random.below(file.len()) as u32;
     let mut rooms = vec![length, more, length - 1, less, 0];
     if random.one_in(4) {
-        rooms.push(2048);
+        rooms.push(MOST_ROOM);
     }
     rooms
         .into_iter()

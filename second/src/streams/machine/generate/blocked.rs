@@ -12,11 +12,12 @@ use super::steps::issue_of_fence;
 use crate::judge::case::Step;
 use crate::judge::machine::blocker::Blocker;
 use crate::judge::machine::rules::*;
-use crate::judge::machine::state::{Entry, QUEUE_ROOM};
+use crate::judge::machine::state::Entry;
 use crate::streams::layouts;
 use crate::streams::machine::frame::{Job, Trial};
-use crate::streams::machine::spots::{spots, Seat, Spot, BY_JOB};
+use crate::streams::machine::spots::{spots, Seat, Spot, BY_JOB, LAST_BAR};
 use crate::streams::random::Random;
+use crate::streams::sizes::{INSTRUCTIONS, LOCATIONS, QUEUED, THREADS};
 
 pub fn all(random: &mut Random) -> Vec<Trial> {
     let mut trials = Vec::new();
@@ -48,15 +49,15 @@ fn trial(random: &mut Random, spot: &Spot, job: usize) -> Trial {
 }
 
 fn run(random: &mut Random, spot: &Spot) -> Trial {
-    // These may need all eight instructions of the thread.
-    let own = usize::from(![Seat::At(6), Seat::Between].contains(&spot.seat));
+    // The last bar needs all instructions of the thread.
+    let own = usize::from(spot.seat != Seat::At(LAST_BAR));
     let mut script = match spot.rule {
         BUFFER_NOT_EMPTY | BARRED => {
-            let line = random.between(0, 3);
+            let line = random.between(0, LOCATIONS / 2 - 1);
             Script::of(random, spot.which, line, own)
         }
         _ => {
-            let thread = random.between(0, 3);
+            let thread = random.between(0, THREADS - 1);
             Script::of(random, thread, spot.which, own)
         }
     };
@@ -73,7 +74,7 @@ fn run(random: &mut Random, spot: &Spot) -> Trial {
 
 /// Between the first entry that bars the flush-opt and the flush-opt may stand more such.
 fn barred_behind(random: &mut Random, s: &mut Script, position: u8) {
-    let left = 6 - s.case.counts[usize::from(s.thread)];
+    let left = LAST_BAR - s.case.counts[usize::from(s.thread)];
     barred_after(random, s, position, &BARS);
     let between = random.between(0, left - position);
     for _ in 0..between {
@@ -85,9 +86,9 @@ fn barred_behind(random: &mut Random, s: &mut Script, position: u8) {
 
 fn marker_left(random: &mut Random, s: &mut Script, rule: u8, seat: Seat) {
     let (before, behind) = match seat {
-        Seat::At(_) => ((0, 0), (0, 2)),
-        Seat::Between => ((1, 2), (1, 2)),
-        Seat::Last => ((1, 2), (0, 0)),
+        Seat::At(_) => ((0, 0), (0, 4)),
+        Seat::Between => ((1, 4), (1, 4)),
+        Seat::Last => ((1, 4), (0, 0)),
     };
     stray(random, s);
     leave_marker(random, s, before, behind);
@@ -123,7 +124,7 @@ fn step(random: &mut Random, spot: &Spot) -> Trial {
 
 fn of_thread(random: &mut Random, need: Need, thread: u8) -> Scene {
     let need = Need {
-        threads: (thread + 1, 4),
+        threads: (thread + 1, THREADS),
         ..need
     };
     loop {
@@ -137,13 +138,13 @@ fn of_thread(random: &mut Random, need: Need, thread: u8) -> Scene {
 /// The scene's location is on that line, in whose queue stand at least so many.
 fn of_line(random: &mut Random, need: Need, line: u8, least: u8) -> Scene {
     let need = Need {
-        locations: (line + 1, 8),
+        locations: (line + 1, LOCATIONS),
         spare: least,
         ..need
     };
     let mut scene = Scene::of_case(random, &need, |case| case.lines > line);
     scene.at = random.pick(&layouts::on_line(&scene.case, line.into()));
-    let most = QUEUE_ROOM as u8 - scene.to_come();
+    let most = QUEUED - scene.to_come();
     let few = most.min(least + 3);
     let most = random.pick(&[few, most]);
     scene.state.queues[usize::from(line)].count = random.between(least, most);
@@ -153,14 +154,14 @@ fn of_line(random: &mut Random, need: Need, line: u8, least: u8) -> Scene {
 
 /// What a fence needs of its thread.
 const BEFORE_FENCE: Need = Need {
-    unissued: (1, 8),
+    unissued: (1, INSTRUCTIONS),
     waiting: (0, 0),
     ..ANY
 };
 
 fn waiting_at(random: &mut Random, thread: u8) -> (Scene, Step) {
     let need = Need {
-        waiting: (1, 7),
+        waiting: (1, INSTRUCTIONS - 1),
         ..BEFORE_FENCE
     };
     let mut scene = of_thread(random, need, thread);
@@ -170,7 +171,7 @@ fn waiting_at(random: &mut Random, thread: u8) -> (Scene, Step) {
 
 fn barred_at(random: &mut Random, thread: u8, position: usize) -> (Scene, Step) {
     let need = Need {
-        waiting: (position as u8 + 2, 8),
+        waiting: (position as u8 + 2, INSTRUCTIONS),
         ..ANY
     };
     let mut scene = of_thread(random, need, thread);
@@ -187,7 +188,7 @@ fn barred_at(random: &mut Random, thread: u8, position: usize) -> (Scene, Step) 
 
 fn queued_at(random: &mut Random, line: u8) -> (Scene, Step) {
     let need = Need {
-        waiting: (1, 8),
+        waiting: (1, INSTRUCTIONS),
         ..ANY
     };
     let mut scene = of_line(random, need, line, 1);
@@ -198,7 +199,7 @@ fn queued_at(random: &mut Random, line: u8) -> (Scene, Step) {
 fn marker_at(random: &mut Random, rule: u8, line: u8, seat: Seat) -> (Scene, Step) {
     let is_issue = rule == MARKER_BEFORE_FENCE;
     let moved = Need {
-        waiting: (1, 8),
+        waiting: (1, INSTRUCTIONS),
         ..ANY
     };
     let need = if is_issue { BEFORE_FENCE } else { moved };

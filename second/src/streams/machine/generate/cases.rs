@@ -4,11 +4,13 @@ use super::programs::*;
 use super::runs::{any_step, walk};
 use super::scene::{Need, Scene, ANY};
 use super::{scripts, steps};
-use crate::judge::case::Case;
+use crate::judge::ask::RECORD;
+use crate::judge::case::{Case, MOST_LOCATIONS, MOST_STEPS, MOST_THREADS};
 use crate::judge::machine::judge::LEGAL;
 use crate::judge::reading::read;
 use crate::judge::writing::encode;
-use crate::streams::cases::frame::{slot, FIELDS_END};
+use crate::streams::cases::fields;
+use crate::streams::cases::frame::slot;
 use crate::streams::cases::generate::changes::any_register;
 use crate::streams::cases::generate::faults;
 use crate::streams::cases::generate::records::random_step;
@@ -17,6 +19,7 @@ use crate::streams::cases::marks::mark_of;
 use crate::streams::machine::frame::{Job, Trial, MOST_INPUT};
 use crate::streams::machine::marks::{marked, FITS};
 use crate::streams::random::Random;
+use crate::streams::sizes::{INSTRUCTIONS, LOCATIONS, THREADS};
 
 /// Each refusal by construction, in all jobs: where reading is refused, jobs 1 and 2 have the
 /// empty case.
@@ -47,19 +50,20 @@ pub fn longest(random: &mut Random) -> Vec<Trial> {
         let file = longest_file(random);
         let step = encode_steps(random);
         let more = MOST_INPUT as usize - file.len();
-        let length = random.pick(&[8, 100, more, more]);
+        let length = random.pick(&[RECORD, 100, more, more]);
         let tails: [(u8, Vec<u8>); 3] = [
-            (1, step[..1 + random.below(7)].to_vec()),
+            (1, step[..1 + random.below(RECORD - 1)].to_vec()),
             (2, vec![0; length]),
-            (9, step[..8 * (length / 8)].to_vec()),
+            (9, step[..RECORD * (length / RECORD)].to_vec()),
         ];
         for (number, tail) in tails {
             let input = [file.clone(), tail].concat();
             let offset = file.len();
             trials.push(marked("reading refused", number, offset, input, Job::Bytes));
         }
-        trials.push(marked("legal run", LEGAL, 96, file.clone(), Job::Bytes));
-        trials.push(marked("legal run", LEGAL, 96, file, Job::Case));
+        for job in [Job::Bytes, Job::Case] {
+            trials.push(marked("legal run", LEGAL, MOST_STEPS, file.clone(), job));
+        }
     }
     for _ in 0..10 {
         trials.push(marked("reading refused", 1, 0, Vec::new(), Job::Bytes));
@@ -69,23 +73,24 @@ pub fn longest(random: &mut Random) -> Vec<Trial> {
     trials
 }
 
-/// 1,328 bytes or 1,336, with a legal run of 96 steps.
+/// As long as a file of its version can be, with a legal run of the most steps.
 fn longest_file(random: &mut Random) -> Vec<u8> {
-    let mut case = program(random, 8, &[8; 4], &LONGEST);
-    for location in 0..8 {
+    let mut case = full_program(random, LOCATIONS, &LONGEST);
+    for location in 0..MOST_LOCATIONS {
         case.first[location] = word(random).max(1);
         case.wanted[location] = true;
         case.want[location] = word(random);
     }
-    case.passed = [random.between(1, 8); 4];
-    let (steps, _) = walk(random, &case, 96);
+    case.passed = [random.between(1, INSTRUCTIONS); MOST_THREADS];
+    let (steps, _) = walk(random, &case, MOST_STEPS);
     case.set_run(&steps);
     encode(&case)
 }
 
 /// Step records in range, as many as an input may have.
 fn encode_steps(random: &mut Random) -> Vec<u8> {
-    let records = (0..MOST_INPUT / 8).flat_map(|_| random_step(random, 4, 1).bytes());
+    let count = MOST_INPUT as usize / RECORD;
+    let records = (0..count).flat_map(|_| random_step(random, THREADS, 1).bytes());
     records.collect()
 }
 
@@ -98,7 +103,7 @@ fn step_without_case(random: &mut Random, refused: Vec<u8>) -> Trial {
     };
     let mut scene = Scene::new(random, &need);
     scene.case = Case::empty();
-    scene.state.issued = [0; 4];
+    scene.state.issued = [0; MOST_THREADS];
     let step = any_step(random, &scene.case);
     let mut trial = scene.trial(random, "step: reading refused", FITS, step);
     trial.input = refused;
@@ -106,7 +111,7 @@ fn step_without_case(random: &mut Random, refused: Vec<u8>) -> Trial {
 }
 
 pub fn changed(random: &mut Random) -> Vec<Trial> {
-    (0..60).flat_map(|_| some(random)).collect()
+    (0..50).flat_map(|_| some(random)).collect()
 }
 
 /// A field of a case with a run or of a single step's case changed; files damaged; files with
@@ -142,7 +147,7 @@ fn moved_to_another_line(random: &mut Random) -> Trial {
             let others = before
                 .iter()
                 .filter(move |&&line| stays && line != case.line[at]);
-            others.map(move |&line| (550 + at as u32, line.into()))
+            others.map(move |&line| (fields::LINE + at as u32, line.into()))
         });
         if let Some(way) = random.pick_some(&ways.collect::<Vec<(u32, u32)>>()) {
             (trial.field, trial.value) = way;
@@ -174,7 +179,7 @@ pub fn unset(random: &mut Random) -> Vec<Trial> {
 pub fn run_to_change(random: &mut Random) -> Trial {
     let mut case = any(random);
     dress(random, &mut case);
-    let length = random.below(97);
+    let length = random.below(MOST_STEPS + 1);
     let (steps, _) = walk(random, &case, length);
     case.set_run(&steps);
     Trial {
@@ -186,11 +191,19 @@ pub fn run_to_change(random: &mut Random) -> Trial {
 }
 
 /// The fields of version and lines.
-pub const LINES: (u32, u32) = (548, FIELDS_END);
+pub const LINES: (u32, u32) = (fields::VERSION, fields::END);
 
 /// The many steps must not crowd out the other fields.
 pub fn change(random: &mut Random, trial: &mut Trial) {
-    let ranges = [(0, 15), (15, 143), (15, 143), (143, 164), (164, 548), LINES];
+    let code = (fields::CODE, fields::WANTED);
+    let ranges = [
+        (0, fields::CODE),
+        code,
+        code,
+        (fields::WANTED, fields::STEPS),
+        (fields::STEPS, fields::VERSION),
+        LINES,
+    ];
     let (first, end) = random.pick(&ranges);
     change_in(random, trial, first, end);
 }
@@ -200,7 +213,7 @@ pub fn change_in(random: &mut Random, trial: &mut Trial, first: u32, end: u32) {
     trial.field = first + random.below((end - first) as usize) as u32;
     let held = slot(&mut read(&trial.input).case, trial.field).map_or(0, |slot| slot.get());
     let any = word(random);
-    let small = u32::from(random.between(0, 10));
+    let small = u32::from(random.between(0, LOCATIONS + 2));
     let (more, less) = (held.wrapping_add(1), held.wrapping_sub(1));
     let same = held.wrapping_add(1 << 24);
     trial.value = random.pick(&[held, same, more, more, less, less, 0, small, small, any]);

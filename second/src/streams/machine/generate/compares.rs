@@ -3,7 +3,7 @@
 
 use super::programs::{word, WAITING};
 use super::script::Script;
-use crate::judge::case::Instruction;
+use crate::judge::case::{Instruction, REGISTERS};
 use crate::judge::machine::blocker::Blocker;
 use crate::judge::machine::rules::{COMPARE, EXCHANGE};
 use crate::streams::random::Random;
@@ -19,7 +19,7 @@ struct Plot<'a> {
 impl Plot<'_> {
     fn new<'a>(random: &'a mut Random, s: &'a mut Script) -> Plot<'a> {
         Plot {
-            register: random.between(0, 3),
+            register: random.between(0, REGISTERS - 1),
             random,
             s,
             queued: 0,

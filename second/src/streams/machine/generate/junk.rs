@@ -3,9 +3,24 @@
 use super::programs::word as any;
 use super::scene::random_entry;
 use crate::judge::case::Case;
-use crate::judge::machine::state::State;
-use crate::streams::machine::raw::{ENTRIES_AT, ENTRY_BYTES};
+use crate::judge::machine::state::{State, MARKER};
+use crate::streams::machine::raw::{ENTRIES, ENTRY_BYTES};
 use crate::streams::random::Random;
+use crate::streams::sizes::{LOCATIONS, THREADS};
+
+/// Of writes and of markers, some that no state may have among them.
+const MARKS: [u8; 10] = [
+    0,
+    1,
+    2,
+    LOCATIONS - 1,
+    LOCATIONS,
+    MARKER - 1,
+    MARKER,
+    MARKER + THREADS - 1,
+    MARKER + THREADS,
+    255,
+];
 
 /// Junk behind the counts, and in words and registers that the program lacks.
 pub fn add_junk(random: &mut Random, case: &Case, state: &mut State) {
@@ -22,7 +37,7 @@ pub fn add_junk(random: &mut Random, case: &Case, state: &mut State) {
         let used = queue.used().len();
         for place in &mut queue.places[used..] {
             place.word = any(random);
-            place.mark = random.pick(&[0, 1, 2, 7, 8, 127, 128, 131, 132, 255]);
+            place.mark = random.pick(&MARKS);
         }
     }
     for buffer in &mut state.buffers {
@@ -35,7 +50,7 @@ pub fn add_junk(random: &mut Random, case: &Case, state: &mut State) {
 
 /// Kinds above 3, and junk where an entry's kind has no location or no word.
 pub fn add_ignored(random: &mut Random, state: &mut [u8]) {
-    let entries = &mut state[ENTRIES_AT..ENTRIES_AT + 32 * ENTRY_BYTES];
+    let entries = &mut state[ENTRIES];
     for entry in entries.chunks_mut(ENTRY_BYTES) {
         let kind = entry[0];
         entry[0] += 4 * random.pick(&[0, 0, 1, 63]);

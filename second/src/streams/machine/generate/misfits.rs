@@ -2,13 +2,15 @@
 
 use super::runs::any_step;
 use super::scene::*;
-use crate::judge::case::Case;
+use crate::judge::case::{Case, MOST_THREADS};
 use crate::judge::machine::state::{Entry, MARKER};
 use crate::judge::refusal::STATE_DOES_NOT_FIT;
 use crate::streams::layouts;
 use crate::streams::machine::frame::Trial;
 use crate::streams::machine::marks::FITS;
+use crate::streams::once;
 use crate::streams::random::Random;
+use crate::streams::sizes::{self, INSTRUCTIONS, LOCATIONS, THREADS};
 
 type Maker = fn(&mut Random) -> Scene;
 
@@ -34,11 +36,15 @@ pub const ABOVE: [(&str, Maker); 10] = [
     }),
     ("33 above: write of another line", write_of_another_line),
     ("33 above: issued", issued_above),
-    ("33 above: buffer of 8", |random| buffer_sum(random, 9)),
-    ("33 above: queue of 32", |random| queue_sum(random, 33)),
+    ("33 above: a buffer's sum", |random| {
+        buffer_sum(random, INSTRUCTIONS + 1)
+    }),
+    ("33 above: a queue's sum", |random| {
+        queue_sum(random, sizes::QUEUED + 1)
+    }),
 ];
 
-const AT: [(&str, Maker); 12] = [
+const AT: [(&str, Maker); 14] = [
     ("33 at: last thread", last_thread),
     ("33 at: last line", last_line),
     ("33 at: entry's location", |random| {
@@ -58,13 +64,19 @@ const AT: [(&str, Maker); 12] = [
         of_last_location(random, shares)
     }),
     ("33 at: issued", issued_all),
-    ("33 at: buffer of 8", |random| buffer_sum(random, 8)),
-    ("33 at: queue of 32", |random| queue_sum(random, 32)),
+    ("33 at: a buffer's sum", |random| {
+        buffer_sum(random, INSTRUCTIONS)
+    }),
+    ("33 at: a queue's sum", |random| {
+        queue_sum(random, sizes::QUEUED)
+    }),
     ("33 at: queues together", queues_together),
+    ("once 33: a buffer's sum", once_buffer_sum),
+    ("once 33: a queue's sum", once_queue_sum),
 ];
 
 pub fn all(random: &mut Random) -> Vec<Trial> {
-    (0..130).flat_map(|_| each(random)).collect()
+    (0..120).flat_map(|_| each(random)).collect()
 }
 
 pub fn some(random: &mut Random) -> Vec<Trial> {
@@ -86,12 +98,12 @@ fn each(random: &mut Random) -> Vec<Trial> {
 /// So many entries wait for a thread that the program lacks.
 fn lacking_thread(random: &mut Random) -> Scene {
     let need = Need {
-        threads: (1, 3),
-        spare: random.pick(&[1, 1, 8]),
+        threads: (1, THREADS - 1),
+        spare: random.pick(&[1, 1, INSTRUCTIONS]),
         ..ANY
     };
     let mut scene = Scene::new(random, &need);
-    let lacking = random.between(scene.case.threads, 3);
+    let lacking = random.between(scene.case.threads, THREADS - 1);
     scene.state.buffers[usize::from(lacking)].count = random.between(1, need.spare);
     scene.fill(random);
     scene
@@ -107,13 +119,13 @@ fn lacking_line(random: &mut Random, has_location: bool) -> Scene {
     let such: fn(&Case) -> bool = if has_location {
         shares
     } else {
-        |case| case.lines < 8
+        |case| case.lines < LOCATIONS
     };
     let mut scene = Scene::of_case(random, &need, such);
     let last = if has_location {
         scene.case.locations - 1
     } else {
-        7
+        LOCATIONS - 1
     };
     let any = random.between(scene.case.lines, last);
     let lacking = random.pick(&[scene.case.lines, any]);
@@ -130,7 +142,7 @@ fn shares(case: &Case) -> bool {
 /// One entry names a location, drawn from the number of them.
 fn entry_names(random: &mut Random, draw: fn(&mut Random, u8) -> u8) -> Scene {
     let need = Need {
-        waiting: (1, 8),
+        waiting: (1, INSTRUCTIONS),
         ..ANY
     };
     let mut scene = Scene::new(random, &need);
@@ -146,7 +158,7 @@ fn entry_names(random: &mut Random, draw: fn(&mut Random, u8) -> u8) -> Scene {
 }
 
 const QUEUED: Need = Need {
-    length: (1, 32),
+    length: (1, sizes::QUEUED),
     ..ANY
 };
 
@@ -180,7 +192,7 @@ fn of_last_location(random: &mut Random, such: fn(&Case) -> bool) -> Scene {
 /// Of any thread, one that the program lacks too.
 fn issued_above(random: &mut Random) -> Scene {
     let mut scene = Scene::new(random, &ANY);
-    let thread = random.below(4);
+    let thread = random.below(MOST_THREADS);
     scene.state.issued[thread] = random.beyond(scene.case.counts[thread] + 1);
     scene
 }
@@ -194,12 +206,15 @@ fn issued_all(random: &mut Random) -> Scene {
 }
 
 fn buffer_sum(random: &mut Random, sum: u8) -> Scene {
-    let need = Need { spare: 9, ..ANY };
+    let need = Need {
+        spare: INSTRUCTIONS + 1,
+        ..ANY
+    };
     let mut scene = Scene::new(random, &need);
     let waiting = sum - scene.unissued(scene.thread);
     let above = random.beyond(waiting);
     scene.state.buffers[scene.thread].count = match sum {
-        8 => waiting,
+        INSTRUCTIONS => waiting,
         _ => random.pick(&[waiting, waiting, waiting, above]),
     };
     scene.fill(random);
@@ -212,21 +227,21 @@ fn queue_sum(random: &mut Random, sum: u8) -> Scene {
     let above = random.beyond(length);
     let line = scene.line();
     scene.state.queues[line].count = match sum {
-        32 => length,
+        sizes::QUEUED => length,
         _ => random.pick(&[length, length, length, above]),
     };
     scene.fill(random);
     scene
 }
 
-/// Each queue alone is within its limit, and all of them together are above 32.
+/// Each queue alone is within its limit, and all of them together are above it.
 fn queues_together(random: &mut Random) -> Scene {
     let need = Need {
-        length: (17, 32),
+        length: (sizes::QUEUED / 2 + 1, sizes::QUEUED),
         ..ANY
     };
     let mut scene = Scene::of_case(random, &need, |case| case.lines > 1);
-    let length = 32 - scene.to_come();
+    let length = sizes::QUEUED - scene.to_come();
     let lines = usize::from(scene.case.lines);
     for queue in &mut scene.state.queues[..lines] {
         queue.count = length;
@@ -235,9 +250,45 @@ fn queues_together(random: &mut Random) -> Scene {
     scene
 }
 
+/// A case that was read before, too.
+const ONCE: Need = Need {
+    locations: (1, once::LOCATIONS),
+    unissued: (0, once::INSTRUCTIONS),
+    instructions: once::INSTRUCTIONS,
+    ..ANY
+};
+
+/// Above what was the limit, by one often.
+fn once_buffer_sum(random: &mut Random) -> Scene {
+    let need = Need {
+        spare: INSTRUCTIONS,
+        ..ONCE
+    };
+    let mut scene = Scene::new(random, &need);
+    let (least, any) = (once::INSTRUCTIONS + 1, INSTRUCTIONS);
+    let sum = random.between(least, any);
+    let waiting = random.pick(&[least, sum]) - scene.unissued(scene.thread);
+    scene.state.buffers[scene.thread].count = waiting;
+    scene.fill(random);
+    scene
+}
+
+fn once_queue_sum(random: &mut Random) -> Scene {
+    let mut scene = Scene::new(random, &ONCE);
+    while scene.to_come() > once::QUEUED {
+        scene = Scene::new(random, &ONCE);
+    }
+    let (line, least) = (scene.line(), once::QUEUED + 1);
+    let sum = random.between(least, sizes::QUEUED);
+    let length = random.pick(&[least, sum]) - scene.to_come();
+    scene.state.queues[line].count = length;
+    scene.fill(random);
+    scene
+}
+
 fn last_thread(random: &mut Random) -> Scene {
     let need = Need {
-        waiting: (1, 8),
+        waiting: (1, INSTRUCTIONS),
         ..ANY
     };
     loop {
@@ -260,7 +311,7 @@ fn last_line(random: &mut Random) -> Scene {
 /// In two frames of three the bytes of its location are junk.
 fn sfence_names_none(random: &mut Random) -> Scene {
     let need = Need {
-        waiting: (1, 8),
+        waiting: (1, INSTRUCTIONS),
         ..ANY
     };
     let mut scene = Scene::new(random, &need);

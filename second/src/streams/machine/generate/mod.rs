@@ -5,6 +5,7 @@ pub mod blocked;
 mod cases;
 mod compares;
 mod junk;
+mod limits;
 mod misfits;
 mod moves;
 mod near;
@@ -26,7 +27,7 @@ use crate::streams::random::Random;
 use std::io;
 
 /// Made once, whatever the number of frames asked for.
-const ONCE: [Part<Trial>; 16] = [
+const ONCE: [Part<Trial>; 17] = [
     runs::every_length,
     runs::filled,
     runs::ended_by_each_rule,
@@ -43,6 +44,7 @@ const ONCE: [Part<Trial>; 16] = [
     orders::beaten,
     blocked::all,
     rows::all,
+    limits::all,
 ];
 
 /// Made in turn until there are enough frames.

@@ -2,12 +2,13 @@
 
 use super::programs::word;
 use super::scene::*;
-use crate::judge::case::Step;
+use crate::judge::case::{Step, POSITIONS};
 use crate::judge::machine::blocker::Blocker;
 use crate::judge::machine::state::Entry;
 use crate::judge::machine::steps::shift;
 use crate::streams::layouts;
 use crate::streams::random::Random;
+use crate::streams::sizes::{INSTRUCTIONS, LOCATIONS, QUEUED};
 
 pub fn move_by(scene: Scene, position: usize) -> (Scene, Step) {
     let step = shift(scene.thread as u8, position as u8);
@@ -16,12 +17,12 @@ pub fn move_by(scene: Scene, position: usize) -> (Scene, Step) {
 
 pub fn beyond_the_last(random: &mut Random) -> (Scene, Step) {
     let need = Need {
-        waiting: (0, 7),
+        waiting: (0, INSTRUCTIONS - 1),
         ..ANY
     };
     let mut scene = Scene::new(random, &need);
     let waiting = scene.entries().len() as u8;
-    let position = random.between(waiting, 7);
+    let position = random.between(waiting, POSITIONS - 1);
     let position = random.pick(&[waiting, position]);
     move_by(scene, position.into())
 }
@@ -31,8 +32,8 @@ pub fn beyond_the_last(random: &mut Random) -> (Scene, Step) {
 pub fn behind(random: &mut Random, sorts: &[u8]) -> (Scene, Step) {
     let sort = random.pick(sorts);
     let need = Need {
-        waiting: (2, 8),
-        length: (u8::from(sort == 5 || sort == 6), 32),
+        waiting: (2, INSTRUCTIONS),
+        length: (u8::from(sort == 5 || sort == 6), QUEUED),
         ..ANY
     };
     let mut scene = Scene::new(random, &need);
@@ -58,7 +59,7 @@ pub fn behind(random: &mut Random, sorts: &[u8]) -> (Scene, Step) {
 
 pub fn barred(random: &mut Random) -> (Scene, Step) {
     let need = Need {
-        waiting: (2, 8),
+        waiting: (2, INSTRUCTIONS),
         ..ANY
     };
     let mut scene = Scene::new(random, &need);
@@ -85,8 +86,8 @@ pub fn bar(random: &mut Random, scene: &Scene) -> Entry {
 /// Nothing before the flush-opt bars it: other lines, and flush-opts of its own.
 pub fn passing(random: &mut Random) -> (Scene, Step) {
     let need = Need {
-        waiting: (2, 8),
-        locations: (2, 8),
+        waiting: (2, INSTRUCTIONS),
+        locations: (2, LOCATIONS),
         ..ANY
     };
     let mut scene = Scene::of_case(random, &need, |case| case.lines > 1);
@@ -122,8 +123,8 @@ pub fn passed(random: &mut Random, scene: &Scene, count: usize) -> Vec<Entry> {
 /// The first entry is of the scene's location, whose line's queue is empty (0), filled (1), or any (2).
 pub fn first(random: &mut Random, entry: fn(u8) -> Entry, filled: u8) -> (Scene, Step) {
     let need = Need {
-        waiting: (1, 8),
-        length: [(0, 0), (1, 32), (0, 32)][usize::from(filled)],
+        waiting: (1, INSTRUCTIONS),
+        length: [(0, 0), (1, QUEUED), (0, QUEUED)][usize::from(filled)],
         ..ANY
     };
     let scene = Scene::new(random, &need);
@@ -149,8 +150,8 @@ pub fn first_store(random: &mut Random) -> (Scene, Step) {
 
 pub fn first_sfence(random: &mut Random, marker: bool) -> (Scene, Step) {
     let need = Need {
-        waiting: (1, 8),
-        length: (u8::from(marker), 32),
+        waiting: (1, INSTRUCTIONS),
+        length: (u8::from(marker), QUEUED),
         ..ANY
     };
     let mut scene = Scene::new(random, &need);

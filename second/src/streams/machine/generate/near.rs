@@ -2,17 +2,18 @@
 
 use super::script::Script;
 use super::scripts::{surround, FENCES};
+use crate::judge::case::MOST_INSTRUCTIONS;
 use crate::streams::random::Random;
 
 pub fn at_once(random: &mut Random, s: &mut Script) {
-    for _ in 0..16 {
+    for _ in 0..2 * MOST_INSTRUCTIONS {
         let thread = random.pick(&[s.thread, s.other]);
-        s.at_once(random, thread, 8);
+        s.at_once(random, thread, MOST_INSTRUCTIONS);
     }
 }
 
 pub fn pass_others(random: &mut Random, s: &mut Script) {
-    let before = random.between(1, 4);
+    let before = random.between(1, 8);
     for _ in 0..before {
         s.own_elsewhere(random, &[1, 2, 5]);
     }
@@ -22,7 +23,7 @@ pub fn pass_others(random: &mut Random, s: &mut Script) {
 
 /// Flush-opts of its own line do not bar a flush-opt.
 pub fn pass_flush_opts(random: &mut Random, s: &mut Script) {
-    let before = random.between(1, 4);
+    let before = random.between(1, 8);
     for _ in 0..before {
         s.own_beside(random, &[6]);
     }

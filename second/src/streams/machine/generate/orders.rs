@@ -4,14 +4,17 @@ use super::misfits;
 use super::runs::{self, any_step, steps_with};
 use super::scene::{Scene, ANY};
 use super::{programs, scripts, steps};
-use crate::judge::case::Step;
+use crate::judge::case::{Step, POSITIONS};
+use crate::judge::case::{MOST_INSTRUCTIONS, MOST_LOCATIONS, MOST_STEPS, MOST_THREADS};
 use crate::judge::machine::rules::{ISSUE, MOVE};
 use crate::judge::machine::steps::{all_steps, issue, persist, shift};
 use crate::judge::writing::encode;
+use crate::streams::cases::fields;
 use crate::streams::machine::frame::{Job, Trial};
 use crate::streams::machine::marks::marked;
 use crate::streams::machine::raw::STATE_BYTES;
 use crate::streams::random::Random;
+use crate::streams::sizes::{INSTRUCTIONS, THREADS};
 
 /// A maker of steps may find none that serves in the scene.
 type SceneMaker = fn(&mut Random) -> Scene;
@@ -30,7 +33,7 @@ const MAKERS: [(&str, SceneMaker, StepMaker, u8); 8] = [
 ];
 
 pub fn all(random: &mut Random) -> Vec<Trial> {
-    let makers = MAKERS.iter().cycle().take(130 * MAKERS.len());
+    let makers = MAKERS.iter().cycle().take(120 * MAKERS.len());
     let mut trials: Vec<Trial> = makers.map(|maker| trial(random, maker)).collect();
     trials.extend((0..150).map(|_| any_bytes(random)));
     trials
@@ -63,9 +66,9 @@ fn misfit(random: &mut Random) -> Scene {
 /// be a location of that number.
 fn field_beyond(random: &mut Random, scene: &Scene) -> Option<Step> {
     let case = &scene.case;
-    let (thread, position) = (random.beyond(case.threads), random.beyond(8));
+    let (thread, position) = (random.beyond(case.threads), random.beyond(POSITIONS));
     let own = random.between(0, case.threads - 1);
-    let first = random.between(0, 7);
+    let first = random.between(0, POSITIONS - 1);
     let last = case.locations.max(case.lines + 1) - 1;
     let line = random.between(case.lines, last);
     let beyond = random.beyond(case.lines);
@@ -138,7 +141,7 @@ fn any_bytes(random: &mut Random) -> Trial {
     let case = programs::any(random);
     let step = any_step(random, &case);
     let mut state = random.bytes(STATE_BYTES);
-    state[STATE_BYTES - 1] = random.beyond(9);
+    state[STATE_BYTES - 1] = random.beyond(INSTRUCTIONS + 1);
     marked(
         "33: any bytes",
         33,
@@ -168,24 +171,23 @@ pub fn beaten(random: &mut Random) -> Vec<Trial> {
 /// Threads, locations, instructions of a thread, steps, the version, lines; the bits above the field's
 /// are cut.
 fn set_bad_count(random: &mut Random, trial: &mut Trial) {
-    let thread = u32::from(random.between(0, 3));
-    let counts = [
-        (1, 4),
-        (2, 8),
-        (11 + thread, 8),
-        (163, 96),
-        (548, 2),
-        (549, 8),
-    ];
-    let (field, most) = random.pick(&counts);
-    let above = random.beyond(most + 1);
+    let thread = u32::from(random.between(0, THREADS - 1));
     // No program has 0 threads, locations or lines, or is of version 0.
-    let bad = if [1, 2, 548, 549].contains(&field) {
-        random.pick(&[above, above, above, 0])
-    } else {
-        above
-    };
+    let counts = [
+        (fields::THREADS, MOST_THREADS, true),
+        (fields::LOCATIONS, MOST_LOCATIONS, true),
+        (fields::COUNTS + thread, MOST_INSTRUCTIONS, false),
+        (fields::COUNT, MOST_STEPS, false),
+        (fields::VERSION, 2, true),
+        (fields::LINES, MOST_LOCATIONS, true),
+    ];
+    let (field, most, from_one) = random.pick(&counts);
+    let bound = most as u32 + 1;
+    let any = bound + random.below(64) as u32;
+    let above = random.pick(&[bound, bound, any, bound.max(255)]);
+    let least = if from_one { 0 } else { above };
+    let bad = random.pick(&[above, above, above, least]);
     let cut = random.pick(&[0, 0, 0, 1 << 16, 1 << 24]);
     trial.field = field;
-    trial.value = cut + u32::from(bad);
+    trial.value = cut + bad;
 }

@@ -1,12 +1,13 @@
 //! Random programs, as cases in memory.
 
-use crate::judge::case::{Case, Instruction};
+use crate::judge::case::{Case, Instruction, MOST_THREADS, REGISTERS};
 use crate::judge::machine::work::full_length;
 use crate::streams::cases::generate::records::OPERATION_USES;
 use crate::streams::layouts::{self, Layout};
 use crate::streams::random::Random;
 use crate::streams::registers::mend;
 pub use crate::streams::registers::EVERY;
+use crate::streams::sizes::{INSTRUCTIONS, LOCATIONS, THREADS};
 
 /// Those whose steps do not hang on words: a compare writes or not.
 pub const SURE: [u8; 9] = [1, 2, 2, 3, 4, 5, 6, 7, 8];
@@ -40,7 +41,7 @@ pub fn instruction(random: &mut Random, operation: u8, locations: u8) -> Instruc
         made.location = random.between(0, locations - 1);
     }
     if register {
-        made.register = random.between(0, 3);
+        made.register = random.between(0, REGISTERS - 1);
     }
     if with_word {
         made.word = word(random);
@@ -79,13 +80,19 @@ pub fn program(random: &mut Random, locations: u8, counts: &[u8], operations: &[
     case
 }
 
+/// A program with as many instructions as there can be.
+pub fn full_program(random: &mut Random, locations: u8, operations: &[u8]) -> Case {
+    program(random, locations, &[INSTRUCTIONS; MOST_THREADS], operations)
+}
+
 /// Any size; few locations often, so that threads meet.
 pub fn any(random: &mut Random) -> Case {
     let few = random.between(1, 3);
-    let many = random.between(1, 8);
-    let locations = random.pick(&[few, few, many, 8]);
-    let (least, most) = random.pick(&[(8, 8), (8, 8), (4, 8), (0, 8), (1, 3)]);
-    let threads = random.pick(&[1, 2, 3, 4, 4]);
+    let many = random.between(1, LOCATIONS);
+    let locations = random.pick(&[few, few, many, many, LOCATIONS]);
+    let most = INSTRUCTIONS;
+    let (least, most) = random.pick(&[(most, most), (most / 2, most), (0, most), (4, 8), (1, 3)]);
+    let threads = random.pick(&[1, 2, 3, THREADS, THREADS]);
     let counts: Vec<u8> = (0..threads).map(|_| random.between(least, most)).collect();
     let operations: [&[u8]; 7] = [
         &EVERY, &LONG, &LONGEST, &LONGISH, &FENCED, &COMPARING, &COMPARING,
@@ -120,11 +127,11 @@ pub fn as_long_as(random: &mut Random, length: u32) -> Case {
             return case;
         }
     }
-    let locations = random.pick(&[1, 2, 8]);
-    let long = program(random, locations, &[8; 4], &LONG);
+    let locations = random.pick(&[1, 2, LOCATIONS]);
+    let long = full_program(random, locations, &LONG);
     match full_length(&long) {
         Ok(full) if full >= length && !random.one_in(8) => long,
-        _ => program(random, locations, &[8; 4], &LONGEST),
+        _ => full_program(random, locations, &LONGEST),
     }
 }
 

@@ -1,8 +1,9 @@
 //! Runs step by step with the machine: legal ones of every length, and ones that a rule ends.
 
 use super::programs::*;
-use crate::judge::case::{Case, Step, MOST_STEPS};
-use crate::judge::machine::judge::{single_step, LEGAL};
+use crate::judge::case::{Case, Step, ALL_CODE, MOST_STEPS};
+use crate::judge::machine::effects::advance;
+use crate::judge::machine::judge::LEGAL;
 use crate::judge::machine::rules::check;
 use crate::judge::machine::state::State;
 use crate::judge::machine::steps::all_steps;
@@ -10,6 +11,7 @@ use crate::judge::writing::encode;
 use crate::streams::machine::frame::{Job, Trial};
 use crate::streams::machine::marks::marked;
 use crate::streams::random::Random;
+use crate::streams::sizes::LOCATIONS;
 
 /// What a run takes first when it may choose, by step code and whether it passes another entry.
 type Taste = fn(&Step) -> u8;
@@ -64,7 +66,7 @@ fn walk_by(
             legal.retain(|step| Some(taste(step)) == best);
         }
         let step = random.pick(&legal);
-        state = single_step(case, state, &step).state;
+        advance(case, &mut state, &step);
         steps.push(step);
     }
     (steps, state)
@@ -93,22 +95,24 @@ fn legal_run(random: &mut Random, length: usize) -> Trial {
     }
 }
 
-/// Runs that issue all, then move all, then persist: buffers of eight, and a queue of
-/// thirty-two where there is one line.
+/// Runs that issue all, then move all, then persist: full buffers, and a full queue where there is one
+/// line.
 pub fn filled(random: &mut Random) -> Vec<Trial> {
-    let buffers = (20..=50).chain([32; 60]);
-    let queues = (51..=80).chain([64; 60]);
+    let (issued, moved) = (ALL_CODE, 2 * ALL_CODE);
+    let between = (issued + moved) / 2;
+    let buffers = (issued - 12..issued + 18).chain([issued; 60]);
+    let queues = (between + 1..between + 48).chain([moved; 80]);
     let mut trials = Vec::new();
     for length in buffers.chain(queues) {
         // A thread that stores from a register has a load too, which does not wait.
-        let operations: &[u8] = match (length > 50, random.one_in(2)) {
+        let operations: &[u8] = match (length > between, random.one_in(2)) {
             (true, true) => &LONG,
             (true, false) => &LONGEST,
             (false, true) => &WAITING,
             (false, false) => &[1, 5, 6, 7],
         };
-        let locations = random.pick(&[1, 1, 2, 8]);
-        let mut case = program(random, locations, &[8; 4], operations);
+        let locations = random.pick(&[1, 1, 2, LOCATIONS]);
+        let mut case = full_program(random, locations, operations);
         dress(random, &mut case);
         let (steps, _) = walk_by(random, &case, length, |step| step.code, true);
         case.set_run(&steps);
@@ -118,7 +122,7 @@ pub fn filled(random: &mut Random) -> Vec<Trial> {
 }
 
 pub fn every_length(random: &mut Random) -> Vec<Trial> {
-    let lengths = (0..=MOST_STEPS).cycle().take(18 * (MOST_STEPS + 1));
+    let lengths = (0..=MOST_STEPS).cycle().take(9 * (MOST_STEPS + 1));
     lengths.map(|length| legal_run(random, length)).collect()
 }
 
@@ -165,7 +169,7 @@ pub fn add_steps_behind(random: &mut Random, case: &Case, state: &State, steps: 
 }
 
 pub fn ended_by_each_rule(random: &mut Random) -> Vec<Trial> {
-    let rules = (21..=29).cycle().take(9 * 220);
+    let rules = (21..=29).cycle().take(9 * 180);
     rules.map(|rule| run_ended_by(random, rule)).collect()
 }
 

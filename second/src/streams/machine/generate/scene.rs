@@ -13,27 +13,30 @@ use crate::streams::machine::marks::{marked, with_blocker};
 use crate::streams::machine::raw;
 use crate::streams::random::Random;
 use crate::streams::registers::{mend, takes, Registers};
+use crate::streams::sizes::{INSTRUCTIONS, LOCATIONS, QUEUED, THREADS};
 
 /// Least and most of what a scene must have: entries waiting and instructions unissued of its
-/// thread, entries in the queue of its location's line; the least number of instructions issued of its thread;
-/// and how much every queue stays below its limit.
+/// thread, entries in the queue of its location's line; the least number of instructions issued of its thread,
+/// and the most that any thread has; and how much every queue stays below its limit.
 pub struct Need {
     pub threads: (u8, u8),
     pub locations: (u8, u8),
     pub waiting: (u8, u8),
     pub unissued: (u8, u8),
     pub issued: u8,
+    pub instructions: u8,
     pub length: (u8, u8),
     pub spare: u8,
 }
 
 pub const ANY: Need = Need {
-    threads: (1, 4),
-    locations: (1, 8),
-    waiting: (0, 8),
-    unissued: (0, 8),
+    threads: (1, THREADS),
+    locations: (1, LOCATIONS),
+    waiting: (0, INSTRUCTIONS),
+    unissued: (0, INSTRUCTIONS),
     issued: 0,
-    length: (0, 32),
+    instructions: INSTRUCTIONS,
+    length: (0, QUEUED),
     spare: 0,
 };
 
@@ -72,11 +75,11 @@ impl Scene {
         let (thread, at) = (random.below(threads), random.between(0, locations - 1));
         let loads = draw_loads(random, need, threads, thread);
         let to_come: u8 = loads.iter().map(|load| load.waiting + load.unissued).sum();
-        let free = (QUEUE_ROOM as u8).checked_sub(to_come + need.spare)?;
+        let free = QUEUED.checked_sub(to_come + need.spare)?;
         free.checked_sub(need.length.0)?;
         let counts = loads
             .iter()
-            .map(|load| random.between(load.unissued + load.issued, 8));
+            .map(|load| random.between(load.unissued + load.issued, need.instructions));
         let counts: Vec<u8> = counts.collect();
         let mut case = program(random, locations, &counts, &EVERY);
         dress(random, &mut case);
@@ -115,12 +118,13 @@ impl Scene {
             *register = super::programs::word(random);
         }
         for (line, queue) in self.state.queues.iter_mut().enumerate() {
-            for place in queue.places.iter_mut().take(queue.count.into()) {
-                *place = random_held(random, &self.case, line);
+            let own = layouts::on_line(&self.case, line);
+            for place in queue.used_mut() {
+                *place = random_held(random, &self.case, &own);
             }
         }
         for buffer in &mut self.state.buffers {
-            for place in buffer.places.iter_mut().take(buffer.count.into()) {
+            for place in buffer.used_mut() {
                 *place = random_entry(random, locations);
             }
         }
@@ -147,8 +151,9 @@ impl Scene {
     /// One of the entries in the queue of that line.
     pub fn any_held(&mut self, random: &mut Random) -> &mut Held {
         let line = self.line();
-        let queue = &mut self.state.queues[line];
-        &mut queue.places[random.below(queue.count.into())]
+        let held = self.state.queues[line].used_mut();
+        let position = random.below(held.len());
+        &mut held[position]
     }
 
     /// A marker of the scene's thread, anywhere in the queue of the location's line.
@@ -219,8 +224,7 @@ impl Scene {
     }
 
     pub fn entries(&mut self) -> &mut [Entry] {
-        let buffer = &mut self.state.buffers[self.thread];
-        &mut buffer.places[..usize::from(buffer.count)]
+        self.state.buffers[self.thread].used_mut()
     }
 
     /// The frame of the step; what the state does not use is junk in two frames of three.
@@ -243,7 +247,7 @@ impl Scene {
     }
 }
 
-/// What a thread has to come, eight at most, and the least that it has issued.
+/// What a thread has to come, no more than its buffer has room for, and the least that it has issued.
 struct Load {
     waiting: u8,
     unissued: u8,
@@ -251,7 +255,7 @@ struct Load {
 }
 
 fn draw_loads(random: &mut Random, need: &Need, threads: usize, thread: usize) -> Vec<Load> {
-    let most = random.pick(&[1, 3, 8]);
+    let most = random.pick(&[1, 3, INSTRUCTIONS / 2, INSTRUCTIONS]);
     (0..threads)
         .map(|one| {
             let (wait, left, issued) = if one == thread {
@@ -259,9 +263,11 @@ fn draw_loads(random: &mut Random, need: &Need, threads: usize, thread: usize) -
             } else {
                 ((0, most), (0, most), 0)
             };
-            let unissued = random.between(left.0, left.1.min(8 - wait.0.max(issued)));
+            let room = INSTRUCTIONS - wait.0;
+            let most = left.1.min(room).min(need.instructions - issued);
+            let unissued = random.between(left.0, most);
             Load {
-                waiting: random.between(wait.0, wait.1.min(8 - unissued)),
+                waiting: random.between(wait.0, wait.1.min(INSTRUCTIONS - unissued)),
                 unissued,
                 issued,
             }
@@ -269,13 +275,12 @@ fn draw_loads(random: &mut Random, need: &Need, threads: usize, thread: usize) -
         .collect()
 }
 
-/// A marker or, twice as often, a write of a location on the line; of any location, if there is no such
-/// line.
-fn random_held(random: &mut Random, case: &Case, line: usize) -> Held {
+/// A marker or, twice as often, a write of one of the line's own locations; of any location, if there is no
+/// such line.
+fn random_held(random: &mut Random, case: &Case, own: &[u8]) -> Held {
     let marker = MARKER + random.between(0, case.threads - 1);
     let any = random.between(0, case.locations - 1);
-    let own = layouts::on_line(case, line);
-    let write = random.pick_some(&own).unwrap_or(any);
+    let write = random.pick_some(own).unwrap_or(any);
     Held {
         // A marker's word, 0 in a reachable state.
         word: word(random),

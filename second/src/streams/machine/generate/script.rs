@@ -10,6 +10,7 @@ use crate::judge::whole::program::code;
 use crate::streams::layouts::{self, Layout};
 use crate::streams::random::Random;
 use crate::streams::registers::{mend, takes, Registers};
+use crate::streams::sizes::{LOCATIONS, THREADS};
 
 pub struct Script {
     pub case: Case,
@@ -29,9 +30,9 @@ pub struct Script {
 impl Script {
     /// Where locations are to share lines, the neighbour is another location.
     pub fn new(random: &mut Random, sharing: bool) -> Script {
-        let locations = random.between(2 + u8::from(sharing), 8);
+        let locations = random.between(2 + u8::from(sharing), LOCATIONS);
         let layout = Layout::with_lines(random, locations, 2, sharing);
-        let case = layouts::case(random.between(2, 4), &layout);
+        let case = layouts::case(random.between(2, THREADS), &layout);
         let (at, neighbour) = loop {
             let at = random.between(0, locations - 1);
             let neighbour = layouts::neighbour(random, &case, at);
@@ -49,9 +50,9 @@ impl Script {
     /// Of that thread, which has issued so many instructions at the most, and about a location on that line.
     pub fn of(random: &mut Random, thread: u8, line: u8, own: usize) -> Script {
         let lines = line.max(1) + 1;
-        let locations = random.between(lines, 8);
+        let locations = random.between(lines, LOCATIONS);
         let layout = Layout::with_lines(random, locations, lines, false);
-        let case = layouts::case(random.between(thread.max(1) + 1, 4), &layout);
+        let case = layouts::case(random.between(thread.max(1) + 1, THREADS), &layout);
         let at = random.pick(&layouts::on_line(&case, line.into()));
         let mut script = Script::begun(random, case, thread, at);
         script.preface(random, own, 2);

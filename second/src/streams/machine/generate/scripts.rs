@@ -8,7 +8,7 @@ use super::programs::WAITING;
 use super::runs::{any_step, judged};
 use super::script::Script;
 use super::{by_chance, by_turns};
-use crate::judge::case::MOST_STEPS;
+use crate::judge::case::{MOST_STEPS, POSITIONS};
 use crate::judge::machine::blocker::Blocker;
 use crate::judge::machine::judge::LEGAL;
 use crate::streams::machine::frame::Trial;
@@ -202,17 +202,17 @@ pub fn surround(random: &mut Random, s: &mut Script) {
 }
 
 fn beyond_the_last(random: &mut Random, s: &mut Script) {
-    let waiting = random.between(0, 5);
+    let waiting = random.between(0, POSITIONS - 4);
     for _ in 0..waiting {
         s.own_anywhere(random, &WAITING);
     }
-    let position = random.between(waiting, 7);
+    let position = random.between(waiting, POSITIONS - 1);
     let position = random.pick(&[waiting, position]);
     s.shift(s.thread, position);
 }
 
 fn not_a_flush_opt(random: &mut Random, s: &mut Script) {
-    let before = random.between(1, 4);
+    let before = random.between(1, 8);
     for _ in 0..before {
         s.own_anywhere(random, &WAITING);
     }

@@ -10,6 +10,7 @@ use crate::judge::machine::steps::{issue, shift};
 use crate::streams::layouts;
 use crate::streams::random::Random;
 use crate::streams::registers::takes;
+use crate::streams::sizes::{INSTRUCTIONS, QUEUED};
 
 /// A scene whose location is not alone on its line, and another location there.
 fn scene(random: &mut Random, need: &Need) -> (Scene, u8) {
@@ -25,7 +26,7 @@ fn scene(random: &mut Random, need: &Need) -> (Scene, u8) {
 /// Before the flush-opt stand flush-opts, and a store or a flush of the neighbour.
 pub fn barred_beside(random: &mut Random) -> (Scene, Step) {
     let need = Need {
-        waiting: (2, 8),
+        waiting: (2, INSTRUCTIONS),
         ..ANY
     };
     let (mut scene, location) = scene(random, &need);
@@ -58,8 +59,8 @@ fn hand_over(scene: &mut Scene, beside: u8) {
 /// The flush's location has no write in the queue, but the neighbour has.
 pub fn filled_beside(random: &mut Random) -> (Scene, Step) {
     let need = Need {
-        waiting: (1, 8),
-        length: (1, 32),
+        waiting: (1, INSTRUCTIONS),
+        length: (1, QUEUED),
         ..ANY
     };
     let (mut scene, beside) = scene(random, &need);
@@ -72,10 +73,10 @@ pub fn filled_beside(random: &mut Random) -> (Scene, Step) {
 /// The newest write is the neighbour's; the location has one before it, or none.
 pub fn look_past(random: &mut Random, operation: u8) -> (Scene, Step) {
     let need = Need {
-        unissued: (1, 8),
+        unissued: (1, INSTRUCTIONS),
         issued: u8::from(takes(operation)),
         waiting: (0, 0),
-        length: (2, 32),
+        length: (2, QUEUED),
         ..ANY
     };
     let (mut scene, beside) = scene(random, &need);

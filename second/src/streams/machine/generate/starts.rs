@@ -3,18 +3,19 @@
 
 use super::cases::{change, change_in, run_to_change, LINES};
 use crate::judge::machine::judge::LEGAL;
+use crate::streams::cases::fields;
 use crate::streams::cases::generate::faults;
 use crate::streams::machine::frame::{Job, Trial, MOST_INPUT};
 use crate::streams::machine::marks::marked;
 use crate::streams::random::Random;
 
 /// The fields of threads and locations, first contents, and how many instructions there are.
-const SHAPE: (u32, u32) = (1, 15);
+const SHAPE: (u32, u32) = (1, fields::CODE);
 /// The fields of first contents alone.
-const FIRST_CONTENTS: (u32, u32) = (3, 11);
+const FIRST_CONTENTS: (u32, u32) = (fields::FIRSTS, fields::COUNTS);
 
 pub fn all(random: &mut Random) -> Vec<Trial> {
-    (0..80).flat_map(|_| some(random)).collect()
+    (0..70).flat_map(|_| some(random)).collect()
 }
 
 pub fn some(random: &mut Random) -> Vec<Trial> {

@@ -8,7 +8,7 @@ use super::scripts::FENCES;
 use super::shared::*;
 use super::weighed::{barred_compare, compare, compare_past};
 use super::{by_chance, by_turns};
-use crate::judge::case::Step;
+use crate::judge::case::{Step, MOST_STEPS};
 use crate::judge::machine::blocker::Blocker;
 use crate::judge::machine::judge::LEGAL;
 use crate::judge::machine::rules::COMPARE;
@@ -19,14 +19,22 @@ use crate::streams::machine::frame::Trial;
 use crate::streams::machine::marks::FITS;
 use crate::streams::random::Random;
 use crate::streams::registers::takes;
+use crate::streams::sizes::{INSTRUCTIONS, QUEUED};
 
 type Maker = fn(&mut Random) -> (Scene, Step);
+
+/// Entries before a fence, which is unissued still.
+pub const WAITING_SOME: (u8, u8) = (1, INSTRUCTIONS - 1);
 
 /// Family, its maker, the number it must be answered.
 const MAKERS: [(&str, Maker, u8); 33] = [
     ("step: 21", none_left, 21),
-    ("step: 22", |random| fence(random, (1, 7), false), 22),
-    ("step: 22+23", |random| fence(random, (1, 7), true), 22),
+    ("step: 22", |random| fence(random, WAITING_SOME, false), 22),
+    (
+        "step: 22+23",
+        |random| fence(random, WAITING_SOME, true),
+        22,
+    ),
     ("step: 23", |random| fence(random, (0, 0), true), 23),
     ("step: 24", beyond_the_last, 24),
     ("step: 25", |random| behind(random, &[1, 2, 7]), 25),
@@ -57,7 +65,7 @@ const MAKERS: [(&str, Maker, u8); 33] = [
     ),
     ("step: legal passing", passing, LEGAL),
     ("step: legal sfence", |r| first_sfence(r, false), LEGAL),
-    ("step: legal persist", |r| persist_of(r, (1, 32)), LEGAL),
+    ("step: legal persist", |r| persist_of(r, (1, QUEUED)), LEGAL),
     ("step: 26, a neighbour's", barred_beside, 26),
     ("step: 27, a neighbour's", filled_beside, 27),
     ("step: load past a neighbour's", |r| look_past(r, 3), LEGAL),
@@ -130,7 +138,7 @@ pub fn anywhere(random: &mut Random) -> Vec<Trial> {
 fn on_reachable(random: &mut Random) -> Vec<Trial> {
     let mut case = any(random);
     dress(random, &mut case);
-    let length = random.below(96);
+    let length = random.below(MOST_STEPS);
     let (_, state) = walk(random, &case, length);
     (0..4)
         .map(|_| {
@@ -178,10 +186,10 @@ fn fence(random: &mut Random, waiting: (u8, u8), marker: bool) -> (Scene, Step) 
 /// least; with the blocker of a fence.
 pub fn before_fence(random: &mut Random, waiting: (u8, u8), marker: bool, issued: u8) -> Scene {
     let need = Need {
-        unissued: (1, 8),
+        unissued: (1, INSTRUCTIONS),
         issued,
         waiting,
-        length: (u8::from(marker), 32),
+        length: (u8::from(marker), QUEUED),
         ..ANY
     };
     let mut scene = Scene::new(random, &need);
@@ -207,7 +215,7 @@ pub fn issue_of_fence(random: &mut Random, mut scene: Scene) -> (Scene, Step) {
 fn issue_of(random: &mut Random, operations: &[u8]) -> (Scene, Step) {
     let operation = random.pick(operations);
     let need = Need {
-        unissued: (1, 8),
+        unissued: (1, INSTRUCTIONS),
         issued: u8::from(takes(operation)),
         ..ANY
     };

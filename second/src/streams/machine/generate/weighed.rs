@@ -3,7 +3,7 @@
 use super::programs::{instruction_at, word};
 use super::scene::*;
 use super::shared::look_past;
-use super::steps::{before_fence, issue_by};
+use super::steps::{before_fence, issue_by, WAITING_SOME};
 use crate::judge::case::Step;
 use crate::judge::machine::rules::COMPARE;
 use crate::judge::machine::state::Entry;
@@ -27,7 +27,7 @@ pub fn compare(
 /// Something waits, and perhaps there is a marker too.
 pub fn barred_compare(random: &mut Random, outcome: Outcome) -> (Scene, Step) {
     let marker = random.one_in(2);
-    compare(random, (1, 7), marker, outcome)
+    compare(random, WAITING_SOME, marker, outcome)
 }
 
 /// The newest write in the queue is the neighbour's.

@@ -8,6 +8,7 @@ use crate::streams::machine::generate::programs::{add, instruction, instruction_
 use crate::streams::question::frame::Query;
 use crate::streams::random::Random;
 use crate::streams::registers::{mend, takes};
+use crate::streams::sizes::THREADS;
 
 /// Between the stores: each operation and whether it is at the first store's location.
 const BETWEEN: [&[(u8, bool)]; 16] = [
@@ -53,7 +54,7 @@ fn commit(random: &mut Random, between: &[(u8, bool)]) -> Case {
     let locations = random.between(2, 3);
     let sharing = random.one_in(2);
     let layout = Layout::with_lines(random, locations, 1, sharing);
-    let mut case = layouts::case(random.between(1, 4), &layout);
+    let mut case = layouts::case(random.between(1, THREADS), &layout);
     let thread = usize::from(random.between(0, case.threads - 1));
     let valid = random.between(1, case.locations - 1);
     if between.iter().any(|&(operation, _)| takes(operation)) {

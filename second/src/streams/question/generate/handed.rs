@@ -3,7 +3,7 @@
 
 use super::queries::decided_within;
 use super::wants::want;
-use crate::judge::case::{Case, Instruction};
+use crate::judge::case::{Case, Instruction, REGISTERS};
 use crate::streams::layouts::{self, Layout};
 use crate::streams::machine::generate::programs::{add, instruction, word};
 use crate::streams::question::frame::Query;
@@ -37,7 +37,7 @@ fn handed(random: &mut Random) -> Case {
     let last = case.threads - 1;
     for thread in 0..last {
         let take = random.pick(&[3, 3, 4, 9]);
-        let register = random.between(0, 3);
+        let register = random.between(0, REGISTERS - 1);
         let mut code = vec![
             Instruction::new(take, thread + 1, register, 0),
             Instruction::new(2, thread, register, 0),

@@ -8,6 +8,8 @@ use crate::judge::writing::encode;
 use crate::streams::machine::generate::runs::{any_step, walk};
 use crate::streams::question::frame::Query;
 use crate::streams::random::Random;
+use crate::streams::sizes::THREADS;
+use crate::streams::wire::MOST_ROOM;
 
 /// The frames of a case, if its walk is decided within so many runs, both ends included.
 pub fn decided_within(
@@ -61,7 +63,13 @@ fn frames(random: &mut Random, case: &Case, decided: &Decided) -> Vec<Query> {
 /// The frames of a case that no budget up to the greatest one decides.
 pub fn undecided(random: &mut Random, case: &Case, most: u32) -> Vec<Query> {
     let mut asker = Asker::new(case);
-    for budget in [0, 1, 97, random.below(most as usize) as u32, most] {
+    for budget in [
+        0,
+        1,
+        MOST_STEPS as u32 + 1,
+        random.below(most as usize) as u32,
+        most,
+    ] {
         let room = asker.any_room(random);
         asker.ask(room, budget);
     }
@@ -78,7 +86,7 @@ pub fn refused(random: &mut Random, case: &Case) -> Vec<Query> {
         spoil(random, &mut asker.file);
     }
     let short = asker.need.saturating_sub(1);
-    for room in [0, short, asker.need, 2048] {
+    for room in [0, short, asker.need, MOST_ROOM] {
         let budget = random.pick(&[0, 1, 100, u32::MAX]);
         asker.ask(room, budget);
     }
@@ -89,7 +97,7 @@ pub fn refused(random: &mut Random, case: &Case) -> Vec<Query> {
 fn spoil(random: &mut Random, file: &mut Vec<u8>) {
     let bad: [&[u8]; 5] = [
         &[4, 0, 6, 0, 0, 3, 0, 0],
-        &[4, 0, 6, 0, 4, 0, 0, 0],
+        &[4, 0, 6, 0, THREADS, 0, 0, 0],
         &[4, 0, 6, 0, 0, 0, 0, 1],
         &[4, 0, 6, 0, 0, 1],
         &[4],
@@ -133,11 +141,12 @@ impl Asker<'_> {
     /// Enough, with or without bytes behind.
     fn any_room(&self, random: &mut Random) -> u32 {
         let more = self.need + 1 + random.below(40) as u32;
-        let most = if random.one_in(20) { 2048 } else { more };
+        let most = if random.one_in(20) { MOST_ROOM } else { more };
         random.pick(&[self.need, more, most])
     }
 
-    /// The last frame again, with other steps in its input: the run itself, a legal one, any.
+    /// The last frame again, with other steps in its input: the run itself, a legal one, any, any whose moves
+    /// are of the oldest entry.
     fn ask_again(&mut self, random: &mut Random, run: Option<&[Step]>) {
         let last = match self.queries.last() {
             Some(last) => (last.room, last.budget),
@@ -147,10 +156,16 @@ impl Asker<'_> {
         let length = random.pick(&[1, length, MOST_STEPS]);
         let (legal, _) = walk(random, self.case, length);
         let any: Vec<Step> = (0..length).map(|_| any_step(random, self.case)).collect();
-        let steps = match random.below(3) {
+        let oldest = |&step: &Step| Step {
+            position: 0,
+            ..step
+        };
+        let oldest: Vec<Step> = any.iter().map(oldest).collect();
+        let steps = match random.below(4) {
             0 => run.unwrap_or(&legal),
             1 => &legal,
-            _ => &any,
+            2 => &any,
+            _ => &oldest,
         };
         let mut with_steps = self.case.clone();
         with_steps.set_run(steps);

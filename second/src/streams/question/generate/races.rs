@@ -3,7 +3,7 @@
 
 use super::queries::decided_within;
 use super::wants::want;
-use crate::judge::case::{Case, Instruction};
+use crate::judge::case::{Case, Instruction, REGISTERS};
 use crate::judge::machine::rules::COMPARE;
 use crate::streams::layouts::{self, Layout};
 use crate::streams::machine::generate::programs::{add, instruction};
@@ -57,7 +57,7 @@ fn race(random: &mut Random) -> Case {
     case.first[0] = random.pick(&[0, 0, 5]);
     let mut words = vec![case.first[0]];
     for thread in 0..usize::from(threads) {
-        let register = random.between(0, 3);
+        let register = random.between(0, REGISTERS - 1);
         let from = random.between(0, 1);
         add(&mut case, thread, Instruction::new(3, from, register, 0));
         words.push(thread as u32 + 1);

@@ -4,6 +4,7 @@ use crate::streams::cases::generate::faults;
 use crate::streams::machine::frame::MOST_INPUT;
 use crate::streams::question::frame::Query;
 use crate::streams::random::Random;
+use crate::streams::wire::MOST_ROOM;
 
 pub fn all(random: &mut Random) -> Vec<Vec<Query>> {
     (0..24).map(|_| some(random)).collect()
@@ -19,8 +20,8 @@ fn some(random: &mut Random) -> Vec<Query> {
 }
 
 fn in_rooms(random: &mut Random, input: &[u8]) -> Vec<Query> {
-    let any = random.below(2049) as u32;
-    let rooms = [0, random.pick(&[8, 100, any]), 2048];
+    let any = random.below(MOST_ROOM as usize + 1) as u32;
+    let rooms = [0, random.pick(&[8, 100, any]), MOST_ROOM];
     rooms
         .iter()
         .map(|&room| Query {

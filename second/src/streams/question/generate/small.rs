@@ -8,6 +8,7 @@ use crate::streams::cases::generate::valid::ROW;
 use crate::streams::machine::generate::programs::{program, tame, COMPARING, EVERY, FENCED, LONG};
 use crate::streams::question::frame::Query;
 use crate::streams::random::Random;
+use crate::streams::sizes::{INSTRUCTIONS, LOCATIONS, THREADS};
 
 /// Exchanges, compares, fences and what they wait for.
 const HEAVY: [u8; 12] = [4, 4, 8, 8, 7, 7, 6, 1, 9, 9, 9, 3];
@@ -29,8 +30,8 @@ const EXTENTS: [(u32, u32); 6] = [
 /// A program without instructions: the empty run alone.
 pub fn empty(random: &mut Random) -> Vec<Vec<Query>> {
     let case = |random: &mut Random| {
-        let counts = vec![0; usize::from(random.between(1, 4))];
-        let locations = random.between(1, 8);
+        let counts = vec![0; usize::from(random.between(1, THREADS))];
+        let locations = random.between(1, LOCATIONS);
         program(random, locations, &counts, &EVERY)
     };
     (0..120).map(|_| draw(random, case, (1, 1))).collect()
@@ -74,10 +75,11 @@ pub fn draw(
 }
 
 fn any(random: &mut Random) -> Case {
-    let threads = random.between(1, 4);
-    let most = random.pick(&[[8, 3, 3, 2], [5, 3, 2, 2]])[usize::from(threads) - 1];
+    let threads = random.between(1, THREADS);
+    let most = random.pick(&[[INSTRUCTIONS, 3, 3, 2], [5, 3, 2, 2]])[usize::from(threads) - 1];
     let counts: Vec<u8> = (0..threads).map(|_| random.between(0, most)).collect();
-    let locations = random.pick(&[1, 2, 2, 3, 8]);
+    let any = random.between(1, LOCATIONS);
+    let locations = random.pick(&[1, 2, 2, 3, any, any]);
     let operations: [&[u8]; 9] = [
         &EVERY, &LONG, &FENCED, &HEAVY, &PASSING, &PASSING, &SHORT, &COMPARING, &COMPARING,
     ];

@@ -1,6 +1,6 @@
 //! Programs that are small enough to go through all their states.
 
-use crate::judge::case::{Case, Instruction};
+use crate::judge::case::{Case, Instruction, MOST_THREADS, REGISTERS};
 use crate::judge::machine::rules::COMPARE;
 use crate::judge::whole::program::{code, writes, writes_word};
 use crate::streams::layouts::{self, Layout};
@@ -155,7 +155,7 @@ fn replace(random: &mut Random, case: &mut Case, thread: usize, operations: &[u8
 /// All writes of a location but those of one thread go to another location.
 fn divert(case: &mut Case, at: u8, but: Option<usize>) {
     let elsewhere = (at + 1) % case.locations;
-    for thread in (0..4).filter(|&thread| Some(thread) != but) {
+    for thread in (0..MOST_THREADS).filter(|&thread| Some(thread) != but) {
         for one in &mut case.code[Case::places(thread)] {
             if writes(one) && one.location == at {
                 one.location = elsewhere;
@@ -208,7 +208,7 @@ fn handed(random: &mut Random, case: &mut Case) {
     }
     let last = code(case, taker).len() - 1;
     let place = random.below(last);
-    let register = random.between(0, 3);
+    let register = random.between(0, REGISTERS - 1);
     let take = random.pick(&[3, 3, 4]);
     let taking = &mut case.code[Case::places(taker)];
     taking[place] = Instruction::new(take, from, register, 0);

@@ -129,7 +129,8 @@ fn a_compare_that_writes_nothing() {
             advance(case, state, step);
             if let Some(one) = succeeds {
                 let queue = &mut state.queues[case.line_of(one.location)];
-                queue.take(usize::from(queue.count) - 1);
+                let last = queue.used().len() - 1;
+                queue.take(last);
             }
         },
         ..OURS

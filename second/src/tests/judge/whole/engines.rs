@@ -1,7 +1,7 @@
 //! Machines with a fault, each found by the sentences that it breaks and by no others.
 
 use super::{sentences, MOST};
-use crate::judge::case::{Case, Instruction, Step};
+use crate::judge::case::{Case, Instruction, Step, POSITIONS};
 use crate::judge::machine::effects::advance;
 use crate::judge::machine::judge::{judge, Verdict};
 use crate::judge::machine::rules::{check, ISSUE, MOVE, PERSIST};
@@ -197,12 +197,12 @@ fn a_move_that_persists_at_once() {
     check_broken(engine, &[&[store(X, 1)]], &[STEP, LENGTH, WRITTEN_OUT]);
 }
 
-/// A move of position 7 does the persist too: one state, two lengths.
+/// A move of the last position does that of the first, and the persist too: one state, two lengths.
 #[test]
 fn a_shorter_way_beside_the_long_one() {
     fn first(step: &Step) -> Step {
         Step {
-            position: step.position % 7,
+            position: step.position % (POSITIONS - 1),
             ..*step
         }
     }
@@ -210,7 +210,7 @@ fn a_shorter_way_beside_the_long_one() {
         check: |case, state, step| check(case, state, &first(step)),
         advance: |case, state, step| {
             advance(case, state, &first(step));
-            if step.position == 7 {
+            if step.position == POSITIONS - 1 {
                 advance(case, state, &persist(X));
             }
         },
