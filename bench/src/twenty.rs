@@ -30,7 +30,7 @@ fn commit(first: u8, second: u8, valid: u8) -> [Operation; 8] {
     [one, other, FlushOpt(first), FlushOpt(second), Sfence, StoreWord(valid, 1), FlushOpt(valid), Sfence]
 }
 
-/// As many stores of rising words to one location as a thread may have.
+/// Eight stores of rising words to one location.
 fn eight_stores(location: u8) -> [Operation; 8] {
     [1, 2, 3, 4, 5, 6, 7, 8].map(|word| StoreWord(location, word))
 }
