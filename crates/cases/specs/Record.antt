@@ -110,7 +110,7 @@ bytesOf (r ∷ rs) = recordBytes r ++ bytesOf rs
 unfoldable pub paddedOf : List ℕ → Padded
 paddedOf s = record { length = length s; bytes = s ++ replicate (longestRecord - length s) 0 }
 
--- n bytes, all within the first ones
+-- a record of n bytes, which stand at the front: 0 behind the front
 unfoldable pub widened : ℕ → List ℕ → Padded
 widened n front = record { length = n; bytes = front ++ replicate (longestRecord - shortRecord) 0 }
 

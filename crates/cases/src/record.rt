@@ -320,7 +320,7 @@ fn line_bytes(h: Header) -> u8
     h.listed
 }
 
-// A record of n bytes, all within the first ones.
+// A record of n bytes, which stand at the front; 0 behind the front.
 fn widen(n: usize, front: [u8; SHORT_RECORD]) -> Padded
     ensures { λ r. ⌜ r ≡ widened n front ⌝ }
 {
