@@ -29,9 +29,9 @@ extern "C" {
 
 enum {
     /* The most of a case: threads, instructions of a thread, locations. */
-    GARLUVENI_THREADS = 4,
-    GARLUVENI_INSTRUCTIONS = 16,
-    GARLUVENI_LOCATIONS = 16,
+    GARLUVENI_MOST_THREADS = 4,
+    GARLUVENI_MOST_INSTRUCTIONS = 16,
+    GARLUVENI_MOST_LOCATIONS = 16,
     /* The longest case file; a longer input is refused. */
     GARLUVENI_CASE_BYTES = 2640,
     /* A step as it is stored: a record of kind 6, that is 4, 0, 6, 0, thread, code, position, location. A

@@ -10,7 +10,7 @@ enum { STORE = 1, STORE_REGISTER, LOAD, EXCHANGE, FLUSH, FLUSH_OPT, SFENCE, MFEN
 enum { MILLION = 1000000, GUARD = 64, ROOM = MILLION + 2 * GUARD, UNTOUCHED = 0xEE };
 
 /* The budget of the question program, and the most instructions of a program. */
-enum { BUDGET = 1000000, INSTRUCTIONS = GARLUVENI_THREADS * GARLUVENI_INSTRUCTIONS };
+enum { BUDGET = 1000000, INSTRUCTIONS = GARLUVENI_MOST_THREADS * GARLUVENI_MOST_INSTRUCTIONS };
 
 static unsigned checks;
 
@@ -216,18 +216,18 @@ static void outage(void)
 /* Each thread stores to each location once, which is on a line of its own. */
 static void longest(void)
 {
-    LINED(&f, GARLUVENI_THREADS, 0, 1, 2, 3, 4, 5, 6, 7, 8, 9, 10, 11, 12, 13, 14, 15);
-    for (uint8_t location = 0; location < GARLUVENI_LOCATIONS; location++)
+    LINED(&f, GARLUVENI_MOST_THREADS, 0, 1, 2, 3, 4, 5, 6, 7, 8, 9, 10, 11, 12, 13, 14, 15);
+    for (uint8_t location = 0; location < GARLUVENI_MOST_LOCATIONS; location++)
         first_content(&f, location, 1);
     for (uint8_t i = 0; i < INSTRUCTIONS; i++)
-        instruction(&f, i / GARLUVENI_INSTRUCTIONS, STORE, i % GARLUVENI_LOCATIONS, i);
-    for (uint8_t location = 0; location < GARLUVENI_LOCATIONS; location++)
+        instruction(&f, i / GARLUVENI_MOST_INSTRUCTIONS, STORE, i % GARLUVENI_MOST_LOCATIONS, i);
+    for (uint8_t location = 0; location < GARLUVENI_MOST_LOCATIONS; location++)
         want(&f, location, 1);
-    for (uint8_t thread = 0; thread < GARLUVENI_THREADS; thread++)
-        passed(&f, thread, GARLUVENI_INSTRUCTIONS);
-    repeat(&f, "I0 I1 I2 I3", GARLUVENI_INSTRUCTIONS);
-    repeat(&f, "M0.0 M1.0 M2.0 M3.0", GARLUVENI_INSTRUCTIONS);
-    repeat(&f, "P0 P1 P2 P3 P4 P5 P6 P7 P8 P9 P10 P11 P12 P13 P14 P15", GARLUVENI_THREADS);
+    for (uint8_t thread = 0; thread < GARLUVENI_MOST_THREADS; thread++)
+        passed(&f, thread, GARLUVENI_MOST_INSTRUCTIONS);
+    repeat(&f, "I0 I1 I2 I3", GARLUVENI_MOST_INSTRUCTIONS);
+    repeat(&f, "M0.0 M1.0 M2.0 M3.0", GARLUVENI_MOST_INSTRUCTIONS);
+    repeat(&f, "P0 P1 P2 P3 P4 P5 P6 P7 P8 P9 P10 P11 P12 P13 P14 P15", GARLUVENI_MOST_THREADS);
 }
 
 static void reading_refusals(void)
@@ -267,13 +267,13 @@ static void reading_refusals(void)
 static void most_of_each(void)
 {
     program(&f, 1, 1);
-    fences(0, GARLUVENI_INSTRUCTIONS);
+    fences(0, GARLUVENI_MOST_INSTRUCTIONS);
     JUDGES(&f, GARLUVENI_LEGAL, 0);
-    program(&f, GARLUVENI_THREADS, GARLUVENI_LOCATIONS);
+    program(&f, GARLUVENI_MOST_THREADS, GARLUVENI_MOST_LOCATIONS);
     JUDGES(&f, GARLUVENI_LEGAL, 0);
-    program(&f, GARLUVENI_THREADS + 1, GARLUVENI_LOCATIONS);
+    program(&f, GARLUVENI_MOST_THREADS + 1, GARLUVENI_MOST_LOCATIONS);
     REFUSED(&f, GARLUVENI_RANGE, 0);
-    program(&f, GARLUVENI_THREADS, GARLUVENI_LOCATIONS + 1);
+    program(&f, GARLUVENI_MOST_THREADS, GARLUVENI_MOST_LOCATIONS + 1);
     REFUSED(&f, GARLUVENI_RANGE, 0);
     program(&f, 1, 1);
     run(&f, "M0.15");
@@ -313,11 +313,11 @@ static void register_refusals(uint8_t operation)
     REFUSED(&f, GARLUVENI_REGISTER, 8);
     /* of the last instruction that there may be; the next is one too many */
     program(&f, 4, 1);
-    fences(3, GARLUVENI_INSTRUCTIONS - 1);
+    fences(3, GARLUVENI_MOST_INSTRUCTIONS - 1);
     with_register(&f, 3, operation, X, 3);
     REFUSED(&f, GARLUVENI_REGISTER, 188);
     program(&f, 4, 1);
-    fences(3, GARLUVENI_INSTRUCTIONS);
+    fences(3, GARLUVENI_MOST_INSTRUCTIONS);
     with_register(&f, 3, operation, X, 3);
     REFUSED(&f, GARLUVENI_INSTRUCTION, 200);
 }
@@ -432,7 +432,7 @@ static void last_blockers(void)
     BLOCKED(&f, GARLUVENI_BARRED, 16, GARLUVENI_IN_BUFFER, 0, 14);
     program(&f, 4, 1);
     for (uint8_t i = 0; i < INSTRUCTIONS - 2; i++)
-        instruction(&f, i / GARLUVENI_INSTRUCTIONS, STORE, X, 5);
+        instruction(&f, i / GARLUVENI_MOST_INSTRUCTIONS, STORE, X, 5);
     instruction(&f, 3, FLUSH_OPT, X, 0);
     instruction(&f, 3, SFENCE, 0, 0);
     repeat(&f, "I0 M0.0 I1 M1.0 I2 M2.0", 16);
@@ -652,25 +652,25 @@ static void deepest(void)
 {
     program(&f, 4, 4);
     for (uint8_t i = 0; i < INSTRUCTIONS; i++) {
-        uint8_t thread = i / GARLUVENI_INSTRUCTIONS;
+        uint8_t thread = i / GARLUVENI_MOST_INSTRUCTIONS;
         instruction(&f, thread, thread == Z ? FLUSH_OPT : STORE, thread,
-                    thread == Z ? 0 : i % GARLUVENI_INSTRUCTIONS + 1);
+                    thread == Z ? 0 : i % GARLUVENI_MOST_INSTRUCTIONS + 1);
     }
     steps.length = 0;
     for (uint8_t i = 0; i < 12; i++) {
         const char *each[] = {"I0", "I1", "I2", "I3", "M0.0", "M1.0", "M2.0", "M3.0", "P0", "P1", "P2", "P3"};
-        repeat(&steps, each[i], GARLUVENI_INSTRUCTIONS);
+        repeat(&steps, each[i], GARLUVENI_MOST_INSTRUCTIONS);
     }
 }
 
 static void depth(void)
 {
     deepest();
-    want(&f, W, GARLUVENI_INSTRUCTIONS);
+    want(&f, W, GARLUVENI_MOST_INSTRUCTIONS);
     ASKS(&f, GARLUVENI_STEPS_BYTES, GARLUVENI_STEPS, GARLUVENI_UNDECIDED, &none);
     lengths(GARLUVENI_STEPS_BYTES, GARLUVENI_STEPS + 1);
     deepest();
-    want(&f, W, GARLUVENI_INSTRUCTIONS + 1);
+    want(&f, W, GARLUVENI_MOST_INSTRUCTIONS + 1);
     ASKS(&f, GARLUVENI_STEPS_BYTES, 20000, GARLUVENI_UNDECIDED, &none);
 }
 
