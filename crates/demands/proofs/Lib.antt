@@ -8,6 +8,7 @@ pub mod Blocker
 pub mod Rivals
 pub mod Sources
 pub mod Copies
+pub mod Remembering
 -- That what they ask for can be met, and that no wrong implementation which document 01 names meets them
 pub mod Witness
 pub mod ShutOut

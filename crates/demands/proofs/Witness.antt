@@ -1,7 +1,7 @@
 -- What the theorems of the demands ask for can be met: a case, bytes and runs that do. Assumes nothing.
-use Prim.Native.Nat.{ℕ, zero, suc, _*_, _≤_, _<_}
+use Prim.Native.Nat.{ℕ, zero, suc, _+_, _*_, _≤_, _<_}
 use mathlib.Core.Path.{_≡_, refl, ap}
-use mathlib.Core.Logic.{inl, _≢_}
+use mathlib.Core.Logic.{_⊎_, inl, inr, _≢_}
 use mathlib.Core.Bool.{true, false}
 use mathlib.Core.List.{[], _∷_}
 use native.Mathlib.Omega.{arith}
@@ -38,11 +38,16 @@ use Rattle.machine.specs.Ptso.{ptso}
 use Rattle.machine.proofs.Promises.{program-fits, ptso-lawful, full-length-most, case-lawful}
 use Rattle.machine.proofs.Effects.{start-issued}
 use Rattle.machine.proofs.Computing.{judging-computes}
+use Rattle.search.specs.Sizes.{stateWords}
 use Rattle.search.specs.Walk.{here, walkFrom}
 use Rattle.search.specs.Question.{misses, missesAt, lacksAt, reachesIn, reaches, None, FirstThat, askOf}
 use Rattle.search.specs.Question.{undecided}
+use Rattle.search.specs.Lanes.{lanesOf}
+use Rattle.search.specs.Remember.{among, firsts, distinctOf, recallOf, coversOf}
 use Rattle.search.proofs.Promises.{walk-first, undecided-exactly}
-use Rattle.demands.specs.Example.{example, blocked, threadless, stepFirst, programFirst}
+use Rattle.search.proofs.Recalled.{recall-unreachable-exactly, covers-exactly}
+use Rattle.search.proofs.Computing.{asking-computes}
+use Rattle.demands.specs.Example.{example, blocked, unmet, threadless, stepFirst, programFirst}
 use Rattle.demands.specs.Writes.{isWrite, writes, writesAt, Writer, LastWrite, Unwritten, Alone}
 use Rattle.demands.specs.Carried.{lastRun}
 use Rattle.demands.proofs.DemandThree.{any-thread}
@@ -188,6 +193,47 @@ unfolding example emptyCase reaches reachesIn anyFrom missesAt misses lacksAt st
 example-first =
     let w = walk-first (ptso (example .program)) (case-lawful example example-readable) in
     record { after = w .0; stands = w .1; passes = refl; none = λ v h. absurd h }
+
+-- P7: the start is the first of the distinct states, and reaches where nothing is asked for; a limit may be any number
+pub example-first-state :
+    FirstThat (reaches (example .ask)) (distinctOf (ptso (example .program)) (lanesOf (example .program))) []
+    (here (startOf (example .program)))
+unfolding example emptyCase reaches reachesIn anyFrom missesAt misses lacksAt startOf None Listed both either
+    distinctOf firsts among
+example-first-state =
+    let p = example .program in
+    let w = walk-first (ptso p) (case-lawful example example-readable) in
+    record {
+      after = firsts (lanesOf p) (lanesOf p (startOf p) ∷ []) (w .0);
+      stands = ap (firsts (lanesOf p) []) (w .1);
+      passes = refl;
+      none = λ v h. absurd h;
+    }
+
+pub any-limit : (n : ℕ) → coversOf (n * stateWords) n ≡ n
+any-limit n = go (covers-exactly (n * stateWords) n)
+  where
+    go : (coversOf (n * stateWords) n ≤ n)
+        × (coversOf (n * stateWords) n * stateWords ≤ n * stateWords)
+        × ((coversOf (n * stateWords) n ≡ n) ⊎ (n * stateWords < (coversOf (n * stateWords) n + 1) * stateWords))
+        → coversOf (n * stateWords) n ≡ n
+    go (l, m, inl e) = e
+    go (l, m, inr h) = omega arith
+
+-- a case none of whose distinct states reaches: it has one
+pub unmet-readable : readsBack unmet ≡ true
+unfolding unmet testing-computes
+unmet-readable = refl
+
+pub unmet-state : distinctOf (ptso (unmet .program)) (lanesOf (unmet .program)) ≡ here (startOf (unmet .program)) ∷ []
+unfolding unmet reading-computes asking-computes distinctOf firsts among
+unmet-state = refl
+
+pub unmet-none :
+    None (reaches (unmet .ask)) (distinctOf (ptso (unmet .program)) (lanesOf (unmet .program)))
+unfolding unmet reading-computes asking-computes distinctOf firsts among recallOf
+unmet-none =
+    recall-unreachable-exactly (ptso (unmet .program)) (lanesOf (unmet .program)) (reaches (unmet .ask)) 1 .0 refl .1
 
 -- a question that is not, whatever is asked: of a budget of none
 pub budget-none : (p : Program) → ProgramFits p → (a : Ask) → askOf (ptso p) (reaches a) 0 ≡ undecided

@@ -1,5 +1,5 @@
 -- What is answered.
--- judge, question, asking: the numbers
+-- judge, question, remember, asking: the numbers
 pub mod TableLaws
 -- reached, unreachable, undecided: what the question says of bytes
 pub mod AskedLaws
@@ -7,3 +7,5 @@ pub mod AskedLaws
 pub mod JudgedLaws
 -- twin: a case of two versions
 pub mod TwinAnswerLaws
+-- met: the distinct states, and what is answered over them
+pub mod MetAskedLaws

@@ -10,6 +10,7 @@
 --                  copiedRun: a run up to that second store, and one in which it persists
 --   careless       a case in memory that P8 refuses: a store of a register that nothing sets, to a location that
 --                  holds 5 at first; carelessRun: a run in which it persists
+--   unmet          a case without an instruction that asks for a 5 where its only location holds 0
 --   threadless     a case in memory that no byte string reads as: it has no thread
 --   stepFirst      bytes whose first record is a step
 --   programFirst   bytes whose first record is a program
@@ -25,7 +26,7 @@ use Rattle.cases.specs.Sizes.{mostThreads, mostInstructions, mostLocations}
 use Rattle.cases.specs.Operations.{storeWord, storeRegister, load, mfence, compare}
 use Rattle.cases.specs.Lines.{ownVersion, ownLines}
 use Rattle.cases.specs.Checks.{noInstruction}
-use Rattle.cases.specs.Draft.{emptyCase, runWith, withProgram, withFirst}
+use Rattle.cases.specs.Draft.{emptyCase, runWith, withProgram, withFirst, withAsk, withWant}
 use Rattle.machine.specs.Next.{issueStep, moveStep, persistStep}
 
 -- a case of version 1: n threads with so many instructions each, m locations, the code, and the run; it asks for
@@ -112,6 +113,9 @@ careless = withProgram slip (withFirst (slip .program) (record { location = reco
 
 abbrev pub carelessRun : List Step
 carelessRun = issueStep 0 ∷ moveStep 0 0 ∷ persistStep 0 ∷ []
+
+unfoldable pub unmet : Case
+unmet = withAsk emptyCase (withWant (emptyCase .ask) (record { location = record { 0 = 0 }; word = 5 }))
 
 unfoldable pub threadless : Case
 threadless = caseOf 0 1 [] (idle 4) (emptyCase .run)

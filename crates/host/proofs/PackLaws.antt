@@ -1,6 +1,6 @@
 -- Laws of packing: a low answer and its place fit one 32-bit number and come out of it again; and what the code
 -- packs is what the definitions pack. Assumes nothing.
-use Prim.Native.Nat.{ℕ, _^_, _<_, _≤_}
+use Prim.Native.Nat.{ℕ, _+_, _*_, _^_, _<_, _≤_}
 use mathlib.Core.Path.{_≡_, ap, _∙_}
 use mathlib.Core.List.{List}
 use native.Mathlib.Omega.{arith}
@@ -13,10 +13,13 @@ use Rattle.machine.specs.Blocker.{blockerWhich, blockerNumber, blockerPosition}
 use Rattle.machine.specs.Judge.{verdictNo, verdictPlace, verdictBlocker, judgeBytes}
 use Rattle.machine.proofs.Promises.{verdict-low}
 use Rattle.search.specs.declared.ask.Outcome.{Outcome}
+use Rattle.search.specs.declared.distinct.Remembered.{Remembered}
 use Rattle.search.specs.Question.{outcomeNo, outcomePlace, questionOf}
-use Rattle.search.proofs.Promises.{question-low}
+use Rattle.search.specs.Remember.{rememberOf}
+use Rattle.search.proofs.Promises.{question-low, remember-low}
 use Rattle.host.specs.Host.{packedOf, unpackedNo, unpackedPlace, judgePacked, placePacked, unpackedWhich}
 use Rattle.host.specs.Host.{unpackedOne, unpackedPosition, blockerPacked, questionPacked}
+use Rattle.host.specs.Host.{rememberPacked, countedPacked}
 
 module _ (number place : ℕ) (low : (number < 256) × (place ≤ longest)) where
   pub pack-fits : packedOf number place < 2 ^ 32
@@ -77,3 +80,22 @@ module _ (s : List ℕ) (room b : ℕ) (o : Outcome) (o-is : o ≡ questionOf s 
   pub outcome-packs : (n : ℕ) → n ≡ outcomeNo o → (r : ℕ) → r ≡ packedOf n at → r ≡ questionPacked s room b
   unfolding questionPacked
   outcome-packs n n-is r e = rw (e, n-is, at-is, o-is)
+
+-- the engine's that remembers: m is what it gives, `at` the place of its answer
+module _ (s : List ℕ) (room words b : ℕ) (m : Remembered) (m-is : m ≡ rememberOf s room words b) (at : ℕ)
+    (at-is : at ≡ outcomePlace (m .outcome)) where
+  pub remember-fits : at < 2 ^ 24
+  remember-fits =
+      let e = at-is ∙ ap (λ (x : Remembered). outcomePlace (x .outcome)) m-is in
+      omega (arith, remember-low s room words b .1)
+
+  pub remember-packs : (n : ℕ) → n ≡ outcomeNo (m .outcome) → (r : ℕ) → r ≡ packedOf n at
+      → r ≡ rememberPacked s room words b
+  unfolding rememberPacked
+  remember-packs n n-is r e = rw (e, n-is, at-is, m-is)
+
+  pub counted-packs : (n : ℕ) → n ≡ outcomeNo (m .outcome) → (r : ℕ) → r ≡ packedOf n at
+      → r + 4294967296 * m .states ≡ countedPacked s room words b
+  unfolding countedPacked
+  counted-packs n n-is r e =
+      λ i. remember-packs n n-is r e i + 4294967296 * m-is i .states

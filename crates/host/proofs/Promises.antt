@@ -4,13 +4,16 @@
 use Prim.Native.Nat.{ℕ, _^_, _<_}
 use mathlib.Core.Path.{_≡_}
 use mathlib.Core.List.{List}
+use native.Mathlib.Omega.{arith}
 use Rattle.machine.specs.Blocker.{blockerWhich, blockerNumber, blockerPosition}
 use Rattle.machine.specs.Judge.{verdictNo, verdictPlace, verdictBlocker, judgeBytes}
 use Rattle.machine.proofs.Promises.{verdict-low, verdict-blocker-low}
 use Rattle.search.specs.Question.{outcomeNo, outcomePlace, questionOf}
-use Rattle.search.proofs.Promises.{question-low}
+use Rattle.search.specs.Remember.{rememberOf}
+use Rattle.search.proofs.Promises.{question-low, remember-low}
 use Rattle.host.specs.Host.{unpackedNo, unpackedPlace, unpackedWhich, unpackedOne, unpackedPosition}
-use Rattle.host.specs.Host.{judgePacked, blockerPacked, questionPacked}
+use Rattle.host.specs.Host.{judgePacked, blockerPacked, questionPacked, rememberPacked, countedPacked}
+use Rattle.host.specs.Host.{uncountedNo, uncountedStates}
 use Rattle.host.proofs.PackLaws.{pack-fits, pack-unpacks, place-fits, place-unpacks}
 
 -- "It gets one 32-bit number": the judge's, for any bytes
@@ -51,3 +54,22 @@ module _ (s : List ℕ) (room b : ℕ) where
       × (unpackedPlace (questionPacked s room b) ≡ outcomePlace (questionOf s room b))
   unfolding questionPacked
   question-unpacks = pack-unpacks _ _ (question-low s room b)
+
+-- and that of the engine that remembers, with any number of lent words too
+module _ (s : List ℕ) (room words b : ℕ) where
+  pub remember-packed-fits : rememberPacked s room words b < 2 ^ 32
+  unfolding rememberPacked
+  remember-packed-fits = pack-fits _ _ (remember-low s room words b)
+
+  pub remember-unpacks :
+      (unpackedNo (rememberPacked s room words b) ≡ outcomeNo (rememberOf s room words b .outcome))
+      × (unpackedPlace (rememberPacked s room words b) ≡ outcomePlace (rememberOf s room words b .outcome))
+  unfolding rememberPacked
+  remember-unpacks = pack-unpacks _ _ (remember-low s room words b)
+
+  -- with the number of distinct states in its upper half
+  pub counted-unpacks :
+      (uncountedNo (countedPacked s room words b) ≡ rememberPacked s room words b)
+      × (uncountedStates (countedPacked s room words b) ≡ rememberOf s room words b .states)
+  unfolding countedPacked uncountedNo uncountedStates
+  counted-unpacks = let f = remember-packed-fits in (omega arith, omega arith)

@@ -9,6 +9,9 @@
 --                             one; the position
 --   blockerPacked s           what the call for the judge's blocker gets for the bytes s
 --   questionPacked s room b   what the question's call gets for the bytes s, `room` lent bytes, a budget b
+--   rememberPacked s room words b   what the call of the engine that remembers gets, with `words` lent words
+--   countedPacked s room words b    the same, and in its upper half the number of distinct states
+--   uncountedNo, uncountedStates n  of that number: the packed number, and how many distinct states
 -- Assumes nothing.
 use Prim.Native.Nat.{ℕ, _+_, _*_, _/_, _%_}
 use mathlib.Core.List.{List}
@@ -16,6 +19,7 @@ use Rattle.machine.specs.declared.blocker.Blocker.{Blocker}
 use Rattle.machine.specs.Blocker.{blockerWhich, blockerNumber, blockerPosition}
 use Rattle.machine.specs.Judge.{verdictNo, verdictPlace, verdictBlocker, judgeBytes}
 use Rattle.search.specs.Question.{outcomeNo, outcomePlace, questionOf}
+use Rattle.search.specs.Remember.{rememberOf}
 
 unfoldable pub packedOf : ℕ → ℕ → ℕ
 packedOf number place = number + 256 * place
@@ -48,3 +52,18 @@ blockerPacked s = placePacked (verdictBlocker (judgeBytes s .verdict))
 
 unfoldable pub questionPacked : List ℕ → ℕ → ℕ → ℕ
 questionPacked s room b = packedOf (outcomeNo (questionOf s room b)) (outcomePlace (questionOf s room b))
+
+-- P7: "the same packed number as the question"
+unfoldable pub rememberPacked : List ℕ → ℕ → ℕ → ℕ → ℕ
+rememberPacked s room words b =
+    packedOf (outcomeNo (rememberOf s room words b .outcome)) (outcomePlace (rememberOf s room words b .outcome))
+
+-- 2 ^ 32 times the number of distinct states, where all were gone through and none reaches
+unfoldable pub countedPacked : List ℕ → ℕ → ℕ → ℕ → ℕ
+countedPacked s room words b = rememberPacked s room words b + 4294967296 * rememberOf s room words b .states
+
+unfoldable pub uncountedNo : ℕ → ℕ
+uncountedNo n = n % 4294967296
+
+unfoldable pub uncountedStates : ℕ → ℕ
+uncountedStates n = n / 4294967296

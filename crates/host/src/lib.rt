@@ -1,5 +1,5 @@
-// What a C program calls: the judge, its blocker and the question, each answering one packed number.
-// Document 01, "The build host"; include/garluveni.h is the C face.
+// What a C program calls: the judge, its blocker, the question, and the question over distinct states, each answering
+// one packed number. Document 01, "The build host", and document 02, P4 and P7; include/garluveni.h is the C face.
 use machine::blocker;
 use machine::blocker::Blocker;
 use machine::runs;
@@ -8,7 +8,9 @@ ghost use mathlib.Core.Path.{_≡_};
 ghost use Prim.Native.Nat.{_^_, _<_};
 ghost use lib.ListN.{length};
 ghost use Rattle.search.specs.Question.{shownOf};
+ghost use Rattle.search.specs.Remember.{recalledOf, clearedOf};
 ghost use Rattle.host.specs.Host.{packedOf, judgePacked, placePacked, blockerPacked, questionPacked};
+ghost use Rattle.host.specs.Host.{rememberPacked, countedPacked};
 
 // Packing only: what is packed is proved in the layers below.
 fn packed(number: u8, place: usize) -> u32
@@ -53,4 +55,40 @@ pub extern "C" fn garluveni_question(bytes: &[u8], steps: &mut [u8], budget: u32
 {
     let outcome = search::question(bytes, steps, budget);
     packed(ask::outcome_number(outcome), ask::outcome_place(outcome))
+}
+
+#[no_mangle]
+pub extern "C" fn garluveni_remember(
+    bytes: &[u8],
+    steps: &mut [u8],
+    memory: &mut [u32],
+    budget: u32,
+) -> u32
+    ensures { λ r. ⌜ (r ≡ rememberPacked (now (bytes .entry)) (length (now (steps .entry)))
+        (length (now (memory .entry))) budget)
+        × (now (steps .exit) ≡ recalledOf (now (bytes .entry)) (length (now (memory .entry))) budget (now (steps .entry)))
+        × (now (memory .exit) ≡ clearedOf (now (bytes .entry)) (length (now (steps .entry))) (now (memory .entry))) ⌝ }
+{
+    let remembered = search::remember(bytes, steps, memory, budget);
+    let outcome = remembered.outcome;
+    packed(ask::outcome_number(outcome), ask::outcome_place(outcome))
+}
+
+// A call of its own: the number above stays what the question's is.
+#[no_mangle]
+pub extern "C" fn garluveni_remember_counting(
+    bytes: &[u8],
+    steps: &mut [u8],
+    memory: &mut [u32],
+    budget: u32,
+) -> u64
+    ensures { λ r. ⌜ (r ≡ countedPacked (now (bytes .entry)) (length (now (steps .entry)))
+        (length (now (memory .entry))) budget)
+        × (now (steps .exit) ≡ recalledOf (now (bytes .entry)) (length (now (memory .entry))) budget (now (steps .entry)))
+        × (now (memory .exit) ≡ clearedOf (now (bytes .entry)) (length (now (steps .entry))) (now (memory .entry))) ⌝ }
+{
+    let remembered = search::remember(bytes, steps, memory, budget);
+    let outcome = remembered.outcome;
+    let number = packed(ask::outcome_number(outcome), ask::outcome_place(outcome));
+    (number as u64) + 4294967296 * (remembered.states as u64)
 }

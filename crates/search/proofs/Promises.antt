@@ -28,6 +28,7 @@ use Rattle.search.specs.Walk.{walkFrom}
 use Rattle.search.specs.Question.{reaches, reached, unreachable, undecided, None, FirstThat, askOf}
 use Rattle.search.specs.Question.{outcomeNo, outcomePlace, toldOf, questionOf, shownOf}
 use Rattle.search.specs.Lanes.{lanesOf, Alike}
+use Rattle.search.specs.Remember.{rememberOf}
 use Rattle.search.specs.Seek.{seek, walkedOf, walkedNo, walkedPlace, walkedRest}
 use Rattle.search.proofs.walk.WalkLaws as WalkLaws
 use Rattle.search.proofs.walk.WalkModelLaws as WalkModelLaws
@@ -38,6 +39,7 @@ use Rattle.search.proofs.ask.ReachLaws as ReachLaws
 use Rattle.search.proofs.shown.ShownLaws as ShownLaws
 use Rattle.search.proofs.ask.QuestionLaws as QuestionLaws
 use Rattle.search.proofs.lanes.AlikeLaws as AlikeLaws
+use Rattle.search.proofs.distinct.RecalledLaws as RecalledLaws
 
 -- Machines: only some of a model's legal steps next, or all
 module _ {S K : Type 0} (m : Model S K) {Fit : S → Type 0} {rank : K → ℕ} (laws : Lawful m Fit rank) where
@@ -237,6 +239,12 @@ stored-passes s bytes read b out room run = ShownLaws.stored-legal s bytes read 
 pub question-low : (s : List ℕ) (room b : ℕ)
     → (outcomeNo (questionOf s room b) < 256) × (outcomePlace (questionOf s room b) ≤ longest)
 question-low = QuestionLaws.question-low
+
+-- the same of the engine that remembers
+pub remember-low : (s : List ℕ) (room words b : ℕ)
+    → (outcomeNo (rememberOf s room words b .outcome) < 256)
+    × (outcomePlace (rememberOf s room words b .outcome) ≤ longest)
+remember-low = RecalledLaws.remember-low
 
 -- Lanes: those of two states that fit are equal exactly where the states hold the same, of the program's threads,
 -- lines and locations

@@ -45,3 +45,5 @@ pub mod PersistLanesLaws
 pub mod StepLanesLaws
 -- alike: equal lanes
 pub mod AlikeLaws
+-- same, key, laid, lanes: equal lanes tell the work left; the lanes as the code holds them
+pub mod WorkLanesLaws

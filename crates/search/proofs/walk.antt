@@ -7,11 +7,13 @@ pub mod WalkOrderLaws
 pub mod WalkModelLaws
 -- walking, Walking, Lists: the code's loop; left, Left, restOf
 pub mod WalkLoopLaws
--- turn: a turn of the loop
+-- Turn, below, LeavesBelow: a turn of a walk's loop, over any lists of runs
+pub mod TurnLaws
+-- turn, lists: a turn of the loop
 pub mod WalkTurnLaws
--- Along, endsAlong, walk, seek: a machine that goes along with another
+-- Along, endsAlong, map, walk, seek: a machine that goes along with another
 pub mod AlongLaws
--- walk, seek: over lanes
+-- walk, seek, lanes, Good: over lanes
 pub mod WalkLanesLaws
 -- Walks, walks, held: what the code may ask of its lanes
 pub mod WalkHeldLaws

@@ -3,6 +3,7 @@ pub mod Sizes
 pub mod Walk
 pub mod Question
 pub mod Lanes
+pub mod Remember
 -- how the code does it: no contract of a public function needs these
 pub mod Seek
 pub mod Listing
@@ -10,3 +11,5 @@ pub mod Rows
 pub mod Barred
 pub mod Taken
 pub mod Held
+pub mod Table
+pub mod Recall

@@ -7,8 +7,9 @@
 --   askOf m test b       what a budget b says of the walk of a model
 --   outcomeNo, outcomePlace   01's number of an answer, and its place
 --   toldOf d             the answer that a caller gets for d
---   answerFor m test room b   the answer for a model, a lent buffer of `room` bytes, a budget b
---   shownFor m test b out     what the lent bytes hold afterwards
+--   answerBy m room d    the answer where d is decided of a model, with a lent buffer of `room` bytes
+--   shownAfter m d out   what the lent bytes hold afterwards
+--   answerFor m test room b, shownFor m test b out   both for the walk of a model, and a budget b
 --   questionOf s room b  what the question answers for the bytes s, a lent buffer of `room` bytes, a budget b
 --   shownOf s b out      what the lent bytes `out` hold afterwards
 -- Assumes nothing.
@@ -113,8 +114,12 @@ toldOf undecided = Undecided
 unfoldable pub short : {S K : Type 0} → Model S K → ℕ → Bool
 short m room = ltb room (stepSize * fullLength m)
 
-unfoldable pub answerFor : {S : Type 0} → Model S Step → (S → Bool) → ℕ → ℕ → Outcome
-answerFor m test room b = pick (short m room) (Refused 31 0) (toldOf (askOf m test b))
+-- the answer for what is decided of a model
+unfoldable pub answerBy : {S : Type 0} → Model S Step → ℕ → Decided Step → Outcome
+answerBy m room d = pick (short m room) (Refused 31 0) (toldOf d)
+
+abbrev pub answerFor : {S : Type 0} → Model S Step → (S → Bool) → ℕ → ℕ → Outcome
+answerFor m test room b = answerBy m room (askOf m test b)
 
 unfoldable pub questionOf : List ℕ → ℕ → ℕ → Outcome
 questionOf s room b =
@@ -129,8 +134,11 @@ shownBy (reached run) out = stepsBytes run ++ drop (stepSize * length run) out
 shownBy unreachable out = out
 shownBy undecided out = out
 
-unfoldable pub shownFor : {S : Type 0} → Model S Step → (S → Bool) → ℕ → List ℕ → List ℕ
-shownFor m test b out = pick (short m (length out)) out (shownBy (askOf m test b) out)
+unfoldable pub shownAfter : {S : Type 0} → Model S Step → Decided Step → List ℕ → List ℕ
+shownAfter m d out = pick (short m (length out)) out (shownBy d out)
+
+abbrev pub shownFor : {S : Type 0} → Model S Step → (S → Bool) → ℕ → List ℕ → List ℕ
+shownFor m test b out = shownAfter m (askOf m test b) out
 
 unfoldable pub shownOf : List ℕ → ℕ → List ℕ → List ℕ
 shownOf s b out =

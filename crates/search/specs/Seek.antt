@@ -3,6 +3,7 @@
 --   seek test b vs      the first of the runs vs that passes the test, at a budget b
 --   walkedOf d x        what the walk at depth d answers
 --   walkedNo, walkedPlace, walkedRest   of that answer: 01's number, its place, what is left of the budget
+--   walkedOutcome w     what a caller gets for that answer
 --   storedOf d x out    what it leaves in the lent bytes: the run's records behind those of the first d steps
 -- Assumes nothing.
 use Prim.Native.Nat.{ℕ, zero, suc, _+_, _*_}
@@ -15,6 +16,8 @@ use Rattle.cases.specs.Seats.{stepsBytes}
 use Rattle.cases.specs.Sizes.{stepSize}
 use Rattle.search.specs.declared.walk.Walked.{Walked}
 use Rattle.search.specs.declared.walk.Walked.the-variants.{Found, Finished, Stopped}
+use Rattle.search.specs.declared.ask.Outcome.{Outcome}
+use Rattle.search.specs.declared.ask.Outcome.the-variants.{Reached, Unreachable, Undecided}
 use Rattle.search.specs.Walk.{Visit}
 
 -- a run that passes; none does, and so much of the budget is left; the budget is used up
@@ -51,6 +54,11 @@ abbrev pub walkedRest : Walked → ℕ
 walkedRest (Found n) = 0
 walkedRest (Finished b) = b
 walkedRest Stopped = 0
+
+abbrev pub walkedOutcome : Walked → Outcome
+walkedOutcome (Found n) = Reached n
+walkedOutcome (Finished b) = Unreachable
+walkedOutcome Stopped = Undecided
 
 unfoldable pub storedOf : ℕ → Sought Step → List ℕ → List ℕ
 storedOf d (hit run) out = sets out (stepSize * d) (stepsBytes run)

@@ -4,6 +4,8 @@
 --   countsAt, linesAt, codesAt   where the counts, the lines and the instructions stand in a listing
 --   allListing      the numbers of a listing
 --   flushTag, flushOptTag, sfenceTag   the least tag of each kind of entry behind the stores
+--   stateWords      the lent words that a state takes in a walk that remembers: 768 bytes
+--   recordWords     those of its record; one more is the head of a bucket
 -- Assumes nothing.
 use Prim.Native.Nat.{ℕ, _+_, _*_}
 use Rattle.cases.specs.Sizes.{mostThreads, mostLocations, mostRegisters, allCode}
@@ -32,3 +34,10 @@ flushOptTag = 512
 
 abbrev pub sfenceTag : ℕ
 sfenceTag = 768
+
+-- part of the answers: "a size per state fixed in docs/ (at most 4,096 bytes)"
+abbrev pub stateWords : ℕ
+stateWords = 192
+
+abbrev pub recordWords : ℕ
+recordWords = 191

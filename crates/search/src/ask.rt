@@ -15,6 +15,7 @@ ghost use Rattle.cases.specs.Ranges.{ProgramFits};
 ghost use Rattle.machine.specs.Ptso.{ptso};
 ghost use Rattle.search.specs.Question.{reaches, outcomeNo, outcomePlace, answerFor, shownFor};
 ghost use Rattle.search.specs.Question.{questionOf, shownOf};
+ghost use Rattle.search.specs.Seek.{walkedOutcome};
 ghost use Rattle.search.specs.Held.{AskWithin};
 
 // Reached with the number of steps of the run that is shown; refused with the number and the offset.
@@ -49,6 +50,17 @@ pub fn outcome_place(o: Outcome) -> usize
     }
 }
 
+// What a walk's answer comes to.
+pub(crate) fn told(w: Walked) -> Outcome
+    ensures { λ r. ⌜ r ≡ walkedOutcome w ⌝ }
+{
+    match w {
+        Walked::Found(count) => Outcome::Reached(count),
+        Walked::Finished(_) => Outcome::Unreachable,
+        Walked::Stopped => Outcome::Undecided,
+    }
+}
+
 // The question of a program that the machine can run: 31, then the walk.
 fn ask(p: Program, a: Ask, run: &mut [u8], budget: u32) -> Outcome
     requires { ⌜ ProgramFits p × AskWithin p a ⌝ }
@@ -62,11 +74,7 @@ fn ask(p: Program, a: Ask, run: &mut [u8], budget: u32) -> Outcome
     let c = listing::listing(p);
     let q = a;
     let x = start::start_lanes(p, &c);
-    match walk::walk(&c, &q.wanted, &q.want, &q.passed, &x, budget, 0, run) {
-        Walked::Found(count) => Outcome::Reached(count),
-        Walked::Finished(_) => Outcome::Unreachable,
-        Walked::Stopped => Outcome::Undecided,
-    }
+    told(walk::walk(&c, &q.wanted, &q.want, &q.passed, &x, budget, 0, run))
 }
 
 // The question of a case as bytes: reading first. Kind 6 records are read, and not looked at.

@@ -22,3 +22,9 @@ pub const FLUSH_TAG: u32 = 256;
 pub const FLUSH_OPT_TAG: u32 = 512;
 
 pub const SFENCE_TAG: u32 = 768;
+
+// The lent words that a state takes in a walk that remembers, and those of its record; one more is the head of a
+// bucket.
+pub const STATE: usize = 192;
+
+pub const RECORD: usize = STATE - 1;

@@ -30,7 +30,9 @@ use Rattle.machine.proofs.Promises.{rule-in-table}
 use Rattle.search.specs.declared.ask.Outcome.{Outcome}
 use Rattle.search.specs.declared.ask.Outcome.the-variants.{Refused}
 use Rattle.search.specs.Question.{Decided, reached, unreachable, undecided, toldOf, outcomeNo, askOf, short}
-use Rattle.search.specs.Question.{reaches, answerFor, questionOf}
+use Rattle.search.specs.declared.distinct.Remembered.{Remembered}
+use Rattle.search.specs.Question.{reaches, answerBy, questionOf}
+use Rattle.search.specs.Remember.{rememberFor, rememberOf}
 
 -- a verdict's number: 103, 21 to 29, or 1 to 10
 unfoldable Told : ℕ → Type 0
@@ -94,9 +96,19 @@ pub question-table : (s : List ℕ) (room b : ℕ)
     → ((100 ≤ outcomeNo (questionOf s room b)) × (outcomeNo (questionOf s room b) ≤ 102))
     ⊎ (outcomeNo (questionOf s room b) ≡ 31)
     ⊎ ((1 ≤ outcomeNo (questionOf s room b)) × (outcomeNo (questionOf s room b) ≤ 10))
-unfolding Answered questionOf answerFor
+unfolding Answered questionOf answerBy
 question-table s room b =
     pick-cases Answered _ _ _
+    (λ e. pick-cases Answered _ _ _ (λ k. inr (inl refl)) (λ k. decided-table _))
+    (λ e. inr (inr (refused-table s (eqb-false _ _ e))))
+
+pub remember-table : (s : List ℕ) (room words b : ℕ)
+    → ((100 ≤ outcomeNo (rememberOf s room words b .outcome)) × (outcomeNo (rememberOf s room words b .outcome) ≤ 102))
+    ⊎ (outcomeNo (rememberOf s room words b .outcome) ≡ 31)
+    ⊎ ((1 ≤ outcomeNo (rememberOf s room words b .outcome)) × (outcomeNo (rememberOf s room words b .outcome) ≤ 10))
+unfolding Answered rememberOf rememberFor answerBy
+remember-table s room words b =
+    pick-cases (λ (r : Remembered). Answered (r .outcome)) _ _ _
     (λ e. pick-cases Answered _ _ _ (λ k. inr (inl refl)) (λ k. decided-table _))
     (λ e. inr (inr (refused-table s (eqb-false _ _ e))))
 
@@ -106,7 +118,7 @@ pub asking-order : (s : List ℕ) (room b : ℕ)
     (Refused (numberOf (readOf s .answer)) (offsetOf (readOf s .answer)))
     (pick (ltb room (stepSize * fullLength (ptso (readOf s .case .program)))) (Refused 31 0)
     (toldOf (askOf (ptso (readOf s .case .program)) (reaches (readOf s .case .ask)) b)))
-unfolding questionOf answerFor short pick
+unfolding questionOf answerBy short pick
 asking-order s room b = swapped (eqb (numberOf (readOf s .answer)) 0) _ _
   where
     swapped : (t : Bool) (x y : Outcome) → pick t x y ≡ pick (not t) y x

@@ -28,13 +28,12 @@ use Rattle.machine.specs.Ptso.{ptso}
 use Rattle.machine.proofs.Promises.{ptso-lawful, start-fits, full-length-most, start-together}
 use Rattle.machine.proofs.Promises.{instructions-most}
 use Rattle.search.specs.declared.walk.Walked.{Walked}
-use Rattle.search.specs.declared.walk.Walked.the-variants.{Found, Finished, Stopped}
 use Rattle.search.specs.declared.ask.Outcome.{Outcome}
-use Rattle.search.specs.declared.ask.Outcome.the-variants.{Reached, Unreachable, Undecided, Refused}
+use Rattle.search.specs.declared.ask.Outcome.the-variants.{Refused}
 use Rattle.search.specs.Walk.{Visit, walk, walkOf, walkFrom}
-use Rattle.search.specs.Question.{reaches, reached, FirstThat, askOf, toldOf, short, answerFor}
-use Rattle.search.specs.Question.{questionOf, shownBy, shownFor, shownOf}
-use Rattle.search.specs.Seek.{Sought, hit, done, usedUp, seek, walkedOf, storedOf}
+use Rattle.search.specs.Question.{reaches, reached, FirstThat, askOf, answerFor, questionOf, shownFor}
+use Rattle.search.specs.Question.{shownOf}
+use Rattle.search.specs.Seek.{Sought, hit, seek, walkedOf, walkedOutcome, storedOf}
 use Rattle.search.specs.Lanes.{lanesOf}
 use Rattle.search.specs.Listing.{listingOf}
 use Rattle.search.specs.Taken.{padded, lanesMachine, reachesLanes}
@@ -42,9 +41,9 @@ use Rattle.search.specs.Held.{AskWithin, Held}
 use Rattle.machine.proofs.lists.ListedLaws.{listed-right}
 use Rattle.search.proofs.walk.WalkModelLaws.{walk-short}
 use Rattle.search.proofs.walk.WalkLanesLaws.{seek-lanes}
-use Rattle.search.proofs.seek.SeekLaws.{comesTo, seek-decides, walked-found, walked-finished}
-use Rattle.search.proofs.seek.SeekLaws.{walked-stopped}
+use Rattle.search.proofs.seek.SeekLaws.{comesTo, seek-decides}
 use Rattle.search.proofs.seek.BudgetLaws.{budget-reached-is}
+use Rattle.search.proofs.ask.AnswerLaws.{Answers, answer-short, answer-sought}
 
 -- the first that reaches is on the list
 pub ask-first-on : {S K : Type 0} (test : S → Bool) (vs before : List (Visit S K)) (v : Visit S K)
@@ -79,6 +78,9 @@ module _ (p : Program) (fits : ProgramFits p) (a : Ask) (b : ℕ) where
       → askOf (ptso p) (reaches a) b ≡ comesTo x
   unfolding askOf walkFrom
   sought-is x e = sym (seek-decides (reaches a) b (walkOf (ptso p) (startOf p))) ∙ ap comesTo e
+
+  abbrev soughtFrom : State → Sought Step
+  soughtFrom s = seek (reaches a) b (walkOf (ptso p) s)
 
   -- as the code has them: s is the start, w its work
   module _ (s : State) (s-is : s ≡ startOf p) (w : ℕ) (w-is : w ≡ work p s) (out : List ℕ) where
@@ -131,73 +133,26 @@ module _ (p : Program) (fits : ProgramFits p) (a : Ask) (b : ℕ) where
 
     -- the buffer is too short
     pub ask-short : length out < stepSize * w
-        → (Refused 31 0 ≡ answerFor (ptso p) (reaches a) (length out) b)
-        × (out ≡ shownFor (ptso p) (reaches a) b out)
-    unfolding answerFor shownFor short
+        → Answers (ptso p) out (askOf (ptso p) (reaches a) b) (Refused 31 0) out
     ask-short h =
         let e = full-is in
-        let t = lt-ltb (length out) (stepSize * fullLength (ptso p)) (omega arith) in
-        (sym (pick-true _ _ _ t), sym (pick-true _ _ _ t))
+        answer-short (ptso p) out (askOf (ptso p) (reaches a) b) (omega arith)
 
-    -- it is not: what the walk leaves
-    module _ (h : stepSize * w ≤ length out) (within : AskWithin p a) (c x : List ℕ) (c-is : c ≡ listingOf p)
-        (x-is : x ≡ padded (lanesOf p (startOf p))) (r : Walked) (last : List ℕ) (over : LeavesOver c x r last) where
-      abbrev sought : Sought Step
-      sought = seek (reaches a) b (walkOf (ptso p) s)
+    asked : (y : Sought Step) → soughtFrom s ≡ y → askOf (ptso p) (reaches a) b ≡ comesTo y
+    asked y e = sought-is y (ap soughtFrom (sym s-is) ∙ e)
 
-      left : (r ≡ walkedOf 0 sought) × (last ≡ storedOf 0 sought out)
-      left = ask-walked within c x c-is x-is r last over
-
-      abbrev Answers : Outcome → Type 0
-      Answers o = (o ≡ answerFor (ptso p) (reaches a) (length out) b)
-          × (last ≡ shownFor (ptso p) (reaches a) b out)
-
-      -- what is answered and stored, by what is sought
-      answer-as : (o : Outcome) → o ≡ toldOf (askOf (ptso p) (reaches a) b)
-          → last ≡ shownBy (askOf (ptso p) (reaches a) b) out → Answers o
-      unfolding answerFor shownFor short
-      answer-as o e f =
-          let g = full-is in
-          let t = le-ltb (length out) (stepSize * fullLength (ptso p)) (omega arith) in
-          (e ∙ sym (pick-false _ _ _ t), f ∙ sym (pick-false _ _ _ t))
-
-      asked : (x : Sought Step) → sought ≡ x → askOf (ptso p) (reaches a) b ≡ comesTo x
-      asked x e = sought-is x (ap (λ u. seek (reaches a) b (walkOf (ptso p) u)) (sym s-is) ∙ e)
-
-      stored : (x : Sought Step) → sought ≡ x → last ≡ storedOf 0 x out
-      stored x e = left .1 ∙ ap (λ y. storedOf 0 y out) e
-
-      -- a run was found; none was; the budget was used up
-      pub ask-found : (n : ℕ) → r ≡ Found n → Answers (Reached n)
-      unfolding storedOf toldOf shownBy
-      ask-found n e =
-          let w = walked-found 0 sought n (sym (left .0) ∙ e) in
-          let run = w .0 in
-          let whole = w .2 in
-          let same : n ≡ length run = omega arith in
-          let ask = asked (hit run) (w .1) in
-          let few = reached-short (ptso p) (ptso-lawful p fits) (reaches a) b run ask in
-          let long = steps-bytes-length run in
-          let g = full-is in
-          answer-as (Reached n) (ap Reached same ∙ ap toldOf (sym ask))
-          (stored (hit run) (w .1)
-          ∙ sets-front out (stepsBytes run) (omega arith)
-          ∙ ap (λ m. stepsBytes run ++ drop m out) long
-          ∙ ap (λ d. shownBy d out) (sym ask))
-
-      pub ask-finished : (m : ℕ) → r ≡ Finished m → Answers Unreachable
-      unfolding storedOf toldOf shownBy
-      ask-finished m e =
-          let w = walked-finished 0 sought m (sym (left .0) ∙ e) in
-          let ask = asked (done m) w in
-          answer-as Unreachable (ap toldOf (sym ask)) (stored (done m) w ∙ ap (λ d. shownBy d out) (sym ask))
-
-      pub ask-stopped : r ≡ Stopped → Answers Undecided
-      unfolding storedOf toldOf shownBy
-      ask-stopped e =
-          let w = walked-stopped 0 sought (sym (left .0) ∙ e) in
-          let ask = asked usedUp w in
-          answer-as Undecided (ap toldOf (sym ask)) (stored usedUp w ∙ ap (λ d. shownBy d out) (sym ask))
+    -- it is not: r is what the walk leaves, and what it comes to is told
+    pub ask-told : stepSize * w ≤ length out → AskWithin p a
+        → (c x : List ℕ) → c ≡ listingOf p → x ≡ padded (lanesOf p (startOf p))
+        → (r : Walked) (last : List ℕ) → LeavesOver c x r last
+        → (o : Outcome) → o ≡ walkedOutcome r
+        → Answers (ptso p) out (askOf (ptso p) (reaches a) b) o last
+    ask-told h within c x c-is x-is r last over =
+        let full = full-is in
+        answer-sought (ptso p) out (askOf (ptso p) (reaches a) b) (soughtFrom s) (asked (soughtFrom s) refl)
+        (omega arith)
+        (λ run e. reached-short (ptso p) (ptso-lawful p fits) (reaches a) b run (asked (hit run) e))
+        r last (ask-walked within c x c-is x-is r last over)
 
 -- the bytes s read as r, with the number n: reading is refused, or gives a case
 module _ (s : List ℕ) (r : Reading) (r-is : r ≡ readOf s) (n : ℕ) (n-is : n ≡ numberOf (r .answer)) where

@@ -5,7 +5,7 @@ use mathlib.Core.Logic.{_≢_, _↔_}
 use mathlib.Core.List.{List, _∷_, _++_}
 use lib.ListN.{length, drop}
 use lib.Dec.{eqb}
-use borrow.Author.Tests.{lt-ltb, le-ltb, eq-eqb, ne-eqb, eqb-true}
+use borrow.Author.Tests.{lt-ltb, eq-eqb, ne-eqb, eqb-true}
 use native.Mathlib.Omega.{arith}
 use Rattle.cases.specs.declared.case.Step.{Step}
 use Rattle.cases.specs.Sizes.{longest, stepSize}
@@ -16,14 +16,14 @@ use Rattle.cases.proofs.Promises.{number-in-table, offset-low}
 use Rattle.machine.specs.Model.{Model, Lawful, fullLength, Listed}
 use Rattle.machine.specs.Ptso.{ptso}
 use Rattle.machine.proofs.Promises.{read-fits, ptso-lawful, full-length-most}
-use Rattle.search.specs.declared.ask.Outcome.{Outcome}
 use Rattle.search.specs.declared.ask.Outcome.the-variants.{Reached, Unreachable, Undecided, Refused}
 use Rattle.search.specs.Walk.{Visit, here, walk, walkFrom}
-use Rattle.search.specs.Question.{Decided, reached, unreachable, undecided, reaches, askOf, outcomeNo}
-use Rattle.search.specs.Question.{outcomePlace, toldOf, short, answerFor, questionOf, shownBy, shownFor}
-use Rattle.search.specs.Question.{shownOf}
+use Rattle.search.specs.Question.{reached, unreachable, undecided, reaches, askOf, outcomeNo, outcomePlace}
+use Rattle.search.specs.Question.{short, answerBy, answerFor, questionOf, shownFor, shownOf}
 use Rattle.search.proofs.walk.WalkModelLaws.{walk-short}
 use Rattle.search.proofs.ask.AskLaws.{reached-short}
+use Rattle.search.proofs.ask.AnswerLaws.{answer-reached, answer-unreachable, answer-undecided, answer-shown}
+use Rattle.search.proofs.ask.AnswerLaws.{Stores, answer-stores, Low, answer-low}
 
 pub walk-first : {S K : Type 0} (m : Model S K)
     → (rest : List (Visit S K)) × (walkFrom m ≡ here (m .start) ∷ rest)
@@ -37,26 +37,6 @@ pub walk-deep : {S K : Type 0} (m : Model S K) {Fit : S → Type 0} {rank : K �
 unfolding walkFrom fullLength
 walk-deep m laws ks u h = let e = walk-short m laws (m .start) (laws .starts) ks u h in omega arith
 
--- toldOf, back
-told-reached : (d : Decided Step) (n : ℕ) → toldOf d ≡ Reached n
-    → (run : List Step) × (d ≡ reached run) × (n ≡ length run)
-unfolding toldOf
-told-reached (reached run) n e = let same : length run ≡ n = cc in (run, refl, sym same)
-told-reached unreachable n e = absurd (let z : _≡_ {A = ℕ} 0 1 = cc in omega arith)
-told-reached undecided n e = absurd (let z : _≡_ {A = ℕ} 0 1 = cc in omega arith)
-
-told-unreachable : (d : Decided Step) → toldOf d ≡ Unreachable → d ≡ unreachable
-unfolding toldOf
-told-unreachable (reached run) e = absurd (let z : _≡_ {A = ℕ} 0 1 = cc in omega arith)
-told-unreachable unreachable e = refl
-told-unreachable undecided e = absurd (let z : _≡_ {A = ℕ} 0 1 = cc in omega arith)
-
-told-undecided : (d : Decided Step) → toldOf d ≡ Undecided → d ≡ undecided
-unfolding toldOf
-told-undecided (reached run) e = absurd (let z : _≡_ {A = ℕ} 0 1 = cc in omega arith)
-told-undecided unreachable e = absurd (let z : _≡_ {A = ℕ} 0 1 = cc in omega arith)
-told-undecided undecided e = refl
-
 module _ (s : List ℕ) (room b : ℕ) where
   pub question-unread : numberOf (readOf s .answer) ≢ 0
       → questionOf s room b ≡ Refused (numberOf (readOf s .answer)) (offsetOf (readOf s .answer))
@@ -66,68 +46,56 @@ module _ (s : List ℕ) (room b : ℕ) where
   module _ (read : numberOf (readOf s .answer) ≡ 0) where
     pub question-short : room < stepSize * fullLength (ptso (readOf s .case .program))
         → questionOf s room b ≡ Refused 31 0
-    unfolding questionOf answerFor short
+    unfolding questionOf answerBy short
     question-short h = pick-true _ _ _ (eq-eqb _ _ read) ∙ pick-true _ _ _ (lt-ltb _ _ h)
 
     module _ (h : stepSize * fullLength (ptso (readOf s .case .program)) ≤ room) where
-      told : questionOf s room b ≡ toldOf
-          (askOf (ptso (readOf s .case .program)) (reaches (readOf s .case .ask)) b)
-      unfolding questionOf answerFor short
-      told = pick-true _ _ _ (eq-eqb _ _ read) ∙ pick-false _ _ _ (le-ltb _ _ h)
+      asked : questionOf s room b
+          ≡ answerFor (ptso (readOf s .case .program)) (reaches (readOf s .case .ask)) room b
+      unfolding questionOf
+      asked = pick-true _ _ _ (eq-eqb _ _ read)
 
       pub question-reached : (n : ℕ)
           → (questionOf s room b ≡ Reached n)
           ↔ ((run : List Step)
           × (askOf (ptso (readOf s .case .program)) (reaches (readOf s .case .ask)) b ≡ reached run)
           × (n ≡ length run))
-      unfolding toldOf
-      question-reached n = (
-        (λ e. told-reached _ n (sym told ∙ e)),
-        (λ e. told ∙ ap toldOf (e .1) ∙ ap Reached (sym (e .2))),
-      )
+      question-reached n =
+          let a = answer-reached _ room h (askOf (ptso (readOf s .case .program)) (reaches (readOf s .case .ask)) b) n in
+          ((λ e. a .0 (sym asked ∙ e)), (λ e. asked ∙ a .1 e))
 
       pub question-unreachable :
           (questionOf s room b ≡ Unreachable)
           ↔ (askOf (ptso (readOf s .case .program)) (reaches (readOf s .case .ask)) b ≡ unreachable)
-      unfolding toldOf
-      question-unreachable = ((λ e. told-unreachable _ (sym told ∙ e)), (λ e. told ∙ ap toldOf e))
+      question-unreachable =
+          let a = answer-unreachable _ room h (askOf (ptso (readOf s .case .program)) (reaches (readOf s .case .ask)) b) in
+          ((λ e. a .0 (sym asked ∙ e)), (λ e. asked ∙ a .1 e))
 
       pub question-undecided :
           (questionOf s room b ≡ Undecided)
           ↔ (askOf (ptso (readOf s .case .program)) (reaches (readOf s .case .ask)) b ≡ undecided)
-      unfolding toldOf
-      question-undecided = ((λ e. told-undecided _ (sym told ∙ e)), (λ e. told ∙ ap toldOf e))
+      question-undecided =
+          let a = answer-undecided _ room h (askOf (ptso (readOf s .case .program)) (reaches (readOf s .case .ask)) b) in
+          ((λ e. a .0 (sym asked ∙ e)), (λ e. asked ∙ a .1 e))
 
 -- what is shown
 pub shown-run : (s : List ℕ) (b : ℕ) (out : List ℕ) → numberOf (readOf s .answer) ≡ 0
     → stepSize * fullLength (ptso (readOf s .case .program)) ≤ length out
     → (run : List Step) → askOf (ptso (readOf s .case .program)) (reaches (readOf s .case .ask)) b ≡ reached run
     → shownOf s b out ≡ stepsBytes run ++ drop (stepSize * length run) out
-unfolding shownOf shownFor short shownBy
+unfolding shownOf
 shown-run s b out read h run e =
     pick-true _ _ _ (eq-eqb _ _ read)
-    ∙ pick-false _ _ _ (le-ltb _ _ h)
-    ∙ ap (λ d. shownBy d out) e
-
--- an answer and the bytes beside it: stored only where the number is 100
-Stores : List ℕ → Outcome → List ℕ → Type 0
-Stores out o last = outcomeNo o ≢ 100 → last ≡ out
-
-told-stores : (out : List ℕ) (d : Decided Step) → Stores out (toldOf d) (shownBy d out)
-unfolding Stores toldOf shownBy
-told-stores out (reached run) n = absurd (n refl)
-told-stores out unreachable n = refl
-told-stores out undecided n = refl
+    ∙ answer-shown (ptso (readOf s .case .program)) (length out) h _ out refl run e
 
 pub only-reached-stores : (s : List ℕ) (b : ℕ) (out : List ℕ)
     → outcomeNo (questionOf s (length out) b) ≢ 100
     → shownOf s b out ≡ out
-unfolding questionOf answerFor shownOf shownFor Stores
+unfolding questionOf shownOf
 only-reached-stores s b out =
     pick-pair (Stores out) (eqb (numberOf (readOf s .answer)) 0) _ _ _ _
-    (pick-pair (Stores out) (short (ptso (readOf s .case .program)) (length out)) _ _ _ _
-    (λ n. refl)
-    (told-stores out (askOf (ptso (readOf s .case .program)) (reaches (readOf s .case .ask)) b)))
+    (answer-stores (ptso (readOf s .case .program))
+    (askOf (ptso (readOf s .case .program)) (reaches (readOf s .case .ask)) b) out)
     (λ n. refl)
 
 pub steps-not-looked-at : (s t : List ℕ)
@@ -146,28 +114,18 @@ steps-not-looked-at s t g h p a b out =
       pick-true _ _ _ x ∙ (λ i. shownFor (ptso (p i)) (reaches (a i)) b out) ∙ sym (pick-true _ _ _ y),
     )
 
--- the number is below 256, and the place at most the longest file's length
-Low : Outcome → Type 0
-Low o = (outcomeNo o < 256) × (outcomePlace o ≤ longest)
-
-told-low : (d : Decided Step) → ((run : List Step) → d ≡ reached run → length run ≤ longest) → Low (toldOf d)
-unfolding Low toldOf
-told-low (reached run) f = (omega arith, f run refl)
-told-low unreachable f = (omega arith, omega arith)
-told-low undecided f = (omega arith, omega arith)
-
 pub question-low : (s : List ℕ) (room b : ℕ)
     → (outcomeNo (questionOf s room b) < 256) × (outcomePlace (questionOf s room b) ≤ longest)
-unfolding questionOf answerFor Low
+unfolding questionOf
 question-low s room b =
     pick-cases Low (eqb (numberOf (readOf s .answer)) 0) _ _
     (λ h.
     let fits = read-fits s (eqb-true _ _ h) in
-    pick-cases Low (short (ptso (readOf s .case .program)) room) _ _
-    (λ k. (omega arith, omega arith))
-    (λ k. told-low _ (λ run e.
+    answer-low (ptso (readOf s .case .program)) room
+    (askOf (ptso (readOf s .case .program)) (reaches (readOf s .case .ask)) b)
+    (λ run e.
     let a = reached-short (ptso (readOf s .case .program)) (ptso-lawful (readOf s .case .program) fits)
     (reaches (readOf s .case .ask)) b run e in
     let f = full-length-most (readOf s .case .program) fits in
-    omega arith)))
+    omega arith))
     (λ h. (omega (arith, number-in-table s), offset-low s))

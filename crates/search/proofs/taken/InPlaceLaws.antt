@@ -14,7 +14,7 @@ use Rattle.machine.proofs.lists.PutLaws.{getD-sets-after}
 use Rattle.search.specs.Taken.{inserted, carried}
 
 -- what stands before values put into a list stays, and can be written before or after them
-getD-sets-before : (xs : List ℕ) (i : ℕ) (vs : List ℕ) (j : ℕ) → j < i → getD (sets xs i vs) j 0 ≡ getD xs j 0
+pub getD-sets-before : (xs : List ℕ) (i : ℕ) (vs : List ℕ) (j : ℕ) → j < i → getD (sets xs i vs) j 0 ≡ getD xs j 0
 getD-sets-before xs i [] j h = refl
 getD-sets-before xs i (v ∷ vs) j h =
     getD-sets-before (set xs i v) (suc i) vs j (omega arith) ∙ getD-set-other xs i j v 0 (λ e. omega arith)

@@ -24,7 +24,7 @@ abbrev pub endsAlong : {S T K : Type 0} → (S → T) → Visit S K → Visit T 
 endsAlong f v = record { run = v .run; end = f (v .end) }
 
 -- behind a step, too, each ends along
-map-under : {S T K : Type 0} (f : S → T) (k : K) (vs : List (Visit S K))
+pub map-under : {S T K : Type 0} (f : S → T) (k : K) (vs : List (Visit S K))
     → map (under k) (map (endsAlong f) vs) ≡ map (endsAlong f) (map (under k) vs)
 map-under f k [] = refl
 map-under f k (v ∷ vs) = ap (λ l. under k (endsAlong f v) ∷ l) (map-under f k vs)
@@ -64,7 +64,7 @@ module _ {S T K : Type 0} {m : Machine S K} {w : Machine T K} {f : S → T} {Goo
 
   -- tests that agree on good states find the same
   module _ (test : S → Bool) (other : T → Bool) (same : (s : S) → Good s → other (f s) ≡ test s) where
-    seek-listed : (b : ℕ) (vs : List (Visit S K)) → ((v : Visit S K) → Listed v vs → Good (v .end))
+    pub seek-listed : (b : ℕ) (vs : List (Visit S K)) → ((v : Visit S K) → Listed v vs → Good (v .end))
         → seek other b (map (endsAlong f) vs) ≡ seek test b vs
     unfolding seek Listed
     seek-listed b [] on = refl

@@ -55,7 +55,7 @@ module _ {c x : List ℕ} {depth room : ℕ} (h : Held c x depth room) where
   legal-held = rw (h .listed, laid-is) (legal-is (h .program) (h .state) (h .fits))
 
   -- the array of ranks lists the next steps
-  held-lists : Lists (nextLanes c x) (legalLanes c x)
+  pub held-lists : Lists (nextLanes c x) (legalLanes c x)
   held-lists =
       rw (next-pushed c x, legal-held) (ranks-lists (h .program) (h .state) (h .fits))
 

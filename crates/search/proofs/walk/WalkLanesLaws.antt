@@ -32,11 +32,11 @@ use Rattle.search.proofs.walk.AlongLaws.{Along, endsAlong, walk-along, 
 
 module _ (p : Program) (fits : ProgramFits p) where
   -- a state that fits, with no more entries than there is room for
-  abbrev Good : State → Type 0
+  abbrev pub Good : State → Type 0
   Good s = Fits p s × (together p s ≤ allCode)
 
   -- the machine over lanes goes along with the machine
-  lanes-along : Along (machineOf (ptso p)) (lanesMachine (listingOf p)) (laidOf p) Good
+  pub lanes-along : Along (machineOf (ptso p)) (lanesMachine (listingOf p)) (laidOf p) Good
   lanes-along =
       record {
         keeps = λ s g k on.

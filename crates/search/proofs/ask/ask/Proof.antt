@@ -1,6 +1,5 @@
 -- `ask` meets its contract. Assumes nothing.
-use Rattle.search.proofs.ask.AskLaws.{ask-start-fits, ask-start-few, ask-short, ask-held, ask-found}
-use Rattle.search.proofs.ask.AskLaws.{ask-finished, ask-stopped}
+use Rattle.search.proofs.ask.AskLaws.{ask-start-fits, ask-start-few, ask-short, ask-held, ask-told}
 use borrow.Author.Needs.{needs}
 use Rattle.search.proofs.ask.ask.Statement.{statement}
 use Rattle.search.proofs.ask.ask.Tie as tie
@@ -42,59 +41,23 @@ walk-requires c κs =
     ask-held _ (g .0) _ (a .budget) _ (s .start-of .ensures) _ (w .work-in .ensures) (a .run .now) (g .1) _ _
     (l .listing .ensures) (x .start-lanes .ensures) (i .if1 .left)
 
-enum-known-count : tie.Need-enum-known-count
-enum-known-count c = search needs
-
-enum-told : tie.Need-enum-told
-enum-told c = search needs
-
-enum-told-2 : tie.Need-enum-told-2
-enum-told-2 c = search needs
+told-requires : tie.Need-told-requires
+told-requires c κs = search needs
 
 same-length : tie.Need-same-length
 same-length c = search needs
 
 returns-2 : tie.Need-returns-2
 returns-2 c =
-    let v = c .before .before .before .before .before .before in
-    let x = v .before .before .before .before .before .before .before in
+    let v = c .before .before .before in
+    let x = v .before .before .before .before .before .before .before .before in
     let l = x .before .before in
     let i = l .before in
     let w = i .before in
     let s = w .before in
     let g = s .before .before .pre in
-    ask-found _ (g .0) _ _ _ (s .start-of .ensures) _ (w .work-in .ensures) _ (i .if1 .left) (g .1) _ _
-    (l .listing .ensures) (x .start-lanes .ensures) _ _ (c .before .before .before .before .before .walk .ensures) _ (c .before .count .given .1)
-
-same-length-2 : tie.Need-same-length-2
-same-length-2 c = search needs
-
-returns-3 : tie.Need-returns-3
-returns-3 c =
-    let v = c .before .before .before .before .before in
-    let x = v .before .before .before .before .before .before .before in
-    let l = x .before .before in
-    let i = l .before in
-    let w = i .before in
-    let s = w .before in
-    let g = s .before .before .pre in
-    ask-finished _ (g .0) _ _ _ (s .start-of .ensures) _ (w .work-in .ensures) _ (i .if1 .left) (g .1) _ _
-    (l .listing .ensures) (x .start-lanes .ensures) _ _ (c .before .before .before .before .walk .ensures) _ (c .enum-told .given .1)
-
-same-length-3 : tie.Need-same-length-3
-same-length-3 c = search needs
-
-returns-4 : tie.Need-returns-4
-returns-4 c =
-    let v = c .before .before .before .before .before in
-    let x = v .before .before .before .before .before .before .before in
-    let l = x .before .before in
-    let i = l .before in
-    let w = i .before in
-    let s = w .before in
-    let g = s .before .before .pre in
-    ask-stopped _ (g .0) _ _ _ (s .start-of .ensures) _ (w .work-in .ensures) _ (i .if1 .left) (g .1) _ _
-    (l .listing .ensures) (x .start-lanes .ensures) _ _ (c .before .before .before .before .walk .ensures) (c .enum-told2 .given .1)
+    ask-told _ (g .0) _ _ _ (s .start-of .ensures) _ (w .work-in .ensures) _ (i .if1 .left) (g .1) _ _
+    (l .listing .ensures) (x .start-lanes .ensures) _ _ (v .walk .ensures) _ (c .told .ensures)
 
 pub ask-spec : {M : Type 1} → statement M
 ask-spec =
@@ -107,12 +70,6 @@ ask-spec =
     listing-requires
     start-lanes-requires
     walk-requires
-    enum-known-count
-    enum-told
-    enum-told-2
+    told-requires
     same-length
-    returns-2
-    same-length-2
-    returns-3
-    same-length-3
-    returns-4)
+    returns-2)

@@ -2,8 +2,8 @@
 use Prim.Native.Nat.{_≤_, _-_}
 use borrow.Author.Needs.{needs}
 use Rattle.cases.specs.Sizes.{mostSteps}
-use Rattle.question.proofs.say_run.Statement.{statement}
-use Rattle.question.proofs.say_run.Tie as tie
+use Rattle.telling.proofs.say_run.Statement.{statement}
+use Rattle.telling.proofs.say_run.Tie as tie
 
 abbrev Inv-loop : tie.InvT-loop
 Inv-loop count run i₀ i = i ≤ mostSteps
