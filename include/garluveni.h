@@ -1,21 +1,23 @@
 /*
  * Garluveni's C face: judges a run of a small program on persistent memory, names the entry that stands in the way
- * of an illegal step, and asks whether a power cut can leave a memory. The functions are proved to return exactly
- * what docs/SIGNATURES.md says of them, for every input. They are for x86-64 Linux and stand in
- * target/staticlib/libhost.a, which 'rt staticlib host' makes:
+ * of an illegal step, and asks whether a power cut can leave a memory, of every run in turn or of every state once.
+ * The functions are proved to return exactly what docs/SIGNATURES.md says of them, for every input. They are for
+ * x86-64 Linux and stand in target/staticlib/libhost.a, which 'rt staticlib host' makes:
  *
  *     cc -Iinclude host.c target/staticlib/libhost.a
  *
  * What a caller must keep, because no function can test it:
- *   - 'bytes' points at 'bytes_len' bytes to read, 'steps' at 'steps_len' bytes to write; no byte is in both.
- *   - Until the call returns both stay alive, nobody else writes to 'bytes', and nobody else reads or writes
- *     'steps': no thread, no signal handler, no other process through shared memory or a mapped file.
+ *   - 'bytes' points at 'bytes_len' bytes to read, 'steps' at 'steps_len' bytes to write, 'memory' at 'memory_len'
+ *     32-bit words to write, aligned as a uint32_t must be; no byte is in two of them.
+ *   - Until the call returns all of them stay alive, nobody else writes to 'bytes', and nobody else reads or writes
+ *     'steps' or 'memory': no thread, no signal handler, no other process through shared memory or a mapped file.
  *   - An empty buffer is a length of 0; its pointer is not followed and may be anything, NULL too.
  *   - 1 MiB of stack is left; the deepest question is tested with no more than that.
  *
- * No alignment is asked for, and nothing of the caller's is kept after the return. The functions have no state
- * of their own, so threads may call them at once, each with a 'steps' of its own. They allocate nothing, do no
- * input or output, and always end; a question's time grows with its budget.
+ * Of 'bytes' and 'steps' no alignment is asked, and nothing of the caller's is kept after the return. The functions
+ * have no state of their own, so threads may call them at once, each with a 'steps' and a 'memory' of its own. They
+ * allocate nothing, do no input or output, and always end; a question's time grows with its budget, that of a walk
+ * that remembers with the memory that it is lent too.
  */
 #ifndef GARLUVENI_H
 #define GARLUVENI_H
@@ -41,7 +43,9 @@ enum {
      * is above this. */
     GARLUVENI_STEPS = 192,
     /* With so many bytes lent no question is refused with 31. */
-    GARLUVENI_STEPS_BYTES = GARLUVENI_STEP_BYTES * GARLUVENI_STEPS
+    GARLUVENI_STEPS_BYTES = GARLUVENI_STEP_BYTES * GARLUVENI_STEPS,
+    /* A walk that remembers keeps each state in so many 32-bit words of lent memory: 768 bytes. */
+    GARLUVENI_STATE_WORDS = 192
 };
 
 /* The answers. The place that goes with an answer is 0 where nothing is said of it. */
@@ -69,11 +73,11 @@ enum garluveni_answers {
     GARLUVENI_MARKER_LEFT = 28,       /* move of an sfence: a marker of the thread is in a queue */
     GARLUVENI_QUEUE_EMPTY = 29,       /* persist: the line's queue is empty */
 
-    /* From the question alone. */
+    /* From the question alone, whichever walk it is asked of. */
     GARLUVENI_SHORT = 31,        /* 'steps' is shorter than 8 bytes times the program's full length */
     GARLUVENI_REACHED = 100,     /* a run leaves the wanted memory; the place is the number of steps stored */
     GARLUVENI_UNREACHABLE = 101, /* no run does */
-    GARLUVENI_UNDECIDED = 102,   /* none of the first 'budget' runs does, and there are more */
+    GARLUVENI_UNDECIDED = 102,   /* none of the runs, or states, that are covered does, and there are more */
 
     /* From the judge alone; the place is the number of steps. */
     GARLUVENI_LEGAL = 103
@@ -109,9 +113,35 @@ uint32_t garluveni_blocker(const uint8_t *bytes, size_t bytes_len);
 uint32_t garluveni_question(const uint8_t *bytes, size_t bytes_len,
                             uint8_t *steps, size_t steps_len, uint32_t budget);
 
+/*
+ * Asks the question of the case in 'bytes' of a walk that remembers: it keeps every state that it meets in 'memory',
+ * and goes below none twice. What it covers is the first states of the walk, each counted where it is first met: as
+ * many as the budget says, or as 'memory' has room for, GARLUVENI_STATE_WORDS each, if those are fewer. The answers
+ * and what is stored in 'steps' are those of the question, GARLUVENI_UNREACHABLE where these are all the states that
+ * there are; wherever both walks decide, they answer the same, and show the same run.
+ *
+ * 'memory' may hold anything before. After GARLUVENI_REACHED, GARLUVENI_UNREACHABLE and GARLUVENI_UNDECIDED all of
+ * its words are 0, used or not; any other answer leaves it as it was. So lend no more than the budget times
+ * GARLUVENI_STATE_WORDS: more is never used, and clearing it takes time. Where it is not known how many states a
+ * case has, lend little, and twice as much again while the answer is GARLUVENI_UNDECIDED.
+ */
+uint32_t garluveni_remember(const uint8_t *bytes, size_t bytes_len, uint8_t *steps, size_t steps_len,
+                            uint32_t *memory, size_t memory_len, uint32_t budget);
+
+/*
+ * The same, and where the answer is GARLUVENI_UNREACHABLE how many states there are: the number that
+ * garluveni_remember returns, plus 2 to the power of 32 times the states; 0 times where it is any other answer.
+ */
+uint64_t garluveni_remember_counting(const uint8_t *bytes, size_t bytes_len, uint8_t *steps, size_t steps_len,
+                                     uint32_t *memory, size_t memory_len, uint32_t budget);
+
 /* The number that the judge or the question returns is the answer plus 256 times its place. */
 static inline uint32_t garluveni_answer(uint32_t number) { return number % 256u; }
 static inline uint32_t garluveni_place(uint32_t number) { return number / 256u; }
+
+/* What garluveni_remember_counting returns: such a number, and the states. */
+static inline uint32_t garluveni_counted_number(uint64_t counted) { return (uint32_t)counted; }
+static inline uint32_t garluveni_counted_states(uint64_t counted) { return (uint32_t)(counted >> 32); }
 
 /* A blocker: where it stands, of which thread's buffer or which line's queue, and how many are older there. */
 static inline uint32_t garluveni_blocker_in(uint32_t blocker) { return blocker % 256u; }

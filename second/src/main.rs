@@ -2,7 +2,8 @@
 //!
 //! `judge` uses nothing of `streams`. Among the streams, which all use what stands beside them in
 //! `streams`: `cases` uses no other, `machine` uses `cases`, `question` uses `machine` and `cases`,
-//! `whole` uses `machine`, and `text` uses `question`, `machine` and `cases`.
+//! `remember` uses `question` and `machine`, `whole` uses `machine`, and `text` uses `question`, `machine`
+//! and `cases`.
 
 mod judge;
 mod streams;
@@ -17,12 +18,14 @@ use streams::cases::{self, counts::FrameCounts, frame::Frame};
 use streams::machine::{self, counts::TrialCounts, frame::Trial};
 use streams::parts::Take;
 use streams::question::{self, counts::QueryCounts, frame::Query};
+use streams::remember::{self, counts::LoanCounts, frame::Loan};
 use streams::tally::Counts;
 use streams::text::{counts::TextCounts, files};
 use streams::whole::{self, counts::WholeCounts};
 
 const USAGE: &str = "usage: second answer | second generate SEED COUNT | second counts, \
-                     or machine-, question- or whole- in front of the mode, or second question-runs, \
+                     or machine-, question-, remember- or whole- in front of the mode, \
+                     or second question-runs, \
                      or second machine-judged, \
                      or second text-generate SEED COUNT FOLDER | second text-counts FOLDER | \
                      second text-mistakes SEED COUNT FOLDER | \
@@ -71,6 +74,16 @@ fn of_streams(words: &[&str]) -> io::Result<()> {
                 case.iter().try_for_each(|query| query.write_to(out))
             };
             generate(question::generate::cases, write, seed, count)
+        }
+        ["remember-answer"] => answer_all(Loan::read_from, |one| {
+            remember::answer::line(one, &remember::answer::answer(one))
+        }),
+        ["remember-counts"] => count(Loan::read_from, LoanCounts::new()),
+        ["remember-generate", seed, count] => {
+            let write = |case: &Vec<Loan>, out: &mut Out| {
+                case.iter().try_for_each(|loan| loan.write_to(out))
+            };
+            generate(remember::generate::cases, write, seed, count)
         }
         ["whole-counts"] => count(Trial::read_from, WholeCounts::new()),
         ["whole-generate", seed, count] => {

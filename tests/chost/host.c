@@ -12,6 +12,10 @@ enum { MILLION = 1000000, GUARD = 64, ROOM = MILLION + 2 * GUARD, UNTOUCHED = 0x
 /* The budget of the question program, and the most instructions of a program. */
 enum { BUDGET = 1000000, INSTRUCTIONS = GARLUVENI_MOST_THREADS * GARLUVENI_MOST_INSTRUCTIONS };
 
+/* Lent memory: the words of a state, the most states that are lent, and words before and behind. */
+enum { STATE = GARLUVENI_STATE_WORDS, STATES = 1100, FENCE = 64 };
+static const uint32_t JUNK = 0xA5A5A5A5u, FENCED = 0xEEEEEEEEu;
+
 static unsigned checks;
 
 static void check(int holds, const char *fact, int line)
@@ -111,7 +115,7 @@ static void repeat(struct file *file, const char *words, int times)
         run(file, words);
 }
 
-/* Calls: both buffers between guards, at another alignment each time */
+/* Calls: both byte buffers between guards, at another alignment each time */
 
 static uint8_t input[ROOM], lent[ROOM], expected[ROOM];
 static size_t shift;
@@ -167,6 +171,72 @@ static void asks(int line, const struct file *file, size_t length, uint32_t budg
     CHECK_AT(line, holds(input, file->length, file));
 }
 
+/* Lent memory, between guard words, at another alignment each time */
+
+static uint32_t memory[STATES * STATE + 2 * FENCE];
+
+static uint32_t *memory_start(void)
+{
+    return memory + FENCE / 2 + shift;
+}
+
+static void fill(uint32_t word, uint32_t *from, const uint32_t *to)
+{
+    while (from < to)
+        *from++ = word;
+}
+
+static int is_all(uint32_t word, const uint32_t *from, const uint32_t *to)
+{
+    while (from < to)
+        if (*from++ != word)
+            return 0;
+    return 1;
+}
+
+static void lend_memory(size_t words)
+{
+    fill(FENCED, memory, memory_start() + words + FENCE / 2);
+    fill(JUNK, memory_start(), memory_start() + words);
+}
+
+/* Is each lent word this one, and no other has changed? */
+static int memory_holds(size_t words, uint32_t word)
+{
+    const uint32_t *start = memory_start(), *behind = start + words;
+    return is_all(FENCED, memory, start) && is_all(word, start, behind) && is_all(FENCED, behind, behind + FENCE / 2);
+}
+
+/* The answer, its place and the states as one number. */
+static uint64_t counted(uint32_t answer, uint32_t place, uint32_t states)
+{
+    return (uint64_t)states << 32 | (answer + 256 * place);
+}
+
+/* Both functions of the walk that remembers, of which one counts the states. A refusal leaves the memory as it was; any
+ * other answer leaves no word of it. */
+static void remembers(int line, const struct file *file, size_t length, size_t words, uint32_t budget,
+                      uint64_t number, const struct file *steps)
+{
+    uint32_t answer = garluveni_answer(garluveni_counted_number(number));
+    uint32_t left = answer < GARLUVENI_REACHED ? JUNK : 0;
+    for (int counts = 0; counts <= 1; counts++) {
+        shift = (shift + 1) % 16;
+        lay_out(input, file->length, file);
+        lay_out(lent, length, &none);
+        lend_memory(words);
+        uint64_t got = counts ? garluveni_remember_counting(start(input), file->length, start(lent), length,
+                                                            memory_start(), words, budget)
+                              : garluveni_remember(start(input), file->length, start(lent), length,
+                                                   memory_start(), words, budget);
+        CHECK_AT(line, garluveni_counted_number(got) == garluveni_counted_number(number));
+        CHECK_AT(line, garluveni_counted_states(got) == (counts ? garluveni_counted_states(number) : 0));
+        CHECK_AT(line, memory_holds(words, left));
+        CHECK_AT(line, holds(lent, length, steps));
+        CHECK_AT(line, holds(input, file->length, file));
+    }
+}
+
 /* No function reads the file, whatever is lent, and no blocker is named. */
 static void refused(int line, const struct file *file, uint32_t answer, uint32_t offset)
 {
@@ -177,6 +247,8 @@ static void refused(int line, const struct file *file, uint32_t answer, uint32_t
         CHECK_AT(line, number == answer + 256 * offset);
         CHECK_AT(line, holds(lent, length, &none));
         CHECK_AT(line, holds(input, file->length, file));
+        for (size_t words = 0; words <= STATE; words += STATE)
+            remembers(line, file, length, words, BUDGET, counted(answer, offset, 0), &none);
     }
 }
 
@@ -185,6 +257,9 @@ static void refused(int line, const struct file *file, uint32_t answer, uint32_t
     judges(__LINE__, file, answer, place, blocker(in, which, position))
 #define ASKS(...) asks(__LINE__, __VA_ARGS__)
 #define REFUSED(...) refused(__LINE__, __VA_ARGS__)
+#define REMEMBERS(file, room, words, budget, answer, states, stored) \
+    remembers(__LINE__, file, room, words, budget, \
+              counted(answer, (uint32_t)((stored)->length / GARLUVENI_STEP_BYTES), states), stored)
 
 /* The checks */
 
@@ -211,6 +286,23 @@ static void outage(void)
     torn_row();
     steps.length = 0;
     run(&steps, "I0 I0 M0.0 M0.0 P1");
+}
+
+/* Instructions of a thread, with a fence between the stores. */
+static void fenced_row(uint8_t thread, uint8_t limit, uint8_t valid)
+{
+    instruction(&f, thread, STORE, X, limit);
+    instruction(&f, thread, FLUSH_OPT, X, 0);
+    instruction(&f, thread, SFENCE, 0, 0);
+    instruction(&f, thread, STORE, Y, valid);
+}
+
+static void repaired(void)
+{
+    program(&f, 1, 2);
+    fenced_row(0, 5, 1);
+    want(&f, X, 0);
+    want(&f, Y, 1);
 }
 
 /* Each thread stores to each location once, which is on a line of its own. */
@@ -607,13 +699,7 @@ static void budgets(void)
     ASKS(&f, 48, 7, GARLUVENI_UNDECIDED, &none);
     ASKS(&f, 48, 8, GARLUVENI_REACHED, &steps);
     ASKS(&f, 48, UINT32_MAX, GARLUVENI_REACHED, &steps);
-    program(&f, 1, 2);
-    instruction(&f, 0, STORE, X, 5);
-    instruction(&f, 0, FLUSH_OPT, X, 0);
-    instruction(&f, 0, SFENCE, 0, 0);
-    instruction(&f, 0, STORE, Y, 1);
-    want(&f, X, 0);
-    want(&f, Y, 1);
+    repaired();
     ASKS(&f, 88, 0, GARLUVENI_UNDECIDED, &none);
     ASKS(&f, 88, BUDGET, GARLUVENI_UNREACHABLE, &none);
     ASKS(&f, 88, UINT32_MAX, GARLUVENI_UNREACHABLE, &none);
@@ -674,15 +760,101 @@ static void depth(void)
     ASKS(&f, GARLUVENI_STEPS_BYTES, 20000, GARLUVENI_UNDECIDED, &none);
 }
 
+/* The repaired row has 26 states: every length of memory about what they need, and every budget about them. */
+static void memories(void)
+{
+    static const size_t few[] = {0, 1, STATE - 1, STATE, STATE + 1, 25 * STATE, 26 * STATE - 1};
+    static const size_t enough[] = {26 * STATE, 26 * STATE + 1, 27 * STATE - 1, 27 * STATE, STATES * STATE};
+    repaired();
+    for (size_t i = 0; i < sizeof few / sizeof *few; i++) {
+        REMEMBERS(&f, 88, few[i], UINT32_MAX, GARLUVENI_UNDECIDED, 0, &none);
+        REMEMBERS(&f, 88, few[i], 26, GARLUVENI_UNDECIDED, 0, &none);
+        REMEMBERS(&f, 87, few[i], 26, GARLUVENI_SHORT, 0, &none);
+    }
+    for (size_t i = 0; i < sizeof enough / sizeof *enough; i++) {
+        REMEMBERS(&f, 88, enough[i], 0, GARLUVENI_UNDECIDED, 0, &none);
+        REMEMBERS(&f, 88, enough[i], 1, GARLUVENI_UNDECIDED, 0, &none);
+        REMEMBERS(&f, 88, enough[i], 25, GARLUVENI_UNDECIDED, 0, &none);
+        REMEMBERS(&f, 88, enough[i], 26, GARLUVENI_UNREACHABLE, 26, &none);
+        REMEMBERS(&f, 88, enough[i], 27, GARLUVENI_UNREACHABLE, 26, &none);
+        REMEMBERS(&f, 100, enough[i], UINT32_MAX, GARLUVENI_UNREACHABLE, 26, &none);
+        REMEMBERS(&f, 87, enough[i], 26, GARLUVENI_SHORT, 0, &none);
+        REMEMBERS(&f, 0, enough[i], 0, GARLUVENI_SHORT, 0, &none);
+    }
+}
+
+/* The outage is reached by the eighth state, and the run shown is the question's. */
+static void remembered_runs(void)
+{
+    outage();
+    REMEMBERS(&f, 48, 8 * STATE - 1, 8, GARLUVENI_UNDECIDED, 0, &none);
+    REMEMBERS(&f, 48, 8 * STATE, 7, GARLUVENI_UNDECIDED, 0, &none);
+    for (size_t length = 0; length < 48; length++)
+        REMEMBERS(&f, length, 8 * STATE, 8, GARLUVENI_SHORT, 0, &none);
+    for (size_t length = 48; length <= 64; length++)
+        REMEMBERS(&f, length, 8 * STATE, 8, GARLUVENI_REACHED, 0, &steps);
+    REMEMBERS(&f, 48, STATES * STATE, UINT32_MAX, GARLUVENI_REACHED, 0, &steps);
+    /* steps of the case itself are not looked at */
+    run(&f, "P0 P1 M0.0");
+    REMEMBERS(&f, 48, 8 * STATE, 8, GARLUVENI_REACHED, 0, &steps);
+}
+
+/* Two threads that each repair their row have 1,063 states, and millions of runs. */
+static void many_states(void)
+{
+    program(&f, 2, 2);
+    fenced_row(0, 1, 1);
+    fenced_row(1, 2, 2);
+    want(&f, X, 0);
+    want(&f, Y, 1);
+    REMEMBERS(&f, 176, 1062 * STATE, BUDGET, GARLUVENI_UNDECIDED, 0, &none);
+    REMEMBERS(&f, 176, 1063 * STATE, 1062, GARLUVENI_UNDECIDED, 0, &none);
+    REMEMBERS(&f, 176, 1063 * STATE, 1063, GARLUVENI_UNREACHABLE, 1063, &none);
+    REMEMBERS(&f, 176, STATES * STATE, BUDGET, GARLUVENI_UNREACHABLE, 1063, &none);
+    ASKS(&f, 176, BUDGET, GARLUVENI_UNDECIDED, &none);
+}
+
+/* As deep as the question goes, each state of its first branch kept. */
+static void remembered_depth(void)
+{
+    deepest();
+    want(&f, W, GARLUVENI_MOST_INSTRUCTIONS);
+    REMEMBERS(&f, GARLUVENI_STEPS_BYTES, GARLUVENI_STEPS * STATE, BUDGET, GARLUVENI_UNDECIDED, 0, &none);
+    REMEMBERS(&f, GARLUVENI_STEPS_BYTES, (GARLUVENI_STEPS + 1) * STATE, BUDGET, GARLUVENI_REACHED, 0, &steps);
+    REMEMBERS(&f, GARLUVENI_STEPS_BYTES - 1, (GARLUVENI_STEPS + 1) * STATE, BUDGET, GARLUVENI_SHORT, 0, &none);
+    deepest();
+    want(&f, W, GARLUVENI_MOST_INSTRUCTIONS + 1);
+    REMEMBERS(&f, GARLUVENI_STEPS_BYTES, STATES * STATE, BUDGET, GARLUVENI_UNDECIDED, 0, &none);
+}
+
+static void counted_numbers(void)
+{
+    uint64_t all = counted(GARLUVENI_UNREACHABLE, 0, UINT32_MAX), run = counted(GARLUVENI_REACHED, 5, 0);
+    CHECK(garluveni_counted_number(all) == GARLUVENI_UNREACHABLE);
+    CHECK(garluveni_counted_states(all) == UINT32_MAX);
+    CHECK(garluveni_place(garluveni_counted_number(run)) == 5);
+    CHECK(garluveni_counted_states(run) == 0);
+}
+
 static void empty_buffers(void)
 {
     CHECK(garluveni_judge(NULL, 0) == GARLUVENI_CUT);
     CHECK(garluveni_blocker(NULL, 0) == GARLUVENI_NO_BLOCKER);
     CHECK(garluveni_question(NULL, 0, NULL, 0, BUDGET) == GARLUVENI_CUT);
+    CHECK(garluveni_remember(NULL, 0, NULL, 0, NULL, 0, BUDGET) == GARLUVENI_CUT);
+    CHECK(garluveni_remember_counting(NULL, 0, NULL, 0, NULL, 0, BUDGET) == GARLUVENI_CUT);
     program(&f, 1, 1);
     want(&f, X, 0);
     CHECK(garluveni_question(f.bytes, f.length, NULL, 0, 1) == GARLUVENI_REACHED);
     CHECK(garluveni_question(f.bytes, f.length, NULL, 0, 0) == GARLUVENI_UNDECIDED);
+    CHECK(garluveni_remember(f.bytes, f.length, NULL, 0, memory, STATE, 1) == GARLUVENI_REACHED);
+    CHECK(garluveni_remember(f.bytes, f.length, NULL, 0, memory, STATE, 0) == GARLUVENI_UNDECIDED);
+    CHECK(garluveni_remember(f.bytes, f.length, NULL, 0, NULL, 0, 1) == GARLUVENI_UNDECIDED);
+    CHECK(garluveni_remember(f.bytes, f.length, lent, GUARD, NULL, 0, 1) == GARLUVENI_UNDECIDED);
+    CHECK(garluveni_remember_counting(f.bytes, f.length, NULL, 0, memory, STATE, 1) == GARLUVENI_REACHED);
+    CHECK(garluveni_remember_counting(f.bytes, f.length, NULL, 0, NULL, 0, 1) == GARLUVENI_UNDECIDED);
+    REMEMBERS(&f, 0, STATE, 1, GARLUVENI_REACHED, 0, &none);
+    REMEMBERS(&f, 0, STATE - 1, 1, GARLUVENI_UNDECIDED, 0, &none);
     steps.length = 0;
     lengths(0, 1);
 }
@@ -707,6 +879,7 @@ static void thousand_calls(void)
     for (int i = 0; i < 1000; i++) {
         ASKS(&f, 48, BUDGET, GARLUVENI_REACHED, &steps);
         JUDGES(&f, GARLUVENI_LEGAL, 0);
+        REMEMBERS(&f, 48, 8 * STATE, BUDGET, GARLUVENI_REACHED, 0, &steps);
     }
 }
 
@@ -735,6 +908,11 @@ int main(void)
     lengths(48, BUDGET);
     compare_questions();
     depth();
+    memories();
+    remembered_runs();
+    many_states();
+    remembered_depth();
+    counted_numbers();
     empty_buffers();
     million_bytes();
     thousand_calls();

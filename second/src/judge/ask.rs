@@ -23,15 +23,19 @@ pub enum End {
 }
 
 pub struct Search {
-    /// How many runs were looked at.
+    /// How many runs were looked at. A walk that remembers has one to each state.
     pub runs: u32,
     pub end: End,
 }
 
 /// Looks at the first runs of the walk, as many as the budget covers.
 pub fn search(case: &Case, budget: u32) -> Search {
-    let mut walk = Walk::new(case);
-    for runs in 1..=budget {
+    look(case, Walk::new(case), budget)
+}
+
+/// Looks at the first runs of a walk, as many as are covered.
+pub fn look(case: &Case, mut walk: Walk, covered: u32) -> Search {
+    for runs in 1..=covered {
         if reaches(case, walk.state()) {
             let end = End::Reached(walk.run());
             return Search { runs, end };
@@ -42,7 +46,7 @@ pub fn search(case: &Case, budget: u32) -> Search {
         }
     }
     Search {
-        runs: budget,
+        runs: covered,
         end: End::Undecided,
     }
 }
@@ -59,11 +63,17 @@ pub struct Reply {
     pub number: u8,
     /// The number of steps for 100, the offset for a reading refusal, else 0.
     pub place: usize,
+    /// As a search has them; 0 where it is refused.
     pub runs: u32,
 }
 
-/// Reading, then 31, then the walk. Only 100 stores.
+/// Asked of the walk of all runs.
 pub fn question(bytes: &[u8], lent: &mut [u8], budget: u32) -> Reply {
+    reply(bytes, lent, |case| search(case, budget))
+}
+
+/// Reading, then 31, then a walk. Only 100 stores.
+pub fn reply(bytes: &[u8], lent: &mut [u8], walked: impl Fn(&Case) -> Search) -> Reply {
     let reading = read(bytes);
     if reading.number != 0 {
         return refused(reading.number, reading.offset);
@@ -73,7 +83,7 @@ pub fn question(bytes: &[u8], lent: &mut [u8], budget: u32) -> Reply {
         Ok(_) => return refused(BUFFER_TOO_SHORT, 0),
         Err(number) => return refused(number, 0),
     }
-    let Search { runs, end } = search(&reading.case, budget);
+    let Search { runs, end } = walked(&reading.case);
     let (number, place) = match end {
         End::Reached(run) => {
             let records = encode_steps(&run);

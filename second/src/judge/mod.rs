@@ -9,6 +9,7 @@ pub mod lines;
 pub mod machine;
 pub mod reading;
 pub mod refusal;
+pub mod remember;
 pub mod walk;
 pub mod whole;
 pub mod writing;

@@ -10,6 +10,7 @@ pub mod parts;
 pub mod question;
 pub mod random;
 pub mod registers;
+pub mod remember;
 pub mod sizes;
 pub mod tally;
 pub mod text;

@@ -4,6 +4,7 @@ pub mod blocker;
 pub mod effects;
 pub mod fit;
 pub mod judge;
+pub mod key;
 mod row;
 pub mod rules;
 pub mod state;

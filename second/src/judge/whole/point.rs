@@ -5,8 +5,9 @@ use super::engine::Engine;
 use super::outcome::Outcome;
 use super::program::{writes, writes_word};
 use crate::judge::case::{Case, Step, MOST_LOCATIONS, MOST_THREADS};
+use crate::judge::machine::key;
 use crate::judge::machine::rules::ISSUE;
-use crate::judge::machine::state::{Entry, State};
+use crate::judge::machine::state::State;
 
 #[derive(Clone)]
 pub struct Point {
@@ -71,53 +72,17 @@ impl Point {
             || state.queues.iter().any(|queue| queue.count > 0)
     }
 
-    /// Bytes that two points share only if they are the same: all that the program's threads,
-    /// locations and lines have, and behind each count what it counts.
+    /// Bytes that two points share only if they are the same, in all that the program's threads, locations
+    /// and lines have.
     pub fn key(&self, case: &Case) -> Vec<u8> {
-        let (threads, locations) = (usize::from(case.threads), usize::from(case.locations));
-        let state = &self.state;
-        let mut key = Vec::with_capacity(160);
-        key.extend_from_slice(&state.issued);
+        let mut key = key::of(case, &self.state);
         key.push(self.failed);
-        put(&mut key, &state.words[..locations]);
-        for queue in &state.queues[..usize::from(case.lines)] {
-            key.push(queue.count);
-            for held in queue.used() {
-                key.push(held.mark);
-                put(&mut key, &[held.word]);
-            }
-        }
-        for buffer in &state.buffers[..threads] {
-            key.push(buffer.count);
-            for &entry in buffer.used() {
-                put_entry(&mut key, entry);
-            }
-        }
-        for thread in 0..threads {
-            put(&mut key, &state.registers[thread]);
-            for word in &self.fixed[thread][..locations] {
+        for fixed in &self.fixed[..usize::from(case.threads)] {
+            for word in &fixed[..usize::from(case.locations)] {
                 key.push(u8::from(word.is_some()));
-                put(&mut key, &[word.unwrap_or(0)]);
+                key::put(&mut key, &[word.unwrap_or(0)]);
             }
         }
         key
-    }
-}
-
-fn put(key: &mut Vec<u8>, words: &[u32]) {
-    for word in words {
-        key.extend_from_slice(&word.to_le_bytes());
-    }
-}
-
-fn put_entry(key: &mut Vec<u8>, entry: Entry) {
-    match entry {
-        Entry::Store { location, word } => {
-            key.extend_from_slice(&[0, location]);
-            put(key, &[word]);
-        }
-        Entry::Flush(location) => key.extend_from_slice(&[1, location]),
-        Entry::FlushOpt(location) => key.extend_from_slice(&[2, location]),
-        Entry::Sfence => key.push(3),
     }
 }

@@ -17,20 +17,29 @@ pub struct Query {
 
 impl Query {
     pub fn write_to(&self, out: &mut impl Write) -> io::Result<()> {
+        self.write_as(QUESTION, out)
+    }
+
+    /// The next frame; none at the end of the stream.
+    pub fn read_from(stream: &mut impl Read) -> io::Result<Option<Query>> {
+        Query::read_as(QUESTION, stream)
+    }
+
+    /// With that first number.
+    pub fn write_as(&self, first: u32, out: &mut impl Write) -> io::Result<()> {
         let length = self.input.len() as u32;
-        for number in [QUESTION, length, self.room, self.budget] {
+        for number in [first, length, self.room, self.budget] {
             out.write_all(&number.to_le_bytes())?;
         }
         out.write_all(&self.input)
     }
 
-    /// The next frame; none at the end of the stream.
-    pub fn read_from(stream: &mut impl Read) -> io::Result<Option<Query>> {
-        let [first, length, room, budget] = match read_head(stream)? {
+    pub fn read_as(first: u32, stream: &mut impl Read) -> io::Result<Option<Query>> {
+        let [job, length, room, budget] = match read_head(stream)? {
             Some(head) => head,
             None => return Ok(None),
         };
-        if first != QUESTION || length > MOST_INPUT || room > MOST_ROOM {
+        if job != first || length > MOST_INPUT || room > MOST_ROOM {
             return Err(bad_frame());
         }
         Ok(Some(Query {

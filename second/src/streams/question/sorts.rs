@@ -1,6 +1,6 @@
 //! Sorts of questions that are told by the frame and its answer.
 
-use super::counts::Sight;
+use super::sight::Sight;
 use crate::judge::ask::{REACHED, RECORD, UNDECIDED, UNREACHABLE};
 use crate::judge::case::{MOST_STEPS, MOST_THREADS};
 use crate::judge::machine::rules::COMPARE;
@@ -17,33 +17,22 @@ const MOST: usize = MOST_ROOM as usize;
 /// The least room for the greatest full length.
 const FULL: usize = RECORD * MOST_STEPS;
 
-pub const SORTS: [Sort<fn(&Sight) -> bool>; 66] = [
-    sort("100, room just enough", 200, |s| {
-        reached(s) && room(s) == s.need
-    }),
-    sort("100, bytes behind", 200, |s| reached(s) && room(s) > s.need),
-    sort("100, room the most", 20, |s| reached(s) && room(s) == MOST),
-    sort("101, with room", 200, |s| is(s, UNREACHABLE) && room(s) > 0),
-    sort("102, with room", 200, |s| is(s, UNDECIDED) && room(s) > 0),
-    sort("31, room one byte short", 200, |s| {
-        short(s) && room(s) + 1 == s.need
-    }),
-    sort("31, room 0", 200, |s| short(s) && room(s) == 0),
+/// Whether it is told of a frame.
+pub type Told = fn(&Sight) -> bool;
+
+/// All sorts of the question's stream.
+pub fn sorts() -> impl Iterator<Item = &'static Sort<Told>> {
+    OWN.iter().chain(&SHARED)
+}
+
+const OWN: [Sort<Told>; 13] = [
     sort("31, budget 0", 50, |s| short(s) && budget(s) == 0),
     sort("31, budget 4,294,967,295", 50, |s| {
         short(s) && budget(s) == u32::MAX
     }),
-    sort("refused, room 0", 100, |s| s.refusal != 0 && room(s) == 0),
-    sort("refused, room the most", 100, |s| {
-        s.refusal != 0 && room(s) == MOST
-    }),
-    sort("refused, where 31 would be", 100, |s| {
-        s.refusal != 0 && short_before(s)
-    }),
     sort("refused, budget 0", 50, |s| {
         s.refusal != 0 && budget(s) == 0
     }),
-    sort("refused at a step", 50, |s| s.refusal != 0 && at_step(s)),
     sort("budget 0", 500, |s| asked(s) && budget(s) == 0),
     sort("100, budget 1", 50, |s| reached(s) && budget(s) == 1),
     sort("101, budget 1", 20, |s| {
@@ -56,6 +45,41 @@ pub const SORTS: [Sort<fn(&Sight) -> bool>; 66] = [
     sort("101, budget 4,294,967,295", 200, |s| {
         is(s, UNREACHABLE) && budget(s) == u32::MAX
     }),
+    sort("100 at run 300 or later", 100, |s| {
+        reached(s) && runs(s) >= 300
+    }),
+    sort("100 at run 3,000 or later", 20, |s| {
+        reached(s) && runs(s) >= 3000
+    }),
+    sort("101 after 300 runs or more", 200, |s| {
+        is(s, UNREACHABLE) && runs(s) >= 300
+    }),
+    sort("101 after 3,000 runs or more", 20, |s| {
+        is(s, UNREACHABLE) && runs(s) >= 3000
+    }),
+];
+
+/// Whichever walk is asked: rooms, lengths, and what is decided.
+pub const SHARED: [Sort<Told>; 53] = [
+    sort("100, room just enough", 200, |s| {
+        reached(s) && room(s) == s.need
+    }),
+    sort("100, bytes behind", 200, |s| reached(s) && room(s) > s.need),
+    sort("100, room the most", 20, |s| reached(s) && room(s) == MOST),
+    sort("101, with room", 200, |s| is(s, UNREACHABLE) && room(s) > 0),
+    sort("102, with room", 200, |s| is(s, UNDECIDED) && room(s) > 0),
+    sort("31, room one byte short", 200, |s| {
+        short(s) && room(s) + 1 == s.need
+    }),
+    sort("31, room 0", 200, |s| short(s) && room(s) == 0),
+    sort("refused, room 0", 100, |s| s.refusal != 0 && room(s) == 0),
+    sort("refused, room the most", 100, |s| {
+        s.refusal != 0 && room(s) == MOST
+    }),
+    sort("refused, where 31 would be", 100, |s| {
+        s.refusal != 0 && short_before(s)
+    }),
+    sort("refused at a step", 50, |s| s.refusal != 0 && at_step(s)),
     sort("full length 0, room 0", 30, |s| {
         asked(s) && s.need == 0 && room(s) == 0
     }),
@@ -84,17 +108,15 @@ pub const SORTS: [Sort<fn(&Sight) -> bool>; 66] = [
     sort("100 in less than full length", 200, |s| {
         reached(s) && place(s) * RECORD < s.need
     }),
-    sort("100 at run 300 or later", 100, |s| {
-        reached(s) && runs(s) >= 300
+    sort("steps in the input", 200, |s| asked(s) && s.case.count > 0),
+    sort("the most steps in the input", 20, |s| {
+        asked(s) && usize::from(s.case.count) == MOST_STEPS
     }),
-    sort("100 at run 3,000 or later", 20, |s| {
-        reached(s) && runs(s) >= 3000
+    sort("decided, all threads full", 100, |s| {
+        decided(s) && s.case.counts == [INSTRUCTIONS; MOST_THREADS]
     }),
-    sort("101 after 300 runs or more", 200, |s| {
-        is(s, UNREACHABLE) && runs(s) >= 300
-    }),
-    sort("101 after 3,000 runs or more", 20, |s| {
-        is(s, UNREACHABLE) && runs(s) >= 3000
+    sort("decided, a thread full, others not", 20, |s| {
+        decided(s) && s.case.counts.contains(&INSTRUCTIONS) && s.case.counts.contains(&0)
     }),
     sort("100, not wanted and not 0", 200, |s| {
         reached(s) && left_open(s)
@@ -152,16 +174,6 @@ pub const SORTS: [Sort<fn(&Sight) -> bool>; 66] = [
     sort("100 at the end, a compare failed", 50, |s| {
         let failed = s.outcomes.iter().filter(|&&one| one == Fails).count();
         reached(s) && failed > 0 && (place(s) + failed) * RECORD == s.need
-    }),
-    sort("steps in the input", 200, |s| asked(s) && s.case.count > 0),
-    sort("the most steps in the input", 20, |s| {
-        asked(s) && usize::from(s.case.count) == MOST_STEPS
-    }),
-    sort("decided, all threads full", 100, |s| {
-        decided(s) && s.case.counts == [INSTRUCTIONS; MOST_THREADS]
-    }),
-    sort("decided, a thread full, others not", 20, |s| {
-        decided(s) && s.case.counts.contains(&INSTRUCTIONS) && s.case.counts.contains(&0)
     }),
 ];
 

@@ -7,6 +7,7 @@ mod machine;
 mod question;
 mod reading;
 mod registers;
+mod remember;
 mod states;
 mod walk;
 mod whole;

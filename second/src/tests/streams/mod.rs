@@ -6,5 +6,6 @@ mod machine;
 mod once;
 mod question;
 mod registers;
+mod remember;
 mod text;
 mod whole;

@@ -3,11 +3,11 @@
 mod commits;
 mod deep;
 mod handed;
-mod queries;
+pub mod queries;
 mod races;
 mod refused;
 mod small;
-mod wants;
+pub mod wants;
 
 use super::frame::Query;
 use crate::streams::parts::{hand_out, Part, Take};

@@ -112,16 +112,17 @@ fn spoil(random: &mut Random, file: &mut Vec<u8>) {
     }
 }
 
-struct Asker<'a> {
+/// Asks about one case.
+pub struct Asker<'a> {
     case: &'a Case,
     file: Vec<u8>,
     /// The least room that is enough.
-    need: u32,
-    queries: Vec<Query>,
+    pub need: u32,
+    pub queries: Vec<Query>,
 }
 
 impl Asker<'_> {
-    fn new(case: &Case) -> Asker<'_> {
+    pub fn new(case: &Case) -> Asker<'_> {
         Asker {
             case,
             file: encode(case),
@@ -130,7 +131,7 @@ impl Asker<'_> {
         }
     }
 
-    fn ask(&mut self, room: u32, budget: u32) {
+    pub fn ask(&mut self, room: u32, budget: u32) {
         self.queries.push(Query {
             input: self.file.clone(),
             room,
@@ -139,7 +140,7 @@ impl Asker<'_> {
     }
 
     /// Enough, with or without bytes behind.
-    fn any_room(&self, random: &mut Random) -> u32 {
+    pub fn any_room(&self, random: &mut Random) -> u32 {
         let more = self.need + 1 + random.below(40) as u32;
         let most = if random.one_in(20) { MOST_ROOM } else { more };
         random.pick(&[self.need, more, most])
@@ -147,7 +148,7 @@ impl Asker<'_> {
 
     /// The last frame again, with other steps in its input: the run itself, a legal one, any, any whose moves
     /// are of the oldest entry.
-    fn ask_again(&mut self, random: &mut Random, run: Option<&[Step]>) {
+    pub fn ask_again(&mut self, random: &mut Random, run: Option<&[Step]>) {
         let last = match self.queries.last() {
             Some(last) => (last.room, last.budget),
             None => return,

@@ -25,12 +25,12 @@ const STYLES: [Style; 11] = [
 ];
 
 pub fn add(random: &mut Random, case: &mut Case) {
-    add_first_contents(random, case);
+    first_contents(random, case);
     let style = random.pick(&STYLES);
     style(random, case);
 }
 
-fn add_first_contents(random: &mut Random, case: &mut Case) {
+pub fn first_contents(random: &mut Random, case: &mut Case) {
     for location in 0..usize::from(case.locations) {
         if random.one_in(3) {
             case.first[location] = word(random);
