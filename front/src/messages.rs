@@ -175,6 +175,7 @@ pub enum Trouble {
     CannotRun(String, String),
     ProgramEnded(String, String),
     OddLine(String, String),
+    Spoilt(String),
     Astray(String),
 }
 
@@ -199,6 +200,10 @@ impl fmt::Display for Trouble {
             Trouble::ProgramEnded(program, how) => {
                 write!(out, "the program {program} gave no answer: {how}")
             }
+            Trouble::Spoilt(program) => write!(
+                out,
+                "the program {program} says that the lent memory was not left as promised: its answer is not told"
+            ),
             Trouble::Astray(file) => {
                 write!(
                     out,

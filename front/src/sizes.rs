@@ -1,4 +1,5 @@
-//! The sizes of document 01, for messages and for the room of a batch frame; the proved reader has the last word on them.
+//! The sizes of document 01, for messages and for the room of a frame; the proved reader has the last word on them. And how far a search
+//! goes if nothing else is said.
 
 pub const THREADS: usize = 4;
 pub const LOCATIONS: usize = 16;
@@ -18,5 +19,11 @@ pub const LONGEST_RECORD: usize = 8 + LOCATIONS;
 /// The longest file: the program; first contents and wants; instructions; passed counts; steps.
 pub const LONGEST: usize =
     LONGEST_RECORD + 18 * LOCATIONS + 12 * CODE + 6 * THREADS + STEP_RECORD * STEPS;
-/// The budget of the program `question`.
+/// The plain walk's budget, in runs: that of the program `question`.
 pub const BUDGET: u32 = 1_000_000;
+/// The lent memory that the search that remembers takes for a state, in bytes.
+pub const STATE: u64 = 768;
+/// The memory that it is lent, in bytes.
+pub const MEMORY: u64 = 1 << 30;
+/// The most that a frame can ask for, but for a word.
+pub const MOST_MEMORY: u64 = 16 << 30;

@@ -6,14 +6,14 @@ use crate::desk::{self, programs::Programs, Given, Outcome, Unfit};
 use crate::files::File;
 use crate::messages::Trouble;
 use crate::output;
-use crate::story::{Answer, Story};
+use crate::story::{search::Search, Answer, Story};
 use crate::tell::report;
 
-/// The answers of all files that are cases, by their index; each is handed on as it comes. With a budget the question is asked,
+/// The answers of all files that are cases, by their index; each is handed on as it comes. With a search the question is asked,
 /// else the run is judged.
 pub fn answers(
     programs: &Programs,
-    budget: Option<u32>,
+    search: Option<Search>,
     read: &[Result<Given, Unfit>],
     each: &mut dyn FnMut(usize, Outcome) -> Result<(), Trouble>,
 ) -> Result<(), Trouble> {
@@ -24,8 +24,8 @@ pub fn answers(
         return Ok(());
     }
     let mut placed = |i: usize, outcome| each(places[i], outcome);
-    match budget {
-        Some(budget) => desk::ask(programs, &given, budget, &mut placed),
+    match search {
+        Some(search) => desk::ask(programs, &given, search, &mut placed),
         None => desk::judge(programs, &given, &mut placed),
     }
 }
@@ -33,29 +33,29 @@ pub fn answers(
 /// The answers all together.
 pub fn all_answers(
     programs: &Programs,
-    budget: Option<u32>,
+    search: Option<Search>,
     read: &[Result<Given, Unfit>],
 ) -> Result<Vec<Option<Outcome>>, Trouble> {
     let mut outcomes = vec![None; read.len()];
-    answers(programs, budget, read, &mut |i, outcome| {
+    answers(programs, search, read, &mut |i, outcome| {
         outcomes[i] = Some(outcome);
         Ok(())
     })?;
     Ok(outcomes)
 }
 
-/// The budget of the question, where one is asked.
-pub fn budget_of(options: &Options) -> Option<u32> {
-    (options.command == Command::Ask).then_some(options.budget_or_default())
+/// What is asked the question, where one is.
+pub fn search_of(options: &Options) -> Option<Search> {
+    (options.command == Command::Ask).then_some(options.search())
 }
 
 pub fn story(
     programs: &Programs,
     given: &Given,
     answer: (Answer, Vec<Step>),
-    budget: Option<u32>,
+    search: Option<Search>,
 ) -> Result<Story, Trouble> {
-    let mut stories = desk::stories(programs, vec![(given, answer.0, answer.1)], budget)?;
+    let mut stories = desk::stories(programs, vec![(given, answer.0, answer.1)], search)?;
     Ok(stories.remove(0))
 }
 

@@ -1,13 +1,13 @@
 //! The forms other than words: JSON, what the programs print themselves, records, text.
 
-use super::answers::{all_answers, budget_of, say_refused, say_unfit};
+use super::answers::{all_answers, say_refused, say_unfit, search_of};
 use super::options::{self, Command, Options};
 use super::statuses::{graver, raw_status, status, NO_ANSWER};
 use crate::desk::{self, frames, programs::Programs, Given, Outcome, Unfit};
 use crate::files::File;
 use crate::messages::Trouble;
 use crate::output;
-use crate::story::Story;
+use crate::story::{search::Search, Story};
 use crate::tell::objects;
 use crate::text::layout;
 
@@ -17,8 +17,8 @@ pub fn json(
     options: &Options,
     read: &[Result<Given, Unfit>],
 ) -> Result<u8, Trouble> {
-    let budget = budget_of(options);
-    let outcomes = all_answers(programs, budget, read)?;
+    let search = search_of(options);
+    let outcomes = all_answers(programs, search, read)?;
     let answered = read.iter().zip(&outcomes).filter_map(|pair| match pair {
         (Ok(given), Some(Outcome::Answer(answer, run))) => Some((given, *answer, run.clone())),
         _ => None,
@@ -26,7 +26,7 @@ pub fn json(
     let answered: Vec<_> = answered.collect();
     let stories = match answered.is_empty() {
         true => Vec::new(),
-        false => desk::stories(programs, answered, budget)?,
+        false => desk::stories(programs, answered, search)?,
     };
     let mut stories = stories.iter();
     let mut gravest = 0;
@@ -86,11 +86,15 @@ pub fn raw(
 }
 
 fn raw_one(programs: &Programs, options: &Options, given: &Given) -> Result<u8, Trouble> {
-    let (program, input) = match (options.command, options.budget) {
-        (Command::Judge, _) => ("judge", given.bytes.clone()),
-        (_, None) => ("question", given.bytes.clone()),
+    let search = options.search();
+    let (program, input) = match (options.command, search, options.budget) {
+        (Command::Judge, ..) => ("judge", given.bytes.clone()),
+        (_, Search::Walk { .. }, None) => ("question", given.bytes.clone()),
         // the program `question` has one budget; `batch` takes any, and answers with the number and the lent buffer
-        (_, Some(budget)) => ("batch", frames::question(&given.bytes, budget)),
+        _ => (
+            frames::program(search),
+            frames::question(&given.bytes, search),
+        ),
     };
     let mut status = NO_ANSWER;
     let mut is_first = true;
@@ -99,6 +103,10 @@ fn raw_one(programs: &Programs, options: &Options, given: &Given) -> Result<u8, 
         input,
         &[format!("asking {}", given.file)],
         &mut |line| {
+            if program == frames::LEND {
+                // a line that cannot be told cannot be passed on as an answer either
+                frames::asked(line, search)?;
+            }
             if is_first {
                 status = raw_status(line);
                 is_first = false;

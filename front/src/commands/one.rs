@@ -1,6 +1,6 @@
 //! One case: its answer told in full, or its run drawn.
 
-use super::answers::{all_answers, budget_of, say_refused, say_unfit, story};
+use super::answers::{all_answers, say_refused, say_unfit, search_of, story};
 use super::options::Options;
 use super::statuses::{status, NO_ANSWER};
 use crate::desk::{programs::Programs, Given, Outcome, Unfit};
@@ -17,13 +17,13 @@ pub fn tell(
     options: &Options,
     read: &Result<Given, Unfit>,
 ) -> Result<u8, Trouble> {
-    let budget = budget_of(options);
-    let found = all_answers(programs, budget, std::slice::from_ref(read))?;
+    let search = search_of(options);
+    let found = all_answers(programs, search, std::slice::from_ref(read))?;
     match (read, &found[0]) {
         (Ok(given), Some(outcome)) => {
             let words = match outcome {
                 Outcome::Answer(answer, run) => {
-                    report::words(&story(programs, given, (*answer, run.clone()), budget)?)
+                    report::words(&story(programs, given, (*answer, run.clone()), search)?)
                 }
                 Outcome::Refused(refused) => report::refused(&given.file, refused),
             };
@@ -52,16 +52,19 @@ pub fn draw(
             return Ok(NO_ANSWER);
         }
     };
-    let budget = (!given.has_run()).then_some(options.budget_or_default());
-    let found = all_answers(programs, budget, std::slice::from_ref(read))?;
+    let search = (!given.has_run()).then_some(options.search());
+    let found = all_answers(programs, search, std::slice::from_ref(read))?;
     match &found[0] {
-        Some(Outcome::Answer(answer @ (Answer::Unreachable | Answer::Undecided), _)) => {
+        Some(Outcome::Answer(
+            answer @ (Answer::Unreachable { .. } | Answer::Undecided { .. }),
+            _,
+        )) => {
             let (file, word) = (&given.file, answer.word());
             output::say(&format!("{file}: {word}, so there is no run to draw\n"));
             Ok(NO_ANSWER)
         }
         Some(Outcome::Answer(answer, run)) => {
-            let story = story(programs, given, (*answer, run.clone()), budget)?;
+            let story = story(programs, given, (*answer, run.clone()), search)?;
             write_drawing(options, &story)
         }
         refused => {

@@ -3,6 +3,7 @@
 use crate::files::{shown, File};
 use crate::messages::Trouble;
 use crate::sizes;
+use crate::story::search::Search;
 use std::ffi::OsString;
 
 #[derive(Clone, Copy, Debug, PartialEq, Eq)]
@@ -25,8 +26,14 @@ pub enum Form {
 pub struct Options {
     pub command: Command,
     pub form: Form,
+    /// The plain walk is to be asked; so it is where it has a budget.
+    pub walk: bool,
     /// None: the budget of the program `question`.
     pub budget: Option<u32>,
+    /// None: any number.
+    pub states: Option<u32>,
+    /// In bytes.
+    pub memory: Option<u64>,
     pub html: bool,
     /// None: standard output.
     pub out: Option<OsString>,
@@ -67,7 +74,10 @@ pub fn options(words: &[OsString]) -> Result<Options, Trouble> {
     let mut found = Options {
         command,
         form: Form::Words,
+        walk: false,
         budget: None,
+        states: None,
+        memory: None,
         html: false,
         out: None,
         files: Vec::new(),
@@ -91,7 +101,12 @@ fn take_words(found: &mut Options, words: &[OsString]) -> Result<(), Trouble> {
             Some("--json") => take_form(found, Form::Json)?,
             Some("--bytes") => take_form(found, Form::Bytes)?,
             Some("--html") => found.html = true,
-            Some("--budget") => found.budget = Some(budget(rest.next())?),
+            Some("--walk") => found.walk = true,
+            Some("--budget") => found.budget = Some(count(rest.next(), "--budget", "runs")?),
+            Some("--states") => {
+                found.states = Some(count(rest.next(), "--states", "distinct states")?);
+            }
+            Some("--memory") => found.memory = Some(size(rest.next())?),
             Some("-o") => found.out = file_after(rest.next())?,
             Some("-") => take_input(found)?,
             Some(option) if option.starts_with('-') => {
@@ -119,17 +134,45 @@ fn take_form(found: &mut Options, form: Form) -> Result<(), Trouble> {
     Ok(())
 }
 
-/// Digits, with commas before each three or none.
-fn budget(word: Option<&OsString>) -> Result<u32, Trouble> {
+fn count(word: Option<&OsString>, option: &str, what: &str) -> Result<u32, Trouble> {
     let text = word.and_then(|word| word.to_str()).unwrap_or("");
+    match number(text).and_then(|number| u32::try_from(number).ok()) {
+        Some(number) => Ok(number),
+        None => usage(format!(
+            "{option} wants a number of {what}, 0 to 4294967295"
+        )),
+    }
+}
+
+/// A number of bytes, or of KiB, MiB or GiB; at least one state finds room there.
+fn size(word: Option<&OsString>) -> Result<u64, Trouble> {
+    let text = word.and_then(|word| word.to_str()).unwrap_or("");
+    let digits = text.trim_end_matches(['K', 'M', 'G']);
+    let unit = match &text[digits.len()..] {
+        "" => Some(1),
+        "K" => Some(1 << 10),
+        "M" => Some(1 << 20),
+        "G" => Some(1 << 30),
+        _ => None,
+    };
+    let bytes = unit.and_then(|unit: u64| number(digits)?.checked_mul(unit));
+    match bytes {
+        Some(bytes) if (sizes::STATE..=sizes::MOST_MEMORY).contains(&bytes) => Ok(bytes),
+        _ => usage(
+            "--memory wants a size: 768 bytes, which is one state, to 16G; K, M or G behind a number is KiB, MiB or GiB"
+                .to_string(),
+        ),
+    }
+}
+
+/// Digits, with commas before each three or none.
+fn number(text: &str) -> Option<u64> {
     let groups: Vec<&str> = text.split(',').collect();
     let is_grouped = groups[0].len() <= 3 && groups[1..].iter().all(|group| group.len() == 3);
     let digits = groups.concat();
     let is_number = digits.bytes().all(|byte| byte.is_ascii_digit());
-    match digits.parse() {
-        Ok(number) if is_number && (is_grouped || groups.len() == 1) => Ok(number),
-        _ => usage("--budget wants a number of runs, 0 to 4294967295".to_string()),
-    }
+    let number = digits.parse().ok()?;
+    (is_number && (is_grouped || groups.len() == 1)).then_some(number)
 }
 
 /// A file's name; - is standard output.
@@ -153,8 +196,16 @@ fn fits(found: &Options) -> Result<(), Trouble> {
     if !is(Command::Ask) && !is(Command::Judge) && found.form != Form::Words {
         return usage("--raw, --json and --bytes go with ask and judge".to_string());
     }
-    if !is(Command::Ask) && !is(Command::Draw) && found.budget.is_some() {
-        return usage("--budget goes with ask and draw".to_string());
+    let walks = found.walk || found.budget.is_some();
+    let remembers = found.states.is_some() || found.memory.is_some();
+    if !is(Command::Ask) && !is(Command::Draw) && (walks || remembers) {
+        return usage("--states, --memory, --walk and --budget go with ask and draw".to_string());
+    }
+    if walks && remembers {
+        return usage(
+            "--states and --memory do not go with --walk or --budget: the plain walk keeps no states"
+                .to_string(),
+        );
     }
     if !is(Command::Draw) && (found.html || found.out.is_some()) {
         return usage("--html and -o go with draw".to_string());
@@ -176,7 +227,16 @@ fn is_same(file: &File, out: Option<&OsString>) -> bool {
 }
 
 impl Options {
-    pub fn budget_or_default(&self) -> u32 {
-        self.budget.unwrap_or(sizes::BUDGET)
+    /// What a question is put to.
+    pub fn search(&self) -> Search {
+        match self.walk || self.budget.is_some() {
+            true => Search::Walk {
+                runs: self.budget.unwrap_or(sizes::BUDGET),
+            },
+            false => Search::Remember {
+                states: self.states.unwrap_or(u32::MAX),
+                bytes: self.memory.unwrap_or(sizes::MEMORY),
+            },
+        }
     }
 }

@@ -1,6 +1,6 @@
 //! Several files at once: a line each, as the answers come, and a summary.
 
-use super::answers::{answers, budget_of, say_unfit};
+use super::answers::{answers, say_unfit, search_of};
 use super::options::Options;
 use super::statuses::{graver, status, NO_ANSWER};
 use crate::desk::{programs::Programs, Given, Outcome, Unfit};
@@ -34,7 +34,7 @@ pub fn tell(
         counts: Vec::new(),
     };
     table.advance()?;
-    answers(programs, budget_of(options), read, &mut |i, outcome| {
+    answers(programs, search_of(options), read, &mut |i, outcome| {
         table.outcomes[i] = Some(outcome);
         table.advance()
     })?;
@@ -108,7 +108,11 @@ fn more(given: &Given, answer: Answer, steps: usize) -> String {
             )
         }
         Answer::Legal => format!(", {}", report::steps(steps)),
-        Answer::Unreachable => format!(": {}", report::asked(&given.case(), " = ")),
-        Answer::Undecided => format!(": {}", report::asked(&given.case(), " = ")),
+        Answer::Unreachable { states } | Answer::Undecided { states } => {
+            let states = states.map_or(String::new(), |count| {
+                format!(", {}", report::states(count))
+            });
+            format!("{states}: {}", report::asked(&given.case(), " = "))
+        }
     }
 }

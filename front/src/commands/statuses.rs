@@ -8,9 +8,9 @@ pub const NO_ANSWER: u8 = 3;
 /// The exit status for an answer.
 pub fn status(outcome: &Outcome) -> u8 {
     match outcome {
-        Outcome::Answer(Answer::Unreachable | Answer::Legal, _) => 0,
+        Outcome::Answer(Answer::Unreachable { .. } | Answer::Legal, _) => 0,
         Outcome::Answer(Answer::Reached | Answer::Illegal { .. }, _) => 1,
-        Outcome::Answer(Answer::Undecided, _) => 2,
+        Outcome::Answer(Answer::Undecided { .. }, _) => 2,
         Outcome::Refused(_) => NO_ANSWER,
     }
 }

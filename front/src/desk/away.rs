@@ -3,6 +3,7 @@
 use super::frames::{self, Judged, Verdict};
 use super::programs::Programs;
 use super::records;
+use super::Task;
 use crate::case::Step;
 use crate::messages::Trouble;
 use crate::sizes;
@@ -67,11 +68,14 @@ fn round(
         let run = [&story.run[..super::legal(story)], &trial.steps].concat();
         frames::judge(&records::with_run(&story.case, &run))
     };
-    let label = |trial: &Trial| format!("telling {}", stories[trial.story].file);
-    let labels: Vec<String> = trials.iter().map(label).collect();
+    let label = |trial: &Trial| super::telling(&stories[trial.story]);
+    let task = Task {
+        program: frames::BATCH,
+        input: trials.iter().flat_map(shown).collect(),
+        labels: trials.iter().map(label).collect(),
+    };
     let mut judged = Vec::new();
-    let input = trials.iter().flat_map(shown).collect();
-    super::batch(programs, input, &labels, &mut |_, line| {
+    task.done(programs, &mut |_, line| {
         judged.push(frames::judged(line)?);
         Ok(())
     })?;

@@ -1,24 +1,34 @@
-//! Frames for the program `batch` and what its lines say. docs/FRAMES.md has both.
+//! Frames for the program `batch` and for `lend`, the host that lends memory, and what their lines say. docs/FRAMES.md has both.
 
 use super::records;
 use crate::case::{Case, Step};
 use crate::messages::Trouble;
 use crate::sizes;
-use crate::story::{blocker::Place, state::State};
+use crate::story::search::{self, Search};
+use crate::story::{blocker::Place, state::State, Answer};
 
 /// Reading looks at no byte behind the longest file and one record more, so that a longer file is answered by so many.
 const MOST_INPUT: usize = sizes::LONGEST + sizes::LONGEST_RECORD;
 const JUDGE: u32 = 2_147_483_648;
 const QUESTION: u32 = JUDGE + 3;
+const REMEMBER: u32 = JUDGE + 5;
 const RECORD: usize = sizes::STEP_RECORD;
+
+pub const BATCH: &str = "batch";
+pub const LEND: &str = "lend";
 
 #[derive(Clone, Debug, PartialEq, Eq)]
 pub enum Asked {
-    Reached(Vec<Step>),
-    Unreachable,
-    Undecided,
-    Refused { number: u32, offset: usize },
+    /// The answer, and the run that reaches.
+    Answer(Answer, Vec<Step>),
+    Refused {
+        number: u32,
+        offset: usize,
+    },
 }
+
+/// The parts that the lines of both searches have: number, place and lent buffer.
+type Parts<'a> = [&'a str; 3];
 
 pub struct Judged {
     pub verdict: Verdict,
@@ -47,8 +57,25 @@ impl Judged {
     }
 }
 
-pub fn question(input: &[u8], budget: u32) -> Vec<u8> {
-    frame(QUESTION, input, (sizes::STEPS * RECORD) as u32, budget)
+/// The program that answers the frames of a search.
+pub fn program(search: Search) -> &'static str {
+    match search {
+        Search::Remember { .. } => LEND,
+        Search::Walk { .. } => BATCH,
+    }
+}
+
+pub fn question(input: &[u8], search: Search) -> Vec<u8> {
+    let room = (sizes::STEPS * RECORD) as u32;
+    match search {
+        Search::Remember { states, bytes } => {
+            let words = u32::try_from(bytes / 4).unwrap_or(u32::MAX);
+            let mut out = frame(REMEMBER, input, room, states);
+            out.extend(words.to_le_bytes());
+            out
+        }
+        Search::Walk { runs } => frame(QUESTION, input, room, runs),
+    }
 }
 
 pub fn judge(input: &[u8]) -> Vec<u8> {
@@ -66,20 +93,22 @@ fn frame(job: u32, input: &[u8], third: u32, fourth: u32) -> Vec<u8> {
     out
 }
 
-pub fn asked(line: &str) -> Result<Asked, Trouble> {
-    let odd = || odd_line(line);
-    let [number, place, buffer] = fields(line).ok_or_else(odd)?;
+pub fn asked(line: &str, search: Search) -> Result<Asked, Trouble> {
+    let odd = || odd_line(program(search), line);
+    let ([number, place, buffer], states) = match search {
+        Search::Remember { states, bytes } => {
+            remembered(line, search::room(bytes).min(states.into()))?
+        }
+        Search::Walk { .. } => (fields(line).ok_or_else(odd)?, None),
+    };
     let place: usize = place.parse().map_err(|_| odd())?;
     match number.parse().map_err(|_| odd())? {
         100 => {
-            let bytes = bytes_of(buffer).ok_or_else(odd)?;
-            let shown = bytes.get(..place * RECORD).ok_or_else(odd)?;
-            let step =
-                |record: &[u8]| records::step_in([record[4], record[5], record[6], record[7]]);
-            Ok(Asked::Reached(shown.chunks(RECORD).map(step).collect()))
+            let run = run_in(buffer, place).ok_or_else(odd)?;
+            Ok(Asked::Answer(Answer::Reached, run))
         }
-        101 => Ok(Asked::Unreachable),
-        102 => Ok(Asked::Undecided),
+        101 => Ok(Asked::Answer(Answer::Unreachable { states }, Vec::new())),
+        102 => Ok(Asked::Answer(Answer::Undecided { states }, Vec::new())),
         number => Ok(Asked::Refused {
             number,
             offset: place,
@@ -87,8 +116,37 @@ pub fn asked(line: &str) -> Result<Asked, Trouble> {
     }
 }
 
+/// A line of the search that remembers, which covers `most` states at the most: what it shares with the other's, and how many states it counts.
+fn remembered(line: &str, most: u64) -> Result<(Parts<'_>, Option<u32>), Trouble> {
+    let odd = || odd_line(LEND, line);
+    let [number, place, states, memory, buffer] = fields(line).ok_or_else(odd)?;
+    if memory == "spoilt" {
+        return Err(Trouble::Spoilt(LEND.to_string()));
+    }
+    let count: u32 = states.parse().map_err(|_| odd())?;
+    // the start is a state, so that there is one to go through
+    let (left, counts) = match number {
+        "100" => ("zeros", 0..=0),
+        "101" => ("zeros", 1..=most),
+        "102" => ("zeros", 0..=most),
+        _ => ("kept", 0..=0),
+    };
+    match (memory == left || memory == "-") && counts.contains(&count.into()) {
+        true => Ok(([number, place, buffer], Some(count))),
+        false => Err(odd()),
+    }
+}
+
+/// The first so many steps of a lent buffer.
+fn run_in(buffer: &str, count: usize) -> Option<Vec<Step>> {
+    let bytes = bytes_of(buffer)?;
+    let shown = bytes.get(..count * RECORD)?;
+    let step = |record: &[u8]| records::step_in([record[4], record[5], record[6], record[7]]);
+    Some(shown.chunks(RECORD).map(step).collect())
+}
+
 pub fn judged(line: &str) -> Result<Judged, Trouble> {
-    let odd = || odd_line(line);
+    let odd = || odd_line(BATCH, line);
     let ([number, place, _, full_length, state], blocker) = machine(line).ok_or_else(odd)?;
     let place = place.parse().map_err(|_| odd())?;
     let verdict = match number.parse().map_err(|_| odd())? {
@@ -142,7 +200,7 @@ fn bytes_of(hex: &str) -> Option<Vec<u8>> {
 }
 
 /// A line that is not understood; of a long one both ends, since the blocker's place stands behind the state.
-pub fn odd_line(line: &str) -> Trouble {
+pub fn odd_line(program: &str, line: &str) -> Trouble {
     const START: usize = 40;
     const END: usize = 12;
     let count = line.chars().count();
@@ -152,7 +210,7 @@ pub fn odd_line(line: &str) -> Trouble {
         true => format!("{start} .. {end}"),
         false => line.to_string(),
     };
-    Trouble::OddLine("batch".to_string(), shown)
+    Trouble::OddLine(program.to_string(), shown)
 }
 
 #[cfg(test)]

@@ -9,6 +9,7 @@ use crate::case::{Case, Step};
 use crate::files::File;
 use crate::messages::{Mistake, Trouble};
 use crate::output;
+use crate::story::search::Search;
 use crate::story::{blocker, compares, lives, Answer, Refusal, Story};
 use crate::text::parse;
 use frames::{Asked, Judged, Verdict};
@@ -105,15 +106,14 @@ type Each<'a> = dyn FnMut(usize, Outcome) -> Result<(), Trouble> + 'a;
 pub fn ask(
     programs: &Programs,
     given: &[&Given],
-    budget: u32,
+    search: Search,
     each: &mut Each,
 ) -> Result<(), Trouble> {
-    let frame = |one: &Given| frames::question(&one.bytes, budget);
-    stream(programs, given, "asking", &frame, &mut |i, line| {
-        let outcome = match frames::asked(line)? {
-            Asked::Reached(run) => Outcome::Answer(Answer::Reached, run),
-            Asked::Unreachable => Outcome::Answer(Answer::Unreachable, Vec::new()),
-            Asked::Undecided => Outcome::Answer(Answer::Undecided, Vec::new()),
+    let frame = |one: &Given| frames::question(&one.bytes, search);
+    let task = Task::of(frames::program(search), "asking", given, &frame);
+    task.done(programs, &mut |i, line| {
+        let outcome = match frames::asked(line, search)? {
+            Asked::Answer(answer, run) => Outcome::Answer(answer, run),
             Asked::Refused { number, offset } => given[i].refused(number, offset),
         };
         each(i, outcome)
@@ -123,7 +123,8 @@ pub fn ask(
 /// Has the run of each judged, likewise.
 pub fn judge(programs: &Programs, given: &[&Given], each: &mut Each) -> Result<(), Trouble> {
     let frame = |one: &Given| frames::judge(&one.bytes);
-    stream(programs, given, "judging", &frame, &mut |i, line| {
+    let task = Task::of(frames::BATCH, "judging", given, &frame);
+    task.done(programs, &mut |i, line| {
         let run = || given[i].case().run;
         let outcome = match frames::judged(line)?.verdict {
             Verdict::Legal(_) => Outcome::Answer(Answer::Legal, run()),
@@ -145,48 +146,59 @@ pub fn judge(programs: &Programs, given: &[&Given], each: &mut Each) -> Result<(
     })
 }
 
-/// One frame for each case; `doing` is said of it where it takes long.
-fn stream(
-    programs: &Programs,
-    given: &[&Given],
-    doing: &str,
-    frame: &dyn Fn(&Given) -> Vec<u8>,
-    each: &mut dyn FnMut(usize, &str) -> Result<(), Trouble>,
-) -> Result<(), Trouble> {
-    let input = given.iter().flat_map(|one| frame(one)).collect();
-    let labels = given.iter().map(|one| format!("{doing} {}", one.file));
-    batch(programs, input, &labels.collect::<Vec<String>>(), each)
+/// Frames for a program, and of each what is said where it takes long.
+struct Task {
+    program: &'static str,
+    input: Vec<u8>,
+    labels: Vec<String>,
 }
 
-/// One answer for each frame, or the program gave none.
-fn batch(
-    programs: &Programs,
-    input: Vec<u8>,
-    labels: &[String],
-    each: &mut dyn FnMut(usize, &str) -> Result<(), Trouble>,
-) -> Result<(), Trouble> {
-    let mut answered = 0;
-    programs.lines("batch", input, labels, &mut |line| {
-        answered += 1;
-        match answered <= labels.len() {
-            true => each(answered - 1, line),
-            false => Err(frames::odd_line(line)),
+impl Task {
+    /// One frame for each case; `doing` is said of it.
+    fn of(
+        program: &'static str,
+        doing: &str,
+        given: &[&Given],
+        frame: &dyn Fn(&Given) -> Vec<u8>,
+    ) -> Task {
+        let label = |one: &&Given| format!("{doing} {}", one.file);
+        Task {
+            program,
+            input: given.iter().flat_map(|one| frame(one)).collect(),
+            labels: given.iter().map(label).collect(),
         }
-    })?;
-    if answered < labels.len() {
-        let how = format!("it ended after {answered} answers of {}", labels.len());
-        return Err(Trouble::ProgramEnded("batch".to_string(), how));
     }
-    Ok(())
+
+    /// One answer for each frame, or the program gave none.
+    fn done(
+        self,
+        programs: &Programs,
+        each: &mut dyn FnMut(usize, &str) -> Result<(), Trouble>,
+    ) -> Result<(), Trouble> {
+        let (program, count) = (self.program, self.labels.len());
+        let mut answered = 0;
+        programs.lines(program, self.input, &self.labels, &mut |line| {
+            answered += 1;
+            match answered <= count {
+                true => each(answered - 1, line),
+                false => Err(frames::odd_line(program, line)),
+            }
+        })?;
+        if answered < count {
+            let how = format!("it ended after {answered} answers of {count}");
+            return Err(Trouble::ProgramEnded(program.to_string(), how));
+        }
+        Ok(())
+    }
 }
 
 /// The stories of answered cases: the proved judge is shown each run as far as it is legal, step by step, and hands out the states.
 pub fn stories(
     programs: &Programs,
     answered: Vec<(&Given, Answer, Vec<Step>)>,
-    budget: Option<u32>,
+    search: Option<Search>,
 ) -> Result<Vec<Story>, Trouble> {
-    let mut stories: Vec<Story> = answered.into_iter().map(|one| blank(one, budget)).collect();
+    let mut stories: Vec<Story> = answered.into_iter().map(|one| blank(one, search)).collect();
     let mut owners = Vec::new();
     let mut input = Vec::new();
     for (i, story) in stories.iter().enumerate() {
@@ -198,11 +210,12 @@ pub fn stories(
             )));
         }
     }
-    let labels: Vec<String> = owners
-        .iter()
-        .map(|i| format!("telling {}", stories[*i].file))
-        .collect();
-    batch(programs, input, &labels, &mut |at, line| {
+    let task = Task {
+        program: frames::BATCH,
+        input,
+        labels: owners.iter().map(|i| telling(&stories[*i])).collect(),
+    };
+    task.done(programs, &mut |at, line| {
         take_state(&mut stories[owners[at]], frames::judged(line)?, line)
     })?;
     // what is told of the entries must be what the judge's states say, or nothing is told
@@ -215,13 +228,18 @@ pub fn stories(
     Ok(stories)
 }
 
-fn blank(answered: (&Given, Answer, Vec<Step>), budget: Option<u32>) -> Story {
+/// What is said while the judge is shown the run.
+fn telling(story: &Story) -> String {
+    format!("telling {}", story.file)
+}
+
+fn blank(answered: (&Given, Answer, Vec<Step>), search: Option<Search>) -> Story {
     let (given, answer, run) = answered;
     Story {
         file: given.file.clone(),
         case: given.case(),
         answer,
-        budget,
+        search,
         full_length: 0,
         run,
         states: Vec::new(),
@@ -239,7 +257,7 @@ fn legal(story: &Story) -> usize {
 
 fn take_state(story: &mut Story, judged: Judged, line: &str) -> Result<(), Trouble> {
     if judged.verdict != Verdict::Legal(story.states.len()) {
-        return Err(frames::odd_line(line));
+        return Err(frames::odd_line(frames::BATCH, line));
     }
     story.full_length = judged.full_length;
     story.states.push(judged.state(&story.case));

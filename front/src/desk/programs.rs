@@ -1,5 +1,7 @@
-//! Calls the proved programs: gives them their input, takes their lines, and shows on a terminal that they are at work.
+//! Calls the proved programs, and the host that lends the proved library memory: gives them their input, takes their lines, and shows on a
+//! terminal that they are at work.
 
+use super::frames::LEND;
 use crate::messages::Trouble;
 use crate::output;
 use std::io::{BufRead, BufReader, IsTerminal, Write};
@@ -59,15 +61,23 @@ impl Programs {
     }
 
     fn start(&self, program: &str) -> Result<Child, Trouble> {
-        let mut command = Command::new(self.root.join("tools/run"));
-        command
-            .arg(program)
-            .stdin(Stdio::piped())
-            .stdout(Stdio::piped());
+        let mut command = self.command(program);
+        command.stdin(Stdio::piped()).stdout(Stdio::piped());
         end_with_parent(&mut command);
         command
             .spawn()
             .map_err(|error| Trouble::CannotRun(program.to_string(), output::plain(&error)))
+    }
+
+    /// The host is a C program, and has a script of its own; `tools/run` runs those that Rattle built.
+    fn command(&self, program: &str) -> Command {
+        let tools = self.root.join("tools");
+        if program == LEND {
+            return Command::new(tools.join(LEND));
+        }
+        let mut command = Command::new(tools.join("run"));
+        command.arg(program);
+        command
     }
 }
 

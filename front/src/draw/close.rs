@@ -18,7 +18,7 @@ pub fn draw(ink: &mut Ink, plan: &Plan) -> i32 {
         Answer::Reached => cut(ink, plan, "POWER CUT", ["memory", "then holds"]),
         Answer::Legal => cut(ink, plan, "A POWER CUT HERE", ["leaves in", "memory"]),
         Answer::Illegal { rule, .. } => stop::draw(ink, plan, rule),
-        Answer::Unreachable | Answer::Undecided => plan.bottom(),
+        Answer::Unreachable { .. } | Answer::Undecided { .. } => plan.bottom(),
     }
 }
 

@@ -86,11 +86,8 @@ pub fn verdict(story: &Story) -> String {
     let deed = report::deed(&story.case, " ");
     match story.answer {
         Answer::Reached => format!("A power cut can {deed}."),
-        Answer::Unreachable => format!("No power cut can {deed}."),
-        Answer::Undecided => format!(
-            "Can a power cut {deed}? Not decided within {} runs.",
-            story.budget.unwrap_or(0)
-        ),
+        Answer::Unreachable { .. } => format!("No power cut can {deed}."),
+        Answer::Undecided { .. } => format!("Can a power cut {deed}? Not decided."),
         Answer::Legal => format!(
             "All steps are legal: {}.",
             story.states.len().saturating_sub(1)

@@ -271,7 +271,7 @@ fn kind_of(story: &Story, index: usize, own: usize, one: &Instruction) -> Option
 pub mod tests {
     use super::*;
     use crate::case::Case;
-    use crate::story::{state::State, Answer};
+    use crate::story::{search::Search, state::State, Answer};
 
     /// The outage, written by hand: the row of docs/MACHINE.md, "A run, step by step".
     pub fn outage() -> Story {
@@ -295,7 +295,7 @@ pub mod tests {
             file,
             case: case(),
             answer,
-            budget: Some(8),
+            search: Some(Search::Walk { runs: 8 }),
             full_length: 6,
             run: run(),
             states,

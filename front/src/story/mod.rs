@@ -3,17 +3,25 @@
 pub mod blocker;
 pub mod compares;
 pub mod lives;
+pub mod search;
 pub mod state;
 
 use crate::case::{Case, Step};
 use blocker::Place;
+use search::Search;
 use state::State;
 
 #[derive(Clone, Copy, Debug, PartialEq, Eq)]
 pub enum Answer {
     Reached,
-    Unreachable,
-    Undecided,
+    /// How many distinct states were gone through; none of the plain walk, which counts runs.
+    Unreachable {
+        states: Option<u32>,
+    },
+    /// Likewise.
+    Undecided {
+        states: Option<u32>,
+    },
     Legal,
     /// The index of the first illegal step, from 0, its rule, and where the entry stands that is in its way, if one is.
     Illegal {
@@ -27,8 +35,8 @@ impl Answer {
     pub fn word(self) -> &'static str {
         match self {
             Answer::Reached => "reached",
-            Answer::Unreachable => "unreachable",
-            Answer::Undecided => "undecided",
+            Answer::Unreachable { .. } => "unreachable",
+            Answer::Undecided { .. } => "undecided",
             Answer::Legal => "legal",
             Answer::Illegal { .. } => "illegal",
         }
@@ -38,8 +46,8 @@ impl Answer {
     pub fn number(self) -> u32 {
         match self {
             Answer::Reached => 100,
-            Answer::Unreachable => 101,
-            Answer::Undecided => 102,
+            Answer::Unreachable { .. } => 101,
+            Answer::Undecided { .. } => 102,
             Answer::Legal => 103,
             Answer::Illegal { rule, .. } => rule,
         }
@@ -67,8 +75,8 @@ pub struct Story {
     pub file: String,
     pub case: Case,
     pub answer: Answer,
-    /// The budget of the question; none where a run is judged.
-    pub budget: Option<u32>,
+    /// What was asked the question, and how far it might go; none where a run is judged.
+    pub search: Option<Search>,
     /// The program's full length.
     pub full_length: usize,
     /// The run that reaches, or the run that is judged; its illegal step and what is behind it too. Empty where nothing is reached.

@@ -10,6 +10,7 @@ use crate::case::Case;
 use crate::messages::Mistake;
 use crate::story::blocker::{find, Place};
 use crate::story::compares::{self, Compared};
+use crate::story::search::{limit, Search};
 use crate::story::{lives, Answer, Refusal, Story};
 use crate::text::layout;
 
@@ -42,13 +43,16 @@ pub fn told(story: &Story, command: &str, status: u8) -> String {
         object.put("rule", text(rules::rule(&story.case, rule)));
         put_blocker(&mut object, story);
     }
-    if let Some(budget) = story.budget {
-        object.put("budget", budget.to_string());
+    if let Some(search) = story.search {
+        put_search(&mut object, search, story.answer);
         put_asked(&mut object, &story.case);
     }
     put_lines(&mut object, &story.case);
     object.put("full_length", story.full_length.to_string());
-    if !matches!(story.answer, Answer::Unreachable | Answer::Undecided) {
+    if !matches!(
+        story.answer,
+        Answer::Unreachable { .. } | Answer::Undecided { .. }
+    ) {
         put_run(&mut object, story);
     }
     object.line()
@@ -82,6 +86,28 @@ fn put_blocker(object: &mut Object, story: &Story) {
         ),
     ]);
     object.put("blocker", map(&fields));
+}
+
+/// Which search answered, how far it might go, and how many distinct states it has gone through.
+fn put_search(object: &mut Object, search: Search, answer: Answer) {
+    object.put("engine", text(search.engine()));
+    match search {
+        Search::Walk { runs } => object.put("budget", runs.to_string()),
+        Search::Remember { states, bytes } => {
+            object.put("most_states", states.to_string());
+            object.put("most_memory", bytes.to_string());
+        }
+    }
+    if let Answer::Unreachable { states: Some(gone) } | Answer::Undecided { states: Some(gone) } =
+        answer
+    {
+        object.put("states", gone.to_string());
+    }
+    if let (Search::Remember { states, bytes }, Answer::Undecided { states: Some(gone) }) =
+        (search, answer)
+    {
+        object.put("stopped_by", text(limit(gone, states, bytes).word()));
+    }
 }
 
 fn put_asked(object: &mut Object, case: &Case) {

@@ -6,6 +6,8 @@ use super::rules;
 use super::run;
 use crate::case::{Case, Instruction};
 use crate::messages::Mistake;
+use crate::sizes;
+use crate::story::search::{limit, Limit, Search};
 use crate::story::{Answer, Refusal, Story};
 use crate::text::layout;
 
@@ -49,7 +51,7 @@ pub fn refused(file: &str, refused: &Refusal) -> String {
 }
 
 /// A number with commas.
-pub fn commas(number: u32) -> String {
+fn commas(number: u64) -> String {
     let digits = number.to_string();
     let mut out = String::new();
     for (i, digit) in digits.chars().enumerate() {
@@ -111,7 +113,7 @@ pub fn words(story: &Story) -> String {
     }
     lines.push(String::new());
     lines.push(source(story));
-    if story.budget.is_some() && !story.case.run.is_empty() {
+    if story.search.is_some() && !story.case.run.is_empty() {
         lines.push(
             "The run in the file was not looked at: './garluveni judge' judges it.".to_string(),
         );
@@ -150,16 +152,18 @@ fn shared(case: &Case) -> Vec<String> {
 
 fn headline(story: &Story) -> Vec<String> {
     let deed = deed(&story.case, " = ");
-    let runs = commas(story.budget.unwrap_or(0));
     match story.answer {
         Answer::Reached => vec![format!("REACHED: a power cut can {deed}.")],
-        Answer::Unreachable => vec![
+        Answer::Unreachable { .. } => vec![
             format!("UNREACHABLE: no power cut can {deed}."),
             gone_through(story),
         ],
-        Answer::Undecided => vec![
-            format!("UNDECIDED: none of the first {runs} runs shows that a power cut can {deed}."),
-            "There are more runs, so that is neither yes nor no. A larger --budget, up to 4,294,967,295, or a smaller program may tell.".to_string(),
+        Answer::Undecided { states } => vec![
+            format!(
+                "UNDECIDED: none of the first {} shows that a power cut can {deed}.",
+                gone(story.search, states)
+            ),
+            more(story.search, states),
         ],
         Answer::Legal if story.run.is_empty() => {
             vec!["LEGAL: the file has no run, and the empty run is legal.".to_string()]
@@ -167,7 +171,10 @@ fn headline(story: &Story) -> Vec<String> {
         Answer::Legal => vec![format!("LEGAL: the run, {}.", steps(story.run.len()))],
         Answer::Illegal { index, rule, .. } => {
             let mut lines = vec![
-                format!("ILLEGAL: step {} of the run (index {index}) breaks rule {rule}.", index + 1),
+                format!(
+                    "ILLEGAL: step {} of the run (index {index}) breaks rule {rule}.",
+                    index + 1
+                ),
                 rules::sentence(&story.case, rule),
             ];
             lines.extend(blocker::sentences(story));
@@ -176,13 +183,82 @@ fn headline(story: &Story) -> Vec<String> {
     }
 }
 
-/// How long the runs are that were all gone through: one step shorter for each compare that fails.
+/// What was gone through, and how long runs are: one step shorter for each compare that fails.
 fn gone_through(story: &Story) -> String {
     let full = steps(story.full_length);
+    let (every, runs) = match story.search {
+        Some(Search::Walk { .. }) => (
+            "Every run of this program",
+            ["the longest", "those that end"],
+        ),
+        _ => (
+            "Every state that this program can be in",
+            ["the longest runs", "runs that end"],
+        ),
+    };
+    let [longest, ended] = runs;
     let mut code = story.case.threads.iter().flatten();
     match code.any(|one| matches!(one, Instruction::Compare { .. })) {
-        true => format!("Every run of this program was gone through; those that end have {full}, one less for each cmpxchg that fails."),
-        false => format!("Every run of this program was gone through; the longest have {full}."),
+        true => format!(
+            "{every} was gone through; {ended} have {full}, one less for each cmpxchg that fails."
+        ),
+        false => format!("{every} was gone through; {longest} have {full}."),
+    }
+}
+
+/// What a search that did not decide has gone through.
+fn gone(search: Option<Search>, covered: Option<u32>) -> String {
+    match search {
+        Some(Search::Walk { runs }) => format!("{} runs", commas(runs.into())),
+        _ => states(covered.unwrap_or(0)),
+    }
+}
+
+/// That there is more than was gone through, and what would go on.
+fn more(search: Option<Search>, covered: Option<u32>) -> String {
+    let (more, may) = match search {
+        Some(Search::Remember { states, bytes }) => {
+            ("states", beyond(covered.unwrap_or(0), states, bytes))
+        }
+        _ => (
+            "runs",
+            "A larger --budget, up to 4,294,967,295, or a smaller program may tell.".to_string(),
+        ),
+    };
+    format!("There are more {more}, so that is neither yes nor no. {may}")
+}
+
+/// What kept the search that remembers from more states.
+fn beyond(covered: u32, states: u32, bytes: u64) -> String {
+    let lent = size(bytes);
+    match limit(covered, states, bytes) {
+        Limit::States => "A larger --states, up to 4,294,967,295, or a smaller program may tell.".to_string(),
+        Limit::Both => format!("The lent memory, {lent}, has room for just as many as --states says: more of both, or a smaller program may tell."),
+        Limit::Memory if bytes == sizes::MOST_MEMORY => {
+            format!("The lent memory, {lent}, has room for no more, and is the most that can be lent: a smaller program may tell.")
+        }
+        Limit::Memory => {
+            format!("The lent memory, {lent}, has room for no more: a larger --memory, up to 16G, or a smaller program may tell.")
+        }
+        Limit::Machine => {
+            "This machine lends no more than half of its memory: one that has more, or a smaller program may tell.".to_string()
+        }
+    }
+}
+
+/// Bytes in the largest unit that makes a whole number of them.
+fn size(bytes: u64) -> String {
+    let units = [(30, "GiB"), (20, "MiB"), (10, "KiB"), (0, "bytes")];
+    let whole = units.iter().find(|(power, _)| bytes % (1 << power) == 0);
+    whole.map_or(String::new(), |(power, unit)| {
+        format!("{} {unit}", commas(bytes >> power))
+    })
+}
+
+pub fn states(count: u32) -> String {
+    match count {
+        1 => "1 distinct state".to_string(),
+        _ => format!("{} distinct states", commas(count.into())),
     }
 }
 
@@ -301,11 +377,26 @@ fn torn(story: &Story, places: &[Place]) -> Option<String> {
 }
 
 fn source(story: &Story) -> String {
-    match story.budget {
-        Some(budget) => format!(
-            "Answered by the proved search, within a budget of {} runs; this front door only tells it.",
-            commas(budget)
-        ),
-        None => "Judged by the proved judge; this front door only tells it.".to_string(),
+    let search = match story.search {
+        None => return "Judged by the proved judge; this front door only tells it.".to_string(),
+        Some(Search::Walk { runs }) => {
+            format!(", within a budget of {} runs", commas(runs.into()))
+        }
+        Some(Search::Remember { .. }) => format!(" that remembers: {}", met(story.answer)),
+    };
+    format!("Answered by the proved search{search}; this front door only tells it.")
+}
+
+/// What the search that remembers has met.
+fn met(answer: Answer) -> String {
+    match answer {
+        Answer::Unreachable { states: all } => {
+            format!("{}, all of them gone through", states(all.unwrap_or(0)))
+        }
+        Answer::Undecided { states: first } => {
+            let first = states(first.unwrap_or(0));
+            format!("{first} gone through, and not all that there are")
+        }
+        _ => "the run leads to the first state that shows it".to_string(),
     }
 }
