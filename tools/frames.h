@@ -1,6 +1,7 @@
 /*
- * For C programs that answer frames (docs/FRAMES.md): a frame's numbers and bytes, taken from standard input, lent bytes
- * between guards, and what lines have in common. A program says by PROGRAM what it is called, before it includes this.
+ * For C programs that answer frames (docs/FRAMES.md): a frame's numbers and bytes, taken from standard input, lent
+ * bytes between guards, and what lines have in common. A program says by PROGRAM what it is called, before it
+ * includes this.
  */
 #include <stdint.h>
 #include <stdio.h>
@@ -42,6 +43,8 @@ static int take_head(uint8_t *head)
 {
     size_t got = fread(head, 1, HEAD, stdin);
     frames++;
+    if (ferror(stdin))
+        stop("not read");
     if (got != 0 && got != HEAD)
         stop("cut");
     return got != 0;

@@ -1,12 +1,12 @@
 /*
- * Lends memory to the walk that remembers: standard input has its frames as docs/FRAMES.md lays them out, standard output
- * gets a line for each. It decides nothing: it lends, calls the proved library, and tells what comes back. A call clears
- * all that it is lent, so that little is lent at first, and twice as much again while memory is what limits the walk; the
- * last try lends as much as the frame says.
+ * Lends memory to the walk that remembers: standard input has its frames as docs/FRAMES.md lays them out, standard
+ * output gets a line for each. It decides nothing: it lends, calls the proved library, and tells what comes back. A
+ * call clears all that it is lent, so that little is lent at first, and twice as much again while memory is what
+ * limits the walk; the last try lends as much as the frame says.
  *
- * With --junk the memory is full of junk before each call and has guard words around it, and the function that counts no
- * states is called too. The bytes for steps have guards in any case. A guard that has changed ends the program, and so do
- * two functions that differ and a frame that is cut, out of bounds or another.
+ * With --junk the memory is full of junk before each call and has guard words around it, and the function that
+ * counts no states is called too. The bytes for steps have guards in any case. A guard that has changed ends the
+ * program, and so do two functions that differ and a frame that is cut, out of bounds or another.
  */
 #define _DEFAULT_SOURCE /* C99 alone has no anonymous memory */
 #include <sys/mman.h>
@@ -163,7 +163,7 @@ static void answer(uint32_t room, uint32_t budget, uint32_t words)
     uint64_t states = budget < FIRST_STATES ? FIRST_STATES : budget;
     uint64_t useful = smaller(words, states * GARLUVENI_STATE_WORDS);
     struct tried tried = attempts(smaller(useful, most_memory), room, budget);
-    if (answer_of(&tried) == GARLUVENI_UNDECIDED && tried.words < useful)
+    if (answer_of(&tried) == GARLUVENI_UNDECIDED && tried.words == most_memory && most_memory < useful)
         fprintf(stderr, PROGRAM ": frame %lu: lent %llu words, half of this machine's memory, not %llu\n", frames,
                 (unsigned long long)tried.words, (unsigned long long)useful);
     print_answer(garluveni_counted_number(tried.counted));

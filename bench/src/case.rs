@@ -70,6 +70,14 @@ impl Operation {
         }
     }
 
+    /// The word that it writes, if it names one.
+    fn word(&mut self) -> Option<&mut u32> {
+        match self {
+            StoreWord(_, word) | Exchange(_, _, word) | Compare(_, _, word) => Some(word),
+            _ => None,
+        }
+    }
+
     /// How many steps the operation takes at most from issued to done (document 01, "Work left and the walk").
     fn weight(self) -> usize {
         match self {
@@ -90,6 +98,21 @@ impl Case {
     /// The full length: no run is longer.
     pub fn full_length(&self) -> usize {
         self.threads.iter().flatten().map(|operation| operation.weight()).sum()
+    }
+
+    /// The same case with its words numbered, 0 as 0: the machine only compares them, so its states and steps are the
+    /// same, and a word fits in a byte.
+    pub fn with_small_words(&self) -> Case {
+        let mut case = self.clone();
+        let mut known = vec![0];
+        let written = case.threads.iter_mut().flatten().filter_map(Operation::word);
+        for word in written.chain(case.wants.iter_mut().map(|(_, word)| word)) {
+            if !known.contains(word) {
+                known.push(*word);
+            }
+            *word = known.iter().position(|one| one == word).map_or(0, |number| number as u32);
+        }
+        case
     }
 
     pub fn bytes(&self) -> Vec<u8> {

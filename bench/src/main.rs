@@ -1,20 +1,26 @@
 //! Times the proved library's question and judge, in two builds, against plain Rust over the same machine, in one
 //! process. All sides must agree on the answers, the steps and the number of runs, else nothing is measured.
 //!
-//! Without arguments it prints the tables, of the eleven questions, of the twenty and of the judged runs; `states` counts
-//! the distinct states of the twenty. For a counter of instructions `names` lists the questions and the judged
+//! Without arguments it prints the tables, of the eleven questions, of the twenty and of the judged runs; `remember MOST`
+//! that of the walk that remembers, over the twenty of at most so many distinct states, and `largest SIDE BYTES SECONDS`
+//! how many states a side gets through. For a counter of instructions `names` lists the questions and the judged
 //! runs by number, and `question I` and `judge I` have each build answer the Ith once. A case that the earlier build
 //! refuses, as one from before operation 9 does a compare, is left out.
 
 mod agree;
 mod case;
+mod flat;
+mod kept;
+mod largest;
 mod library;
 mod machine;
 mod measure;
+mod memory;
 mod pairs;
+mod print;
+mod remember;
 mod replay;
 mod rows;
-mod states;
 mod table;
 mod twenty;
 mod walk;
@@ -42,7 +48,10 @@ pub extern "C" fn main() -> i32 {
     let done = match words[..] {
         [] => questions(table::cases()).and_then(|()| questions(twenty::cases())).and_then(|()| judged()),
         ["names"] => names(),
-        ["states"] => count_states(),
+        ["remember", most] => number(most).and_then(|most| remember::table(most as u32)),
+        ["largest", side, bytes, seconds] => {
+            number(bytes).and_then(|bytes| largest::tell(side, bytes, number(seconds)?))
+        }
         ["question", which] => ask_once(which),
         ["judge", which] => judge_once(which),
         _ => Err(String::from("no such words")),
@@ -58,24 +67,28 @@ pub extern "C" fn main() -> i32 {
 
 fn questions(asked: Vec<Case>) -> Result<(), String> {
     let mut cases: Vec<(Case, Answer)> = asked.into_iter().filter(in_both).map(answered).collect();
-    cases.sort_by_key(|(_, answer)| answer.runs);
+    cases.sort_by_key(|(_, answer)| answer.visited);
     for (case, answer) in &cases {
         agree::all_agree(case, answer).map_err(|difference| format!("{}: {}", case.name, difference))?;
     }
     println!("bench: all sides agree on {} questions; nanoseconds a run of the walk", cases.len());
-    print_head(&QUESTION);
+    print::head(&[&QUESTION[..], &SIDES].concat());
     let (mut worst, mut worst_long): (f64, f64) = (0.0, 0.0);
     for (case, answer) in &cases {
-        let times = measure::question_times(case, answer.runs);
-        let counts = [case.threads.len(), case.full_length(), answer.number as usize, answer.runs as usize];
+        let times = measure::question_times(case, answer.visited);
+        let counts =
+            [case.threads.len(), case.full_length(), answer.number as usize, answer.visited as usize];
         print_row(case.name, &counts, &times);
         let ratio = times.library / times.faster();
         worst = worst.max(ratio);
-        if answer.runs > LONG {
+        if answer.visited > LONG {
             worst_long = worst_long.max(ratio);
         }
     }
-    println!("bench: at most {:.2} times the faster plain search; of more than {} runs {:.2}", worst, LONG, worst_long);
+    println!(
+        "bench: at most {:.2} times the faster plain search; of more than {} runs {:.2}",
+        worst, LONG, worst_long
+    );
     Ok(())
 }
 
@@ -99,7 +112,7 @@ fn judged() -> Result<(), String> {
         agree::all_pass(case).map_err(|difference| format!("{}: {}", case.name, difference))?;
     }
     println!("bench: all sides agree on {} judged runs; nanoseconds a step", 2 * pairs.len());
-    print_head(&JUDGE);
+    print::head(&[&JUDGE[..], &SIDES].concat());
     for case in pairs.iter().map(|pair| &pair.run) {
         let times = measure::judge_times(case);
         print_row(case.name, &[case.threads.len(), case.steps.len()], &times);
@@ -112,18 +125,10 @@ fn judged() -> Result<(), String> {
 fn names() -> Result<(), String> {
     for (which, case) in table::cases().into_iter().enumerate().filter(|(_, case)| in_both(case)) {
         let (case, answer) = answered(case);
-        println!("question {} {} {}", which, answer.runs, case.name);
+        println!("question {} {} {}", which, answer.visited, case.name);
     }
     for (which, pair) in pairs::pairs().iter().enumerate().filter(|(_, pair)| in_both(&pair.run)) {
         println!("judge {} {} {}", 2 * which, pair.counted, pair.run.name);
-    }
-    Ok(())
-}
-
-/// Of the twenty: how many distinct states each has.
-fn count_states() -> Result<(), String> {
-    for case in twenty::cases() {
-        println!("{} {}", states::distinct(&case), case.name);
     }
     Ok(())
 }
@@ -140,15 +145,11 @@ fn judge_once(which: &str) -> Result<(), String> {
 }
 
 fn numbered<T>(things: Vec<T>, which: &str) -> Result<T, String> {
-    let which = which.parse().map_err(|_| format!("{} is no number", which))?;
-    things.into_iter().nth(which).ok_or(format!("there is no number {}", which))
+    things.into_iter().nth(number(which)?).ok_or(format!("there is no number {}", which))
 }
 
-fn print_head(counts: &[&str]) {
-    let columns = [counts, &SIDES].concat();
-    let heads: Vec<String> = columns.iter().map(|column| column.to_string()).collect();
-    let lines: Vec<String> = columns.iter().map(|_| String::from("---:")).collect();
-    println!("{}\n{}", row("case", &heads), row("---", &lines));
+fn number(word: &str) -> Result<usize, String> {
+    word.parse().map_err(|_| format!("{} is no number", word))
 }
 
 fn print_row(name: &str, counts: &[usize], times: &Times) {
@@ -157,11 +158,5 @@ fn print_row(name: &str, counts: &[usize], times: &Times) {
     let others = [times.before, times.vectors, times.arrays, times.faster()];
     let ratios = others.map(|time| format!("{:.2}", times.library / time));
     let cells: Vec<String> = counts.chain(sides).chain(ratios).collect();
-    println!("{}", row(name, &cells));
-}
-
-/// A row of a table, as docs/BENCHMARKS.md takes it.
-fn row(name: &str, cells: &[String]) -> String {
-    let aligned: Vec<String> = cells.iter().map(|cell| format!("{:>8}", cell)).collect();
-    format!("| {:<25} | {} |", name, aligned.join(" | "))
+    print::row(name, &cells);
 }

@@ -7,9 +7,9 @@ use crate::rows::{Arrays, Vectors};
 use crate::walk;
 
 /// Each side is timed so often, the sides in turn; the median counts.
-const ROUNDS: usize = 5;
+pub const ROUNDS: usize = 5;
 
-/// A sample repeats a small case until it has about so many runs of the walk, or so many steps of a judged run.
+/// A sample repeats a small case until it has about so many runs of the walk, states, or steps of a judged run.
 const A_SAMPLE: u32 = 20_000;
 
 /// C's timespec on 64-bit Linux, and the clock of the process's own processor time.
@@ -27,7 +27,7 @@ extern "C" {
 }
 
 /// Nanoseconds that this process has run: what else the machine does meanwhile is not in them.
-fn processor_time() -> i64 {
+pub fn processor_time() -> i64 {
     let mut time = Timespec::default();
     // C's function, with a struct of C's form to write to.
     let failed = unsafe { clock_gettime(PROCESS_CLOCK, &mut time) };
@@ -55,13 +55,13 @@ pub fn question_times(case: &Case, runs: u32) -> Times {
     let file = case.bytes();
     let mut lent = vec![0; library::room(case.full_length())];
     let mut lent_before = lent.clone();
-    in_turn(
+    of_four(
         runs,
         [
             &mut || NOW.question(&file, &mut lent, case.budget),
             &mut || BEFORE.question(&file, &mut lent_before, case.budget),
-            &mut || walk::question::<Vectors>(case).runs,
-            &mut || walk::question::<Arrays>(case).runs,
+            &mut || walk::question::<Vectors>(case).visited,
+            &mut || walk::question::<Arrays>(case).visited,
         ],
     )
 }
@@ -69,7 +69,7 @@ pub fn question_times(case: &Case, runs: u32) -> Times {
 /// Of a judged run, for a step.
 pub fn judge_times(case: &Case) -> Times {
     let file = case.bytes();
-    in_turn(
+    of_four(
         case.steps.len() as u32,
         [
             &mut || NOW.judge(&file),
@@ -80,16 +80,24 @@ pub fn judge_times(case: &Case) -> Times {
     )
 }
 
-/// Each side's median, divided by what a call has of runs or of steps.
-fn in_turn(units: u32, mut sides: [&mut dyn FnMut() -> u32; 4]) -> Times {
-    let mut samples = [const { Vec::new() }; 4];
-    for _ in 0..ROUNDS {
+fn of_four(units: u32, sides: [&mut dyn FnMut() -> u32; 4]) -> Times {
+    let [library, before, vectors, arrays] = in_turn(ROUNDS, units, sides);
+    Times { library, before, vectors, arrays }
+}
+
+/// Each side's median, divided by what a call has of runs, of states or of steps.
+pub fn in_turn<const SIDES: usize>(
+    rounds: usize,
+    units: u32,
+    mut sides: [&mut dyn FnMut() -> u32; SIDES],
+) -> [f64; SIDES] {
+    let mut samples = [const { Vec::new() }; SIDES];
+    for _ in 0..rounds {
         for (side, kept) in sides.iter_mut().zip(&mut samples) {
             kept.push(sample(units, side));
         }
     }
-    let [library, before, vectors, arrays] = samples.map(median);
-    Times { library, before, vectors, arrays }
+    samples.map(median)
 }
 
 /// The answers are summed and the sum is looked at, so that the compiler can leave none out.

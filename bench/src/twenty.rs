@@ -1,5 +1,5 @@
 //! Twenty cases by their number of distinct states, from a store to a few million: those that a search that remembers
-//! will be held to. None reaches its question, so that a whole search goes through every state.
+//! is held to. None reaches its question, so that a whole search goes through every state.
 
 use crate::case::{Case, Operation, Operation::*};
 
@@ -71,6 +71,11 @@ fn of_more_threads() -> Vec<Case> {
         case("four writers of one row", 2, &[&one_row, &one_row, &one_row, &one_row]),
         case("two commits, copies", 3, &[&one_commit, &one_commit, &copies]),
     ]
+}
+
+/// A case of more states than any side gets through.
+pub fn largest() -> Case {
+    case("four commits of one row", 3, &[&commit(X, Y, Z)[..]; 4])
 }
 
 pub fn cases() -> Vec<Case> {

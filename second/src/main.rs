@@ -64,6 +64,20 @@ fn of_streams(words: &[&str]) -> io::Result<()> {
         ["machine-generate", seed, count] => {
             generate(machine::generate::frames, Trial::write_to, seed, count)
         }
+        ["whole-counts"] => count(Trial::read_from, WholeCounts::new()),
+        ["whole-generate", seed, count] => {
+            let write = |program: &Vec<Trial>, out: &mut Out| {
+                program.iter().try_for_each(|one| one.write_to(out))
+            };
+            generate(whole::generate::programs, write, seed, count)
+        }
+        _ => of_questions(words),
+    }
+}
+
+/// Those of the question, whichever walk it is asked of.
+fn of_questions(words: &[&str]) -> io::Result<()> {
+    match words[..] {
         ["question-answer"] => {
             answer_all(Query::read_from, |one| question::answer::answer(one).line())
         }
@@ -84,13 +98,6 @@ fn of_streams(words: &[&str]) -> io::Result<()> {
                 case.iter().try_for_each(|loan| loan.write_to(out))
             };
             generate(remember::generate::cases, write, seed, count)
-        }
-        ["whole-counts"] => count(Trial::read_from, WholeCounts::new()),
-        ["whole-generate", seed, count] => {
-            let write = |program: &Vec<Trial>, out: &mut Out| {
-                program.iter().try_for_each(|one| one.write_to(out))
-            };
-            generate(whole::generate::programs, write, seed, count)
         }
         _ => of_folders(words),
     }

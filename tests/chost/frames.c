@@ -1,10 +1,10 @@
 /*
  * The C face on a stream of frames: standard input has frames of the machine or of the question as docs/FRAMES.md
- * lays them out, standard output gets a line for each that the C face can answer. Job 0 is judged: number and place,
- * and the blocker where there is one. A question is asked with the frame's room and budget: number, place and the lent
- * buffer in hex. Other jobs are passed over; tools/lend.c has the fifth. What was lent stands between guard bytes, at
- * another alignment each time; a byte that is not as it must be afterwards ends the program, and so does a frame that is
- * cut or out of bounds.
+ * lays them out, standard output gets a line for each that the C face can answer. Job 0 is judged: number and
+ * place, and the blocker where there is one. A question is asked with the frame's room and budget: number, place
+ * and the lent buffer in hex. Other jobs are passed over; tools/lend.c has the fifth. What was lent stands between
+ * guard bytes, at another alignment each time; a byte that is not as it must be afterwards ends the program, and so
+ * does a frame that is cut or out of bounds.
  */
 #define PROGRAM "frames"
 #include "frames.h"

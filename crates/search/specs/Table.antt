@@ -7,7 +7,8 @@
 --   keysIn m limit n      the lanes of the first n records, the newest first
 --   half, mixer           2 ^ 32; what mixes a lane in
 --   folded h              both halves of a number of 64 bits, added
---   mixed h x, mixFrom h xs   the number h with a lane more mixed in; with all of xs, in turn
+--   mixed h x             the number h with a lane more mixed in
+--   mixFrom a b c d xs    what the lanes xs mix to, each into the first of four numbers, which goes behind the others
 --   bucketOf limit key    the bucket of a key
 --   On m limit f x j      record j is met by following at most f links from x
 --   Chained m limit n     n records stand in m, each on the chain of its bucket
@@ -49,12 +50,13 @@ folded h = h % half + h / half
 unfoldable pub mixed : ℕ → ℕ → ℕ
 mixed h x = (folded h + x) * mixer
 
-unfoldable pub mixFrom : ℕ → List ℕ → ℕ
-mixFrom h [] = h
-mixFrom h (x ∷ xs) = mixFrom (mixed h x) xs
+-- four numbers take the lanes in turn, so that a machine can mix four at once
+unfoldable pub mixFrom : ℕ → ℕ → ℕ → ℕ → List ℕ → ℕ
+mixFrom a b c d [] = mixed (mixed (mixed a (folded b % half)) (folded c % half)) (folded d % half)
+mixFrom a b c d (x ∷ xs) = mixFrom b c d (mixed a x) xs
 
 unfoldable pub bucketOf : ℕ → List ℕ → ℕ
-bucketOf limit key = folded (mixFrom 0 key) % half % limit
+bucketOf limit key = folded (mixFrom 0 1 2 3 key) % half % limit
 
 unfoldable pub On : List ℕ → ℕ → ℕ → ℕ → ℕ → Type 0
 On m limit zero x j = ⊥

@@ -3,18 +3,25 @@
 use crate::sizes::LANES;
 use crate::sizes::RECORD;
 ghost use mathlib.Core.Path.{_≡_};
-ghost use Prim.Native.Nat.{_+_, _*_, _^_, _<_, _≤_, suc};
+ghost use Prim.Native.Nat.{_+_, _%_, _<_, _≤_, suc};
 ghost use mathlib.Core.List.{_++_, _∷_};
 ghost use lib.ListN.{length, take, drop, getD, replicate};
 ghost use lib.Seq.{sets};
 ghost use Rattle.machine.specs.View.{part};
 ghost use Rattle.search.specs.Sizes.{mostLanes, recordWords};
 ghost use Rattle.search.specs.Remember.{eqLanes, among};
-ghost use Rattle.search.specs.Table.{keyAt, keysIn, mixed, mixFrom, bucketOf, Chained};
+ghost use Rattle.search.specs.Table.{keyAt, keysIn, half, folded, mixed, bucketOf, Chained};
 
 const HALF: u64 = 4294967296;
 
 const MIXER: u64 = 1193077183;
+
+// Both halves of a number of 64 bits, added, and of that the lower half.
+fn fold(h: u64) -> u32
+    ensures { λ r. ⌜ r ≡ folded h % half ⌝ }
+{
+    ((h % HALF + h / HALF) % HALF) as u32
+}
 
 // A number of 64 bits with a lane more mixed in: both halves and the lane, times an odd number.
 fn mix(h: u64, lane: u32) -> u64
@@ -23,18 +30,25 @@ fn mix(h: u64, lane: u32) -> u64
     (h % HALF + h / HALF + (lane as u64)) * MIXER
 }
 
-// The bucket of a key, its first n lanes.
+// The bucket of a key, its first n lanes. Four numbers take them in turn, since each mixing waits for the one before.
 pub(crate) fn bucket(limit: u32, key: &[u32; LANES], n: usize) -> u32
     requires { ⌜ (n ≤ mostLanes) × (0 < limit) × (length (now key) ≡ mostLanes) ⌝ }
     ensures { λ r. ⌜ (r ≡ bucketOf limit (take n (now (key .entry)))) × (r < limit) ⌝ }
 {
-    let mut h: u64 = 0;
+    let mut a: u64 = 0;
+    let mut b: u64 = 1;
+    let mut c: u64 = 2;
+    let mut d: u64 = 3;
     let mut i: usize = 0;
     while i < n {
-        h = mix(h, key[i]);
+        let more = mix(a, key[i]);
+        a = b;
+        b = c;
+        c = d;
+        d = more;
         i += 1;
     }
-    (((h % HALF + h / HALF) % HALF) as u32) % limit
+    fold(mix(mix(mix(a, fold(b)), fold(c)), fold(d))) % limit
 }
 
 // Do the n words from `at` on equal the first n of the key?

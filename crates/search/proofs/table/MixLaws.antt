@@ -15,33 +15,38 @@ unfolding mixed
 mixed-made h x = refl
 
 -- a loop has mixed in the first i of n lanes
-pub record MixedSoFar (key : List ℕ) (n h i : ℕ) : Type 0 where
+pub record MixedSoFar (key : List ℕ) (n a b c d i : ℕ) : Type 0 where
   pub known : n ≤ length key
-  pub low : h < half * half
-  pub rest : mixFrom h (drop i (take n key)) ≡ mixFrom 0 (take n key)
+  pub rest : mixFrom a b c d (drop i (take n key)) ≡ mixFrom 0 1 2 3 (take n key)
 
 -- nothing is mixed in yet
-pub mixed-start : (key : List ℕ) (n : ℕ) → n ≤ length key → MixedSoFar key n 0 0
-mixed-start key n k = record { known = k; low = omega arith; rest = refl }
+pub mixed-start : (key : List ℕ) (n : ℕ) → n ≤ length key → MixedSoFar key n 0 1 2 3 0
+mixed-start key n k = record { known = k; rest = refl }
 
 -- one lane more; all of them
-module _ {key : List ℕ} {n h i : ℕ} (o : MixedSoFar key n h i) where
-  pub mixed-next : i < n → (next : ℕ) → next < half * half → next ≡ mixed h (getD key i 0)
-      → MixedSoFar key n next (i + 1)
+module _ {key : List ℕ} {n a b c d i : ℕ} (o : MixedSoFar key n a b c d i) where
+  pub mixed-next : i < n → (more : ℕ) → more ≡ mixed a (getD key i 0) → MixedSoFar key n b c d more (i + 1)
   unfolding mixFrom
-  mixed-next l next low e =
+  mixed-next l more e =
       record {
         known = o .known;
-        low = low;
         rest =
-            ap (λ y. mixFrom y (drop (i + 1) (take n key))) e
+            ap (λ y. mixFrom b c d y (drop (i + 1) (take n key))) e
             ∙ sym (rw (take-next n i key 0 l (o .known)) refl)
             ∙ o .rest;
       }
 
-  pub mixed-end : n ≤ i → (limit : ℕ) → 0 < limit
-      → (folded h % half % limit ≡ bucketOf limit (take n key)) × (folded h % half % limit < limit)
+  -- x, y and z are what b, c and d fold to; f, g and h what a is with each of them mixed in
+  pub mixed-end : n ≤ i → (x y z f g h last : ℕ) → x ≡ folded b % half → f ≡ mixed a x
+      → y ≡ folded c % half → g ≡ mixed f y
+      → z ≡ folded d % half → h ≡ mixed g z
+      → last ≡ folded h % half
+      → (limit : ℕ) → 0 < limit
+      → (last % limit ≡ bucketOf limit (take n key)) × (last % limit < limit)
   unfolding mixFrom bucketOf
-  mixed-end l limit some =
-      let e : h ≡ mixFrom 0 (take n key) = rw (take-end n i key l) at (o .rest) in
-      (ap (λ y. folded y % half % limit) e, mod-lt (folded h % half) some)
+  mixed-end l x y z f g h last x-is f-is y-is g-is z-is h-is last-is limit some =
+      let e : mixed (mixed (mixed a (folded b % half)) (folded c % half)) (folded d % half)
+      ≡ mixFrom 0 1 2 3 (take n key) = rw (take-end n i key l) at (o .rest) in
+      let w : h ≡ mixFrom 0 1 2 3 (take n key) =
+      h-is ∙ (λ j. mixed ((g-is ∙ (λ k. mixed ((f-is ∙ ap (mixed a) x-is) k) (y-is k))) j) (z-is j)) ∙ e in
+      (ap (λ u. u % limit) (last-is ∙ ap (λ u. folded u % half) w), mod-lt last some)

@@ -25,7 +25,7 @@ pub fn sorts() -> impl Iterator<Item = &'static Sort<Told>> {
     OWN.iter().chain(&SHARED)
 }
 
-const OWN: [Sort<Told>; 13] = [
+static OWN: [Sort<Told>; 13] = [
     sort("31, budget 0", 50, |s| short(s) && budget(s) == 0),
     sort("31, budget 4,294,967,295", 50, |s| {
         short(s) && budget(s) == u32::MAX
@@ -60,7 +60,7 @@ const OWN: [Sort<Told>; 13] = [
 ];
 
 /// Whichever walk is asked: rooms, lengths, and what is decided.
-pub const SHARED: [Sort<Told>; 53] = [
+pub static SHARED: [Sort<Told>; 53] = [
     sort("100, room just enough", 200, |s| {
         reached(s) && room(s) == s.need
     }),

@@ -77,11 +77,7 @@ impl Counts<Loan> for LoanCounts {
     }
 
     fn wrong(&self) -> Vec<String> {
-        let open = self.ledger.open();
-        let mut wrong = self.faults.clone();
-        if open > 0 {
-            wrong.push(format!("{open} cases: one state less is not 102"));
-        }
-        wrong
+        let open = self.ledger.open().into_iter();
+        self.faults.iter().cloned().chain(open).collect()
     }
 }

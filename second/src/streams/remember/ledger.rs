@@ -118,11 +118,12 @@ impl Ledger {
         rows
     }
 
-    /// The cases that were decided, and not both by the budget and by the memory just so and not with one less.
-    pub fn open(&self) -> usize {
+    /// Whether some case was decided, and one state less not tried, or not 102, by the budget or by the memory.
+    pub fn open(&self) -> Option<String> {
         let exact = |one: &Told| one.by_budget.is_exact() && one.by_memory.is_exact();
         let open = |one: &&Told| one.all.is_decided() && !exact(one);
-        self.cases.values().filter(open).count()
+        let count = self.cases.values().filter(open).count();
+        (count > 0).then(|| format!("{count} cases: one state less is not 102"))
     }
 }
 

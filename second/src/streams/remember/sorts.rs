@@ -112,10 +112,10 @@ pub const SORTS: [Sort<fn(&Seen) -> bool>; 41] = [
     sort("refused, memory", 100, |s| {
         s.sight.refusal != 0 && words(s) > 0
     }),
-    sort("100 at state 300 or later", 50, |s| {
+    sort("100 at state 300 or later", 40, |s| {
         is(s, REACHED) && states(s) >= 300
     }),
-    sort("100 at state 1,000 or later", 15, |s| {
+    sort("100 at state 1,000 or later", 10, |s| {
         is(s, REACHED) && states(s) >= 1000
     }),
     sort("100 at state 1,500 or later", 10, |s| {
@@ -124,7 +124,7 @@ pub const SORTS: [Sort<fn(&Seen) -> bool>; 41] = [
     sort("101 of 300 states or more", 100, |s| {
         is(s, UNREACHABLE) && states(s) >= 300
     }),
-    sort("101 of 1,000 states or more", 50, |s| {
+    sort("101 of 1,000 states or more", 40, |s| {
         is(s, UNREACHABLE) && states(s) >= 1000
     }),
     sort("101 of 5,000 states or more", 10, |s| {
@@ -133,7 +133,7 @@ pub const SORTS: [Sort<fn(&Seen) -> bool>; 41] = [
     sort("102, 300 states covered or more", 100, |s| {
         is(s, UNDECIDED) && covers(s, 300)
     }),
-    sort("102, 5,000 states covered or more", 10, |s| {
+    sort("102, 5,000 states covered or more", 6, |s| {
         is(s, UNDECIDED) && covers(s, 5000)
     }),
 ];
