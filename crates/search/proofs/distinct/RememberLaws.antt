@@ -220,5 +220,8 @@ module _ (s : List ℕ) (r : Reading) (r-is : r ≡ readOf s) (n : ℕ) (n-is : 
       let told = ap (λ (x : Reading). rememberFor (x .case .program) (x .case .ask) (length out) (length memory) b) r-is in
       let shown = ap (λ (x : Reading). shownAfter (ptso (x .case .program))
       (recallFor (x .case .program) (x .case .ask) (length memory) b) out) r-is in
-      let cleared = ap (λ (x : Reading). clearedFor (x .case .program) (length out) memory) r-is in
-      (e .0 ∙ told ∙ sym (pick-true _ _ _ t), e .1 ∙ shown ∙ sym (pick-true _ _ _ t), e .2 ∙ cleared ∙ sym (pick-true _ _ _ t))
+      let cleared = ap (λ (x : Reading). clearedFor (x .case .program) (length out) memory) r-is in (
+        e .0 ∙ told ∙ sym (pick-true _ _ _ t),
+        e .1 ∙ shown ∙ sym (pick-true _ _ _ t),
+        e .2 ∙ cleared ∙ sym (pick-true _ _ _ t),
+      )

@@ -51,7 +51,9 @@ told-requires : tie.Need-told-requires
 told-requires c κs = search needs
 
 states-requires : tie.Need-states-requires
-states-requires c κs = walked-within _ _ _ _ (c .before .before .before .before .before .before .before .before .before .meet-all .ensures .0)
+states-requires c κs =
+    let m = c .before .before .before .before .before .before .before .before .before in
+    walked-within _ _ _ _ (m .meet-all .ensures .0)
 
 same-length : tie.Need-same-length
 same-length c = search needs

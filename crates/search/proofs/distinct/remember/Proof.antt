@@ -35,7 +35,7 @@ returns-2 : tie.Need-returns-2
 returns-2 c =
     let i = c .before .before .before .before .before .before .before .before in
     let n = i .before in
-    let a = c .before .before .before .before .before .before .before .before .before .before .before .before .before .before .args in
+    let a = n .before .before .before .before .before .args in
     remember-read _ _ (n .before .read .ensures) _ (n .number .ensures) (i .if1 .left) (a .budget) (a .run .now)
     (a .memory .now) _ _ _
     (c .before .before .before .before .ask-distinct .ensures)
