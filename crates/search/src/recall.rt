@@ -20,7 +20,6 @@ ghost use Rattle.search.specs.Seek.{walkedOf, storedOf};
 ghost use Rattle.search.specs.Listing.{ListingFits};
 ghost use Rattle.search.specs.Rows.{FewEntries};
 ghost use Rattle.search.specs.Held.{Held};
-ghost use Rattle.search.specs.Remember.{among};
 ghost use Rattle.search.specs.Table.{keysIn, Chained};
 ghost use Rattle.search.specs.Recall.{metBy, keyLanes, newFrom, soughtNew, MetAfter, Meets};
 
