@@ -15,8 +15,7 @@ outcome-place-requires c κs = search needs
 
 packed-requires : tie.Need-packed-requires
 packed-requires c κs =
-    let m = c .before .before .before .before .before .before .remember .ensures in
-    remember-fits _ _ _ _ _ (m .0) _ (c .outcome-place .ensures)
+    remember-fits _ _ _ _ _ (c .before .before .before .before .before .before .remember .ensures .0) _ (c .outcome-place .ensures)
 
 cast-result : tie.Need-cast-result
 cast-result c = search needs
