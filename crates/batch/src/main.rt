@@ -2,6 +2,8 @@
 // that comes of them is written; how its run is judged, a single step ruled, or where it starts; or what its
 // question is answered. docs/FRAMES.md has the frames and the lines; the second judge answers the same
 // stream. Where standard input cannot be read the stream ends, and standard error says why.
+#![tactic(auto)]
+
 use crate::print::ROOM;
 use cases::{reader, writer};
 

@@ -88,11 +88,11 @@ false_not t h = rw h
 pub told : (r t b : Bool) → r ≡ t → r ≡ b → t ≡ b
 told r t b e h = sym e ∙ h
 
-pub told_false : (r t : Bool) → r ≡ t → not r ≡ true → t ≡ false
-told_false r t e h = sym e ∙ not-true r h
+pub told_false : (r t : Bool) → r ≡ t → r ≡ false → t ≡ false
+told_false r t e h = sym e ∙ h
 
-pub told_true : (r t : Bool) → r ≡ t → not r ≡ false → t ≡ true
-told_true r t e h = sym e ∙ not-false r h
+pub told_true : (r t : Bool) → r ≡ t → r ≡ true → t ≡ true
+told_true r t e h = sym e ∙ h
 
 -- the set: the above, and how the code's comparisons decide the definitions' tests
 pub ruleset choices = (

@@ -13,7 +13,7 @@ use crate::sizes::{CODE, INSTRUCTIONS, LOCATIONS, STEPS, THREADS};
 
 // The case so far, the kind of the record before (0: none), and the least number that may come next in that
 // kind.
-#[derive(Drop)]
+#[derive(Clone, Copy)]
 pub struct Draft {
     pub case: Case,
     pub kind: u8,

@@ -1,5 +1,7 @@
 // Cases: any bytes read or refused, any case written, and back again.
 // Document 01, "Records of a case" and "Refusal numbers"; specs/ has the definitions that the contracts cite.
+#![tactic(auto)]
+
 mod bytes;
 pub mod case;
 pub mod checks;

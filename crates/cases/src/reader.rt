@@ -8,13 +8,13 @@ use crate::draft::{add, blank_draft, empty_case};
 use crate::record::{Opened, open_record, opened_number, size};
 
 // Whole: 0, and the input's length. Refused: the number, and the offset of the faulty record.
-#[derive(Drop)]
+#[derive(Clone, Copy)]
 pub enum Answer {
     Whole(usize),
     Refused(u8, usize),
 }
 
-#[derive(Drop)]
+#[derive(Clone, Copy)]
 pub struct Reading {
     pub answer: Answer,
     pub case: Case,

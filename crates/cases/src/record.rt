@@ -31,7 +31,7 @@ use crate::case::{Instruction, Location, Register, Step, Thread, Write};
 use crate::sizes::{LOCATIONS, LONGEST_RECORD, SHORT_RECORD, STEP_SIZE};
 
 // A byte for each location that there may be. An enum can't hold an array.
-#[derive(Drop)]
+#[derive(Clone, Copy)]
 pub struct Row(
     pub u8,
     pub u8,
@@ -52,7 +52,7 @@ pub struct Row(
 );
 
 // `listed`: how many line bytes stand in the record; `line`: those bytes, 0 behind them.
-#[derive(Drop)]
+#[derive(Clone, Copy)]
 pub struct Header {
     pub version: u16,
     pub threads: u8,
@@ -62,7 +62,7 @@ pub struct Header {
 }
 
 // A record of each kind, 1 to 6.
-#[derive(Drop)]
+#[derive(Clone, Copy)]
 pub enum Record {
     Declare(Header),
     First(Write),
@@ -73,14 +73,14 @@ pub enum Record {
 }
 
 // How a record opens, or the number of what is wrong with its head or length.
-#[derive(Drop)]
+#[derive(Clone, Copy)]
 pub enum Opened {
     Opens(Record),
     Faulty(u8),
 }
 
 // A record's bytes, 0 behind them.
-#[derive(Drop)]
+#[derive(Clone, Copy)]
 pub struct Padded {
     pub length: usize,
     pub bytes: [u8; LONGEST_RECORD],

@@ -32,7 +32,7 @@ pub const FROM_STEPS: usize = FROM_PASSED + THREADS;
 
 pub const SEATS: usize = FROM_STEPS + STEPS;
 
-#[derive(Drop)]
+#[derive(Clone, Copy)]
 pub enum Seat {
     Holds(Record),
     Empty,

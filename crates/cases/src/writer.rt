@@ -10,7 +10,7 @@ use crate::seats::encode;
 use crate::sizes::LONGEST;
 
 // Stored: 0, and the file's length. Untouched: the refusal's number.
-#[derive(Drop)]
+#[derive(Clone, Copy)]
 pub enum Wrote {
     Stored(usize),
     Untouched(u8),

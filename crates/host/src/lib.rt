@@ -1,5 +1,7 @@
 // What a C program calls: the judge, its blocker, the question, and the question over distinct states, each answering
 // one packed number. Document 01, "The build host", and document 02, P4 and P7; include/garluveni.h is the C face.
+#![tactic(auto)]
+
 ghost use Rattle.std.specs.Prelude.{◌≡◌, ◌^◌, ◌<◌, length};
 ghost use Rattle.search.specs.Question.{shown_of};
 ghost use Rattle.search.specs.Remember.{recalled_of, cleared_of};

@@ -1,12 +1,14 @@
 // Reading for the programs, so that an input that cannot be read is told from one that has ended: io's own
 // reading stops at both alike. A read that a signal interrupts counts as failed; no program here catches one.
+#![tactic(auto)]
+
 ghost use Rattle.input.specs.Filled.{Within};
 
 use libc::STDERR_FILENO;
 
 // Bytes: so many of the lent bytes were read, fewer than all only where the input has ended. Failed: a read
 // failed; what was read before is not told.
-#[derive(Drop)]
+#[derive(Clone, Copy)]
 pub enum Filled {
     Bytes(usize),
     Failed,

@@ -2,6 +2,8 @@
 // `location word` for each location of the program; ILLEGAL, the index, the rule and, where one is named, the
 // place of the first entry in the way; or REFUSED, the number and the offset. Where standard input cannot be read
 // it says so on standard error, and nothing else.
+#![tactic(auto)]
+
 use cases::sizes::LOCATIONS;
 use input::Filled;
 use libc::{STDIN_FILENO, STDOUT_FILENO};

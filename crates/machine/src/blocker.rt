@@ -18,7 +18,7 @@ use cases::case::{Line, Program, Step, Thread};
 use cases::sizes::{CODE, INSTRUCTIONS, LOCATIONS, THREADS};
 
 // Where it stands: a thread's buffer or a line's queue, and the position there.
-#[derive(Drop)]
+#[derive(Clone, Copy)]
 pub enum Blocker {
     InBuffer(Thread, u8),
     InQueue(Line, u8),

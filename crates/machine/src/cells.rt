@@ -4,7 +4,7 @@ use cases::case::{Location, Write};
 use cases::sizes::{CODE, LOCATIONS, THREADS};
 
 // An entry that waits in a store buffer.
-#[derive(Drop)]
+#[derive(Clone, Copy)]
 pub enum Entry {
     Store(Write),
     Flush(Location),
@@ -12,7 +12,7 @@ pub enum Entry {
     Sfence,
 }
 
-#[derive(Drop)]
+#[derive(Clone, Copy)]
 pub struct Waiting {
     pub entry: Entry,
 }
@@ -21,7 +21,7 @@ pub struct Waiting {
 // mark of a write is its location, that of a marker MARKER and its thread. Buffer t holds the first waiting[t]
 // entries from t * INSTRUCTIONS on, and register r of thread t stands at t * REGISTERS + r. Number arrays,
 // because those can be lent: a look then copies nothing.
-#[derive(Drop)]
+#[derive(Clone, Copy)]
 pub struct State {
     pub words: [u32; LOCATIONS],
     pub held: [u32; SLOTS],

@@ -1,5 +1,7 @@
 // The machine: every step of PTSOsyn, a run judged, the work left.
 // Document 01, "The machine's steps"; specs/ has the definitions that the contracts cite.
+#![tactic(auto)]
+
 pub mod blocker;
 pub mod cells;
 mod change;

@@ -13,7 +13,7 @@ use cases::case::{Line, Location, Program, Thread};
 use cases::sizes::{CODE, INSTRUCTIONS, LOCATIONS, THREADS};
 
 // Where a marker stands: its queue and its position there.
-#[derive(Drop)]
+#[derive(Clone, Copy)]
 pub enum Found {
     At(Line, u8),
     Nothing,

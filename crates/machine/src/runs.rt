@@ -12,14 +12,14 @@ use cases::reader;
 
 // Legal with the number of steps; illegal with the rule, the index and the first entry in the way; refused with
 // the number and the offset.
-#[derive(Drop)]
+#[derive(Clone, Copy)]
 pub enum Verdict {
     Legal(usize),
     Illegal(u8, usize, Blocker),
     Refused(u8, usize),
 }
 
-#[derive(Drop)]
+#[derive(Clone, Copy)]
 pub struct Judged {
     pub verdict: Verdict,
     pub state: State,

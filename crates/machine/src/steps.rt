@@ -19,14 +19,14 @@ use cases::operations::{ISSUE, MOVE};
 use cases::sizes::{CODE, LOCATIONS, THREADS};
 
 // What is said of a step: legal, a rule broken and the first entry in the way, or the input refused.
-#[derive(Drop)]
+#[derive(Clone, Copy)]
 pub enum Ruling {
     Allowed,
     Broken(u8, Blocker),
     Declined(u8),
 }
 
-#[derive(Drop)]
+#[derive(Clone, Copy)]
 pub struct Stepped {
     pub ruling: Ruling,
     pub state: State,

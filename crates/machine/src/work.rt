@@ -17,7 +17,7 @@ use cases::operations::{
 use cases::sizes::{CODE, INSTRUCTIONS, LOCATIONS, THREADS};
 
 // The work left, or the number of the refusal.
-#[derive(Drop)]
+#[derive(Clone, Copy)]
 pub enum Weighed {
     Left(usize),
     Unweighed(u8),

@@ -1,6 +1,8 @@
 // Asks the question of a case from standard input, of any length: REACHED and the number of steps, then the run
 // that reaches, a step a line; UNREACHABLE; UNDECIDED; or REFUSED, the number and the offset. Where standard
 // input cannot be read it says so on standard error, and nothing else.
+#![tactic(auto)]
+
 use input::Filled;
 use libc::STDIN_FILENO;
 use telling::ROOM;

@@ -1,5 +1,7 @@
 // Reads a case from standard input, of any length, and says what it is: READ and its length, or REFUSED, the
 // number and the offset. Where standard input cannot be read it says so on standard error, and nothing else.
+#![tactic(auto)]
+
 use cases::reader::Answer;
 use input::Filled;
 use libc::{STDIN_FILENO, STDOUT_FILENO};

@@ -1,5 +1,7 @@
 // Asks the question of a case from standard input over its distinct states, with 2 MiB of memory that its own stack
 // holds: 2,730 states. What it prints, and where standard input cannot be read, is as of `question`.
+#![tactic(auto)]
+
 ghost use Rattle.std.specs.Prelude.{◌≡◌, length};
 
 use input::Filled;

@@ -15,7 +15,7 @@ use cases::sizes::STEP_SIZE;
 use machine::{steps, work};
 
 // Reached with the number of steps of the run that is shown; refused with the number and the offset.
-#[derive(Drop)]
+#[derive(Clone, Copy)]
 pub enum Outcome {
     Reached(usize),
     Unreachable,

@@ -23,7 +23,7 @@ use cases::sizes::STEP_SIZE;
 use machine::{steps, work};
 
 // The answer, and how many distinct states there are, where all were gone through and none reaches; else 0.
-#[derive(Drop)]
+#[derive(Clone, Copy)]
 pub struct Remembered {
     pub outcome: Outcome,
     pub states: u32,

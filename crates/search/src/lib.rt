@@ -1,5 +1,7 @@
 // The search: the walk through all legal runs, the question that it answers, and the walk that remembers.
 // Document 01, "Work left and the walk", and document 02, P7; specs/ has the definitions that the contracts cite.
+#![tactic(auto)]
+
 pub mod ask;
 pub mod distinct;
 mod listing;

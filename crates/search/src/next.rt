@@ -20,7 +20,7 @@ use cases::sizes::INSTRUCTIONS;
 use machine::sizes::{CANDIDATES, RANKS};
 
 // The first `count` ranks are those of the legal next steps; the others are 0.
-#[derive(Drop)]
+#[derive(Clone, Copy)]
 pub struct Ranks {
     pub count: u8,
     pub ranks: [u8; CANDIDATES],

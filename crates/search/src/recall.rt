@@ -15,7 +15,7 @@ use crate::{next, rows, shown, table, taken, wants};
 use cases::sizes::{LOCATIONS, STEP_SIZE, THREADS};
 
 // A state was met before; it is new, and kept; it is new, and there is no room for it.
-#[derive(Drop)]
+#[derive(Clone, Copy)]
 pub enum Met {
     Before,
     New,

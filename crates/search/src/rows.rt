@@ -12,7 +12,7 @@ use cases::sizes::{INSTRUCTIONS, LOCATIONS, REGISTERS};
 use machine::sizes::MARKER;
 
 // A row of entries: of a thread's buffer, or, behind all of these, of a line's queue.
-#[derive(Drop)]
+#[derive(Clone, Copy)]
 pub struct Row(pub usize);
 
 // The line that a location lies on; 0 for a location that no program has.

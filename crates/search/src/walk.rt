@@ -12,7 +12,7 @@ use crate::{next, shown, taken, wants};
 use cases::sizes::{LOCATIONS, STEP_SIZE, THREADS};
 
 // A run that reaches, with its length; or none does, and so much of the budget is left; or it is used up.
-#[derive(Drop)]
+#[derive(Clone, Copy)]
 pub enum Walked {
     Found(usize),
     Finished(u32),

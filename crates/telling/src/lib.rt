@@ -1,5 +1,7 @@
 // What the programs that ask print of an answer, a line each: REACHED and the number of steps, then the run that
 // reaches, a step a line; UNREACHABLE; UNDECIDED; or REFUSED, the number and the offset.
+#![tactic(auto)]
+
 use cases::operations::{ISSUE, MOVE, PERSIST};
 use cases::sizes::{STEP_SIZE, STEPS};
 use libc::STDOUT_FILENO;

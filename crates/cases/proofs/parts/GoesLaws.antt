@@ -7,12 +7,12 @@ use mathlib.Core.Path.{◌≡◌, refl, sym, ap, ◌∙◌}
 use mathlib.Core.Bool.{false}
 use mathlib.Core.Logic.{◌≢◌}
 use mathlib.Core.List.{List, [], ◌++◌, append_assoc, append-nil}
-use lib.ListN.{length, get_or, take, length_append, get_or-append}
+use lib.ListN.{length, get_or, take, length-append, get_or-append}
 use lib.Seq.{length-take-le, get_or-take, drop_at}
 use lib.Dec.{eqb}
 use borrow.Author.Tests.{le-ltb, ne_eqb}
 use native.Mathlib.Nat.{zero-add, add-zero}
-use native.Mathlib.Numerals.{one_add}
+use native.Mathlib.Numerals.{one-add}
 use native.Mathlib.Omega.{arith}
 use Rattle.cases.specs.declared.case.Step.{Step}
 use Rattle.cases.specs.declared.draft.Draft.{Draft}
@@ -110,7 +110,7 @@ front_begins t o = record { opened = λ x. (all x).0; is = λ x. (all x).1; size
         × (as_record (take (size_of t) t ++ x) ≡ as_record t)
         × (size_of (take (size_of t) t ++ x) ≡ size_of t)
     all x =
-        front_is t (take (size_of t) t ++ x) o (omega (arith, length_append (take (size_of t) t) x, long))
+        front_is t (take (size_of t) t ++ x) o (omega (arith, length-append (take (size_of t) t) x, long))
         (λ i h. get_or-append (take (size_of t) t) x 0 i (omega (arith, long)) ∙ get_or-take (size_of t) t i 0 h)
 
 pub step_begins : (k : Step) → Begins (record_bytes (Take k)) (Take k)
@@ -131,7 +131,7 @@ pub goes_none : (d : Draft) → Goes d [] d
 goes_none d = record { records = 0; reads = λ n at x. rw (zero-add n, add-zero at) }
 
 pub goes_one : (d : Draft) (p : List ℕ) (r : Record) → Begins p r → fault_of d r ≡ 0 → Goes d p (add_of d r)
-goes_one d p r b f = record { records = 1; reads = λ n at x. rw (one_add n) (turn n at x) }
+goes_one d p r b f = record { records = 1; reads = λ n at x. rw (one-add n) (turn n at x) }
   where
     turn : (n at : ℕ) (x : List ℕ)
         → read_from (suc n) d at (p ++ x) ≡ read_from n (add_of d r) (at + length p) x
@@ -152,7 +152,7 @@ goes_both d e f p q g h =
           rw (append_assoc p q x, more)
           (g.reads (h.records + n) at (q ++ x)
           ∙ h.reads n (at + length p) x
-          ∙ ap (λ (a : ℕ). read_from n f a x) (omega (arith, length_append p q)));
+          ∙ ap (λ (a : ℕ). read_from n f a x) (omega (arith, length-append p q)));
     }
 
 -- bytes that come to a draft with a record read as its case

@@ -5,7 +5,7 @@ use mathlib.Core.Path.{◌≡◌, refl, ap, ◌∙◌}
 use mathlib.Core.Logic.{◌≢◌}
 use mathlib.Core.List.{List, [], ◌∷◌, ◌++◌, append-nil}
 use mathlib.Core.Bool.{true}
-use lib.ListN.{length, get_or, take, length_append}
+use lib.ListN.{length, get_or, take, length-append}
 use lib.Seq.{append_snoc}
 use borrow.Author.Tests.{lt-leb, le-ltb, ne_eqb}
 use native.Mathlib.Omega.{arith}
@@ -57,7 +57,7 @@ steps_go (k ∷ ks) d js begun low run few clean =
     let f = step_passes d k begun low (omega arith) (clean 0 (omega arith)) in
     let more = ap (λ (r : Run). with_step r k) run ∙ steps_run_more js k (omega arith) in
     let next = steps_go ks (add_of d (Take k)) (js ++ (k ∷ [])) (λ z. omega arith) (omega arith) more
-    (omega (arith, length_append js (k ∷ []))) (λ i h. clean (suc i) (omega arith)) in
+    (omega (arith, length-append js (k ∷ []))) (λ i h. clean (suc i) (omega arith)) in
     let one = goes_one d (record_bytes (Take k)) (Take k) (step_begins k) f in (
       next.0,
       goes_both d _ _ (record_bytes (Take k)) (steps_bytes ks) one next.1,

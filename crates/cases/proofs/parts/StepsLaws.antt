@@ -2,7 +2,7 @@
 use Prim.Native.Nat.{suc, ◌+◌, ◌-◌, ◌*◌, ◌<◌, ◌≤◌}
 use mathlib.Core.Path.{◌≡◌, refl, sym, ap, ◌∙◌}
 use mathlib.Core.List.{List, [], ◌∷◌, ◌++◌, append_assoc, append-nil}
-use lib.ListN.{length, take, length_append, length-replicate}
+use lib.ListN.{length, take, length-append, length-replicate}
 use lib.Seq.{append_snoc, set-append_seam, take-append_seam}
 use lib.Dec.{leb}
 use borrow.Author.Tests.{le-leb}
@@ -27,18 +27,18 @@ use Rattle.cases.proofs.draft.WithLaws.{step_same, step_other}
 pub steps_length : (ks : List Step) → length (steps_bytes ks) ≡ step_size * length ks
 unfolding steps_bytes bytes_of record_bytes payload_bytes half_bytes
 steps_length [] = refl
-steps_length (k ∷ ks) = omega (arith, length_append (record_bytes (Take k)) (steps_bytes ks), steps_length ks)
+steps_length (k ∷ ks) = omega (arith, length-append (record_bytes (Take k)) (steps_bytes ks), steps_length ks)
 
 -- a run with its steps: as long as the array; with a step more
 run_long : (js : List Step) → length js ≤ most_steps → length (run_with js).steps ≡ most_steps
 unfolding run_with
-run_long js h = simp (length_append, length-replicate) (omega arith)
+run_long js h = simp (length-append, length-replicate) (omega arith)
 
 pub steps_run_more : (js : List Step) (k : Step) → length js < most_steps
     → with_step (run_with js) k ≡ run_with (js ++ (k ∷ []))
 unfolding run_with with_step
 steps_run_more js k h =
-    let n : length (js ++ (k ∷ [])) ≡ length js + 1 = length_append js (k ∷ []) in
+    let n : length (js ++ (k ∷ [])) ≡ length js + 1 = length-append js (k ∷ []) in
     let left : most_steps - length js ≡ suc (most_steps - (length js + 1)) = omega arith in
     rw (n, left, set-append_seam, append_snoc)
 
@@ -66,7 +66,7 @@ steps_file_more c [] js h = rw (append-nil js) (sym (append-nil (encode_of (with
 steps_file_more c (k ∷ ks) js h =
     let longer = step_longer c (run_with js) k (omega arith) (run_long js (omega arith)) in
     ap (λ (l : List Step). encode_of (with_run c (run_with l))) (sym (append_snoc js k ks))
-    ∙ steps_file_more c ks (js ++ (k ∷ [])) (omega (arith, length_append js (k ∷ [])))
+    ∙ steps_file_more c ks (js ++ (k ∷ [])) (omega (arith, length-append js (k ∷ [])))
     ∙ rw (← steps_run_more js k (omega arith), longer)
     (append_assoc (encode_of (with_run c (run_with js))) (record_bytes (Take k)) (steps_bytes ks))
 

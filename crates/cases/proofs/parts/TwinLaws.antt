@@ -5,7 +5,7 @@ use mathlib.Core.Path.{◌≡◌, refl, sym, ap, ◌∙◌}
 use mathlib.Core.Logic.{◌≢◌}
 use mathlib.Core.List.{List, [], ◌∷◌, ◌++◌}
 use mathlib.Core.Bool.{Bool, false}
-use lib.ListN.{length, take, length_append, length-drop, get_or-append}
+use lib.ListN.{length, take, length-append, length-drop, get_or-append}
 use lib.Seq.{length-take-le, get_or-take, get_or-drop}
 use lib.Dec.{eqb}
 use borrow.Author.Tests.{le-ltb, ne_eqb, eq-eqb}
@@ -170,7 +170,7 @@ module _ (t n : ℕ) (few : n ≤ most_locations) where
         rw (m, table_same (line_byte (front ++ x)) (λ l. l) n front_line) refl
 
   front_opens : (x : List ℕ) → open_no (front ++ x) ≡ 0
-  front_opens x = opens (front ++ x) known right (omega (arith, front_length x, length_append front x, front_long))
+  front_opens x = opens (front ++ x) known right (omega (arith, front_length x, length-append front x, front_long))
     where
       known : payload_of (half (front ++ x) 2) ≢ 0
       known z = unfold payload_of half pick in (omega arith)
@@ -305,7 +305,7 @@ module _ (s : List ℕ) (b : IsBytes s) (n : ℕ) (spare : length s + longest_re
 
         room : (t m : ℕ) (few : m ≤ most_locations) (k : ℕ) → length (front t m few ++ behind s) < k + n
         room t m few more =
-            let k = length_append (front t m few) (behind s) in
+            let k = length-append (front t m few) (behind s) in
             let l = front_long t m few in
             let d = length-drop (size_of s) s in
             omega arith

@@ -7,7 +7,7 @@ use Prim.Native.Nat.{ℕ, zero, suc, ◌+◌, ◌<◌, ◌≤◌}
 use mathlib.Core.Path.{◌≡◌, refl, sym, ap, ◌∙◌}
 use mathlib.Core.Logic.{◌≢◌}
 use mathlib.Core.List.{List, [], ◌++◌, append_assoc, append-nil}
-use lib.ListN.{length, take, length_append, length-drop, take-append-drop}
+use lib.ListN.{length, take, length-append, length-drop, take-append-drop}
 use lib.Dec.{eqb}
 use borrow.Author.Tests.{ne_eqb}
 use borrow.Author.Rules.{rules}
@@ -81,7 +81,7 @@ told_next : (done t : List ℕ) (r : Reading) (more : List ℕ) → open_no t �
     → RoundTripTold done t r
 told_next done t r more op long same told =
     let w = (open_whole t op).within in
-    let a = length_append done more in
+    let a = length-append done more in
     let b = length-drop (size_of t) t in
     record {
       within = omega (arith, told.within);
@@ -117,7 +117,7 @@ told_ended d front t s z =
 pub round_trip_longer : (done t : List ℕ) → open_no t ≡ 0
     → length (done ++ record_bytes (as_record t)) ≡ length done + size_of t
 round_trip_longer done t o =
-    length_append done (record_bytes (as_record t)) ∙ ap (λ (n : ℕ). length done + n) (open_size t o)
+    length-append done (record_bytes (as_record t)) ∙ ap (λ (n : ℕ). length done + n) (open_size t o)
 
 abbrev ToldFrom : ℕ → Draft → List ℕ → Type 0
 ToldFrom n d t = RoundTripTold (encode_of d.case) t (read_from n d (length (encode_of d.case)) t)

@@ -5,7 +5,7 @@
 use Prim.Native.Nat.{ℕ, zero, suc, ◌+◌, ◌-◌, ◌/◌, ◌%◌, ◌<◌, ◌≤◌}
 use mathlib.Core.Path.{◌≡◌, refl, sym, ap, ◌∙◌}
 use mathlib.Core.List.{List, [], ◌∷◌, ◌++◌}
-use lib.ListN.{length, get_or, set, take, drop, replicate, length_append, length-take, take-append-drop}
+use lib.ListN.{length, get_or, set, take, drop, replicate, length-append, length-take, take-append-drop}
 use lib.Seq.{take_all, take_at, drop-drop, sets, sets-eq, paste, paste-suc}
 use native.Mathlib.Nat.{zero-add, sub-zero, zero-sub, suc-sub-suc}
 use native.Mathlib.Numerals.{add-one}
@@ -32,7 +32,7 @@ module _ (p : Padded) (bs : List ℕ) (padded : p ≡ padded_of bs) where
 
   pub padded_fits : p.length ≤ length p.bytes
   unfolding padded_of
-  padded_fits = rw padded (simp length_append (omega arith))
+  padded_fits = rw padded (simp length-append (omega arith))
 
   pub padded_put : (d : List ℕ) (at : ℕ) → at + length bs ≤ length d
       → paste d at p.bytes p.length ≡ sets d at bs

@@ -4,7 +4,7 @@ use mathlib.Core.Path.{◌≡◌, refl}
 use mathlib.Core.Logic.{◌≢◌}
 use mathlib.Core.List.{List, [], ◌++◌, append-nil}
 use mathlib.Core.Bool.{Bool, true, false}
-use lib.ListN.{length, length_append}
+use lib.ListN.{length, length-append}
 use lib.Dec.{eqb}
 use borrow.Author.Tests.{eqb-true, eqb-false}
 use native.Mathlib.Numerals.{add-one}
@@ -56,10 +56,10 @@ each_below f k (suc n) h = go (eqb k n) refl (λ m. each_below f k n m)
   where
     go : (t : Bool) → eqb k n ≡ t → (k < n → length (each k f) + length (f k) ≤ length (each n f))
         → length (each k f) + length (f k) ≤ length (each n f ++ f n)
-    go true e below = rw (eqb-true k n e) (simp length_append (omega arith))
+    go true e below = rw (eqb-true k n e) (simp length-append (omega arith))
     go false e below =
         let other = eqb-false k n e in
-        simp length_append (omega (arith, below (omega arith)))
+        simp length-append (omega (arith, below (omega arith)))
 
 -- how long at most, where each part has a most
 unfoldable pub total : ℕ → (ℕ → ℕ) → ℕ
@@ -71,4 +71,4 @@ pub each_length : {A : Type 0} (n : ℕ) (f : ℕ → List A) (w : ℕ → ℕ)
     → length (each n f) ≤ total n w
 unfolding each total
 each_length zero f w h = omega arith
-each_length (suc n) f w h = omega (arith, length_append (each n f) (f n), each_length n f w h, h n)
+each_length (suc n) f w h = omega (arith, length-append (each n f) (f n), each_length n f w h, h n)

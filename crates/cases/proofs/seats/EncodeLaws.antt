@@ -3,7 +3,7 @@
 use Prim.Native.Nat.{ℕ, ◌+◌, ◌<◌, ◌≤◌}
 use mathlib.Core.Path.{◌≡◌, refl, sym, ap, ◌∙◌}
 use mathlib.Core.List.{List, [], ◌++◌}
-use lib.ListN.{length, drop, length_append}
+use lib.ListN.{length, drop, length-append}
 use lib.Seq.{sets, length-sets}
 use native.Mathlib.Nat.{add-zero, zero-add}
 use native.Mathlib.Omega.{arith}
@@ -45,7 +45,7 @@ module _ {c : Case} {d : List ℕ} {k at : ℕ} {out : List ℕ} (put : Encoded 
       → Encoded c d (k + 1) end after
   encoded_more bs here e f =
       record {
-        ends = rw (e, put.ends, each_next, here) (sym (length_append (each k (bytes_at c)) bs));
+        ends = rw (e, put.ends, each_next, here) (sym (length-append (each k (bytes_at c)) bs));
         holds =
             f ∙ rw (put.holds, each_next, here, put.ends)
             (sym (rw zero-add at (sets_append d 0 (each k (bytes_at c)) bs)));

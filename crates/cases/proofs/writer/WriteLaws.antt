@@ -5,7 +5,7 @@ use mathlib.Core.Path.{◌≡◌, refl, sym, ap, ◌∙◌}
 use mathlib.Core.Logic.{◌≢◌}
 use mathlib.Core.List.{List, ◌++◌}
 use mathlib.Core.Bool.{Bool, true, false}
-use lib.ListN.{length, take, drop, replicate, length_append, length-replicate}
+use lib.ListN.{length, take, drop, replicate, length-append, length-replicate}
 use lib.Seq.{take_at}
 use lib.Dec.{ltb}
 use borrow.Author.Tests.{lt-ltb, le-ltb, eq-eqb, ne_eqb}
@@ -41,7 +41,7 @@ module _ (c : Case) (blank : List ℕ) (is_blank : blank ≡ replicate longest 0
   module _ (n : ℕ) (file : List ℕ) (is_length : n ≡ length (encode_of c))
       (filled : file ≡ encode_of c ++ drop (length (encode_of c)) blank) where
     pub write_file_within : n ≤ length file
-    write_file_within = rw filled (simp length_append (omega arith))
+    write_file_within = rw filled (simp length-append (omega arith))
 
     pub write_file_front : take n file ≡ encode_of c
     write_file_front = rw filled (take_at (encode_of c) _ n (sym is_length))

@@ -4,7 +4,7 @@ use Prim.Native.Nat.{ℕ, ◌+◌, ◌≤◌, ◌<◌}
 use mathlib.Core.Path.{◌≡◌, refl, sym, ap, ◌∙◌}
 use mathlib.Core.List.{List, [], ◌++◌, append_assoc}
 use native.Mathlib.Omega.{arith}
-use lib.ListN.{length, take, drop, length_append, take-append-drop}
+use lib.ListN.{length, take, drop, length-append, take-append-drop}
 use lib.Seq.{drop_at}
 use Rattle.cases.specs.declared.case.Step.{Step}
 use Rattle.cases.specs.declared.case.Program.{Program}
@@ -33,7 +33,7 @@ module _ (p : Program) (g : ProgramFits p) (ks : List Step) (u : State) (run : L
       let e : entries_of (entered_from p (start_of p) ks q) ≡ r.0 ++ queue u q
       = rw (start_queue p q) at r.2 in
       let n : length (entries_of (entered_from p (start_of p) ks q)) ≡ length r.0 + length (queue u q)
-      = ap length e ∙ length_append r.0 (queue u q) in
+      = ap length e ∙ length-append r.0 (queue u q) in
       let m = entries_length (entered_from p (start_of p) ks q) in
       let k = r.1 in
       (omega arith, sym (entries_drop (persists ks q) _ ∙ ap (drop (persists ks q)) e ∙ drop_at r.0 _ _ r.1))

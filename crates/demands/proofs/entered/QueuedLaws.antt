@@ -7,7 +7,7 @@ use native.Mathlib.Omega.{arith}
 use native.Mathlib.Nat.{zero-add}
 use native.Mathlib.Decide.{ℕ_discrete}
 use borrow.Author.Tests.{eq-eqb, ne_eqb}
-use lib.ListN.{length, length_append}
+use lib.ListN.{length, length-append}
 use Rattle.cases.specs.declared.case.Step.{Step}
 use Rattle.cases.specs.declared.case.Program.{Program}
 use Rattle.cases.specs.Choice.{pick, both}
@@ -36,8 +36,8 @@ module _ (m : ℕ) (ks : List Step) (q : ℕ) where
   unfolding persists both
   count_other e = pick_false _ _ _ (ne_eqb m q e)
 
-one_add : (n : ℕ) → 1 + n ≡ suc n
-one_add n = omega arith
+one-add : (n : ℕ) → 1 + n ≡ suc n
+one-add n = omega arith
 
 -- a step persists n of queue q, none or one: what stood there and what it brings, without the first n
 record Queues (p : Program) (s : State) (k : Step) (q : ℕ) : Type 0 where
@@ -75,7 +75,7 @@ module _ (p : Program) (s : State) (f : Fits p s) (q : ℕ) (low : q < most_loca
           let x = persist_queue p s f m there legal in
           record {
             taken = x.0 ∷ [];
-            counts = λ ks. one_add (persists ks q) ∙ sym (count_here m ks q (sym e));
+            counts = λ ks. one-add (persists ks q) ∙ sym (count_here m ks q (sym e));
             queues = rw none (append-nil (queue s q) ∙ rw e x.1);
           }
       go (no e) =
@@ -109,7 +109,7 @@ run_queued p q low s (k ∷ ks) u f r h =
     let o = step_queues p s f q low k r.0 h.0 in
     let rest = run_queued p q low (next_of p s k) ks u (step_fits p s f k r.0 h.0) r.1 h.1 in (
       o.taken ++ rest.0,
-      length_append o.taken rest.0 ∙ rw rest.1 (o.counts ks),
+      length-append o.taken rest.0 ∙ rw rest.1 (o.counts ks),
       ap (λ x. queue s q ++ x) (entries_append (arrives p s k q) _)
           ∙ joined (queue s q) _ _ o.taken _ rest.0 _ o.queues rest.2,
     )

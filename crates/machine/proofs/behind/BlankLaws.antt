@@ -6,7 +6,7 @@ use mathlib.Core.Logic.{◌⊎◌}
 use mathlib.Core.List.{List, ◌++◌, append_assoc}
 use native.Mathlib.Omega.{arith}
 use native.Mathlib.Decide.{ℕ_discrete}
-use lib.ListN.{length, get_or, take, drop, replicate, length_append, length-replicate}
+use lib.ListN.{length, get_or, take, drop, replicate, length-append, length-replicate}
 use lib.Seq.{sets, sets-eq, get_or-append-add, get_or-drop, length-take-le}
 use Rattle.cases.specs.Sizes.{most_threads, most_instructions, most_locations}
 use Rattle.machine.specs.declared.cells.State.{State}
@@ -41,7 +41,7 @@ module _ {A : Type 0} (blank : A) where
   put_blank base n q xs m h k r old i a b =
       let gap : ℕ = n - length q in
       let pad : List A = replicate gap blank in
-      let long : length (q ++ pad) ≡ length q + gap = simp (length_append, length-replicate) refl in
+      let long : length (q ++ pad) ≡ length q + gap = simp (length-append, length-replicate) refl in
       let rest : List A = drop (base + length (q ++ pad)) xs in
       let split : sets xs base (q ++ pad) ≡ take base xs ++ (q ++ pad) ++ rest
       = sets-eq (q ++ pad) xs base (omega arith) in

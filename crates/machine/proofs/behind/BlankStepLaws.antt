@@ -5,7 +5,7 @@ use Prim.Native.Nat.{ℕ, suc, ◌+◌, ◌*◌, ◌≤◌, ◌<◌}
 use mathlib.Core.Path.{◌≡◌, refl, sym, ap}
 use mathlib.Core.List.{List, [], ◌∷◌, ◌++◌}
 use native.Mathlib.Omega.{arith}
-use lib.ListN.{length, length_append}
+use lib.ListN.{length, length-append}
 use Rattle.cases.specs.declared.case.Location.{Location}
 use Rattle.cases.specs.declared.case.Register.{Register}
 use Rattle.cases.specs.declared.case.Instruction.{Instruction}
@@ -65,7 +65,7 @@ module _ (p : Program) (s : State) (t : ℕ) (o : Spare p s t) (blank : BlankBeh
       let z = few_lines p o.fit.program in
       let n = fits_queue_long p s o.fit q (omega arith) in
       let w = o.queues q (omega arith) in
-      let k : length (queue s q ++ (h ∷ [])) ≤ room = simp (length_append, n) (omega arith) in
+      let k : length (queue s q ++ (h ∷ [])) ≤ room = simp (length-append, n) (omega arith) in
       blank_queue s o.fit.sized blank q (omega arith) (fits_queue_within p s o.fit q (omega arith))
       (queue s q ++ (h ∷ [])) k
 
@@ -76,7 +76,7 @@ module _ (p : Program) (s : State) (t : ℕ) (o : Spare p s t) (blank : BlankBeh
       let n = fits_buffer_long p s o.fit t (omega arith) in
       let w = o.space in
       let k : length (buffer s t ++ (record { entry = e } ∷ [])) ≤ most_instructions
-      = simp (length_append, n) (omega arith) in
+      = simp (length-append, n) (omega arith) in
       blank_buffer s o.fit.sized blank t (omega arith) (fits_buffer_within p s o.fit t (omega arith))
       (buffer s t ++ (record { entry = e } ∷ [])) k
 

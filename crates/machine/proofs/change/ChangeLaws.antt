@@ -5,7 +5,7 @@ use mathlib.Core.Path.{◌≡◌, refl, sym, ◌∙◌}
 use mathlib.Core.List.{List, [], ◌∷◌, ◌++◌}
 use native.Mathlib.Omega.{arith}
 use native.Mathlib.Nat.{add-zero}
-use lib.ListN.{length, get_or, set, drop, length_append, length-drop}
+use lib.ListN.{length, get_or, set, drop, length-append, length-drop}
 use Rattle.cases.specs.Sizes.{most_threads, most_instructions, most_locations, all_code}
 use Rattle.machine.specs.declared.cells.State.{State}
 use Rattle.machine.specs.declared.cells.Waiting.{Waiting}
@@ -82,7 +82,7 @@ module _ (held marks lengths : List ℕ) (q : ℕ) (h : q * room + get_or length
   length_push : length (queue_in held marks lengths q ++ (x ∷ [])) ≡ get_or lengths q 0 + 1
   length_push =
       rw (
-        length_append (queue_in held marks lengths q),
+        length-append (queue_in held marks lengths q),
         queue_slots_length held marks lengths q (omega arith) (omega arith),
       )
 
@@ -172,7 +172,7 @@ module _ (s : State) (t : ℕ) (h : length s.buffers ≡ all_code) (low : t < mo
       let k : length (part at (buffer_len s t) s.buffers) ≡ buffer_len s t = length_part _ _ _ (omega arith) in
       rw (
         put_push blank_waiting s.buffers at (buffer_len s t) (record { entry = e }) (omega arith),
-        length_append (part at (buffer_len s t) s.buffers),
+        length-append (part at (buffer_len s t) s.buffers),
         k,
       )
       refl

@@ -6,7 +6,7 @@ use mathlib.Core.Logic.{◌≢◌}
 use mathlib.Core.List.{List, [], ◌∷◌, ◌++◌}
 use native.Mathlib.Omega.{arith}
 use native.Mathlib.Decide.{ℕ_discrete}
-use lib.ListN.{length, length_append}
+use lib.ListN.{length, length-append}
 use Rattle.cases.specs.declared.case.Program.{Program}
 use Rattle.cases.specs.Sizes.{most_threads, most_instructions, most_locations}
 use Rattle.cases.specs.Checks.{count_at, lines_of}
@@ -157,7 +157,7 @@ module _ (p : Program) (s : State) (t : ℕ) (o : Spare p s t) where
       let z = thread_low o.fit.program low in
       let n = fits_buffer_long p s o.fit t (omega arith) in
       let k : length (buffer s t ++ (record { entry = e } ∷ [])) ≡ suc (buffer_len s t)
-      = simp (length_append, n) (omega arith) in
+      = simp (length-append, n) (omega arith) in
       let w = o.space in
       let d = due_buffer p s o.fit t low (buffer s t ++ (record { entry = e } ∷ [])) (omega arith) in
       fits_buffer p s o.fit t low (buffer s t ++ (record { entry = e } ∷ [])) (omega arith)
@@ -170,7 +170,7 @@ module _ (p : Program) (s : State) (t : ℕ) (o : Spare p s t) where
   enqueue_fits q low h borne =
       let z = few_lines p o.fit.program in
       let n = fits_queue_long p s o.fit q (omega arith) in
-      let k : length (queue s q ++ (h ∷ [])) ≡ suc (queue_len s q) = simp (length_append, n) (omega arith) in
+      let k : length (queue s q ++ (h ∷ [])) ≡ suc (queue_len s q) = simp (length-append, n) (omega arith) in
       let w = o.queues q (omega arith) in
       fits_queue p s o.fit q low (queue s q ++ (h ∷ [])) (omega arith)
       (rw (marks_append (queue s q) (h ∷ []), marks_fit p s o.fit q (omega arith))

@@ -4,7 +4,7 @@ use mathlib.Core.Path.{◌≡◌, refl, ◌∙◌}
 use mathlib.Core.Logic.{◌⊎◌, inl, inr}
 use mathlib.Core.List.{List, [], ◌∷◌, ◌++◌, append-nil, append_assoc}
 use native.Mathlib.Omega.{arith}
-use lib.ListN.{length, get_or, set, take, drop, replicate, length_append, length-take, length-drop}
+use lib.ListN.{length, get_or, set, take, drop, replicate, length-append, length-take, length-drop}
 use lib.ListN.{length-replicate, take-append-drop}
 use lib.Seq.{sets, sets-eq, take_at, drop_at, drop-drop, take-set-le, drop-set-lt, get_or-set_other}
 use lib.Seq.{length-take-le}
@@ -48,7 +48,7 @@ module _ {ℓ} {A : Type ℓ} where
       → put blank base n (part base n xs ++ (x ∷ [])) xs ≡ set xs (base + n) x
   put_push blank xs base n x h =
       let k : length (part base n xs) ≡ n = length_part base n xs (omega arith) in
-      sets_put blank xs base n (part base n xs ++ (x ∷ [])) (simp (length_append, k) (omega arith))
+      sets_put blank xs base n (part base n xs ++ (x ∷ [])) (simp (length-append, k) (omega arith))
       ∙ sets_append xs base (part base n xs) (x ∷ [])
       ∙ rw (sets_same xs base n (omega arith), k)
 
@@ -67,7 +67,7 @@ module _ {ℓ} {A : Type ℓ} where
       rw (
         take_part p base n xs (omega arith),
         drop_part (p + 1) base n xs,
-        length_append (part base p xs),
+        length-append (part base p xs),
         lp,
         lm,
         one,
@@ -86,7 +86,7 @@ module _ {ℓ} {A : Type ℓ} where
   -- put: what is there afterwards; what stood before it and behind it
   put_length : (blank : A) (n : ℕ) (q : List A) (m : ℕ) → n ≤ m → length q ≤ m
       → length (q ++ replicate (n - length q) blank) ≤ m
-  put_length blank n q m h k = simp (length_append, length-replicate) (omega arith)
+  put_length blank n q m h k = simp (length-append, length-replicate) (omega arith)
 
   pub part_put_same : (blank : A) (base n : ℕ) (q xs : List A) (m : ℕ) → n ≤ m → length q ≤ m
       → base + m ≤ length xs
@@ -153,4 +153,4 @@ module _ {ℓ} {A : Type ℓ} where
   -- without: one shorter
   pub length_without : (i : ℕ) (q : List A) → i < length q → suc (length (without i q)) ≡ length q
   unfolding without
-  length_without i q h = simp (length_append, length-take, length-drop) (omega arith)
+  length_without i q h = simp (length-append, length-take, length-drop) (omega arith)

@@ -122,10 +122,9 @@ pub store_elsewhere : {l : ℕ} {e : Entry} (x : Write) → e ≡ Store x → x.
 unfolding stored_or
 store_elsewhere x e h w = rw e (pick_false _ _ _ (ne_eqb _ _ h))
 
-pub store_none : (l : ℕ) (e : Entry) → OneOf (1 ∷ 2 ∷ 3 ∷ []) (tag_of the_type e) → (w : ℕ)
-    → stored_or l e w ≡ w
+pub store_none : (l : ℕ) (e : Entry) → ((x : Write) → e ≢ Store x) → (w : ℕ) → stored_or l e w ≡ w
 unfolding stored_or
-store_none l (Store x) h w = absurd (⊎_elim (λ u. omega arith) (⊎_elim (λ u. omega arith) (λ u. omega arith)) h)
+store_none l (Store x) h w = absurd (h x refl)
 store_none l (Flush m) h w = refl
 store_none l (FlushOpt m) h w = refl
 store_none l Sfence h w = refl

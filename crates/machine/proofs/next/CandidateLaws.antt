@@ -5,7 +5,7 @@ use mathlib.Core.Logic.{◌⊎◌, inl, inr}
 use mathlib.Core.List.{List, [], ◌∷◌, ◌++◌}
 use native.Mathlib.Omega.{arith}
 use native.Mathlib.Nat.{eq-or-lt_of_le}
-use lib.ListN.{length, length_append}
+use lib.ListN.{length, length-append}
 use Rattle.cases.specs.declared.case.Step.{Step}
 use Rattle.cases.specs.declared.case.Program.{Program}
 use Rattle.cases.specs.Ranges.{ProgramFits}
@@ -121,7 +121,7 @@ pub length_moves : (t n : ℕ) → length (moves_from t n) ≡ n * most_instruct
 unfolding moves_from
 length_moves t zero = refl
 length_moves t (suc n) =
-    let a = length_append (moves_of t) (moves_from (suc t) n) in
+    let a = length-append (moves_of t) (moves_from (suc t) n) in
     let b = length_steps (move_step t) 0 most_instructions in
     let c = length_moves (suc t) n in
     omega arith
@@ -130,9 +130,9 @@ module _ (p : Program) (g : ProgramFits p) where
   pub few_candidates : length (candidates p) ≤ most_candidates
   unfolding candidates
   few_candidates =
-      let a = length_append (steps_from issue_step 0 p.threads ++ moves_from 0 p.threads)
+      let a = length-append (steps_from issue_step 0 p.threads ++ moves_from 0 p.threads)
       (steps_from persist_step 0 (lines_of p)) in
-      let b = length_append (steps_from issue_step 0 p.threads) (moves_from 0 p.threads) in
+      let b = length-append (steps_from issue_step 0 p.threads) (moves_from 0 p.threads) in
       let c = length_steps issue_step 0 p.threads in
       let d = length_moves 0 p.threads in
       let e = length_steps persist_step 0 (lines_of p) in

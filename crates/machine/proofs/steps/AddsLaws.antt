@@ -9,7 +9,7 @@ use native.Mathlib.Omega.{arith}
 use native.Mathlib.Decide.{ℕ_discrete}
 use borrow.Author.Tests.{eq-eqb, ne_eqb}
 use lib.Dec.{eqb}
-use lib.ListN.{length, length_append}
+use lib.ListN.{length, length-append}
 use Rattle.cases.specs.declared.case.Location.{Location}
 use Rattle.cases.specs.declared.case.Register.{Register}
 use Rattle.cases.specs.declared.case.Program.{Program}
@@ -73,7 +73,7 @@ module _ (p : Program) (s : State) (t : ℕ) (o : Spare p s t) where
       let h = fits_buffer_long p s o.fit t m in
       let w = o.space in
       let b : List Waiting = buffer s t ++ (record { entry = e } ∷ []) in
-      let k : length b ≤ most_instructions = simp (length_append, h) (omega arith) in
+      let k : length b ≤ most_instructions = simp (length-append, h) (omega arith) in
       record {
         own = buffer_same s o.fit.sized t m n b k;
         others = λ j a d. buffer_other s o.fit.sized t m n b k j d (fits_buffer_within p s o.fit j a);
@@ -107,7 +107,7 @@ module _ (p : Program) (s : State) (t : ℕ) (o : Spare p s t) where
       short =
           let n = fits_queue_long p s o.fit q in_range in
           let w = o.queues q in_range in
-          simp (length_append, n) (omega arith)
+          simp (length-append, n) (omega arith)
 
       queues : (k : ℕ) → k < most_locations → Dec (k ≡ q)
           → queue (with_queue s q r) k ≡ queue s k ++ pick (eqb q k) (h ∷ []) []

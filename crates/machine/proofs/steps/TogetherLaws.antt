@@ -9,7 +9,7 @@ use native.Mathlib.Omega.{arith}
 use native.Mathlib.Decide.{ℕ_discrete}
 use borrow.Author.Tests.{eq-eqb, ne_eqb}
 use lib.Dec.{eqb}
-use lib.ListN.{length, length_append}
+use lib.ListN.{length, length-append}
 use Rattle.cases.specs.declared.case.Instruction.{Instruction}
 use Rattle.cases.specs.declared.case.Step.{Step}
 use Rattle.cases.specs.declared.case.Program.{Program}
@@ -91,7 +91,7 @@ module _ (p : Program) (s u : State) (f : Fits p s) (g : Fits p u) where
   queues_grown : (r : ℕ → List Slot) → ((q : ℕ) → q < most_locations → queue u q ≡ queue s q ++ r q)
       → (q : ℕ) → q < most_locations → queue_len u q ≡ queue_len s q + length (r q)
   queues_grown r e q low =
-      sym (fits_queue_long p u g q low) ∙ ap length (e q low) ∙ length_append (queue s q) (r q)
+      sym (fits_queue_long p u g q low) ∙ ap length (e q low) ∙ length-append (queue s q) (r q)
       ∙ rw (fits_queue_long p s f q low)
 
   -- none has more; one has
@@ -149,7 +149,7 @@ module _ (p : Program) (s : State) (f : Fits p s) (t : ℕ) (low : t < p.threads
   own : buffer_len after t ≡ buffer_len s t + length (joins s.registers t next)
   own =
       sym (fits_buffer_long p after g t in_range) ∙ ap length (IssueEffectLaws.issue_buffer p s f t low legal)
-      ∙ length_append (buffer s t) _ ∙ rw (fits_buffer_long p s f t in_range)
+      ∙ length-append (buffer s t) _ ∙ rw (fits_buffer_long p s f t in_range)
 
   -- what joins a buffer and what goes to a queue are one at most: a barrier joins none
   joined : (b : Bool) → either (eqb next.operation load) (is_barrier next.operation) ≡ b

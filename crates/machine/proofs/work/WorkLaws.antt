@@ -5,7 +5,7 @@ use mathlib.Core.Logic.{◌≢◌}
 use mathlib.Core.List.{List, [], ◌∷◌, ◌++◌}
 use native.Mathlib.Omega.{arith}
 use native.Mathlib.Nat.{add-zero}
-use lib.ListN.{length, get_or, length_append}
+use lib.ListN.{length, get_or, length-append}
 use Rattle.cases.specs.declared.case.Program.{Program}
 use Rattle.cases.specs.Sizes.{most_threads, most_instructions, most_locations}
 use Rattle.cases.specs.Checks.{no_instruction, count_at, instruction_at}
@@ -51,7 +51,7 @@ module _ (p : Program) (s : State) (f : Fits p s) where
   unfolding enqueue
   work_enqueue q low less h =
       let n = fits_queue_long p s f q low in
-      let k : length (queue s q ++ (h ∷ [])) ≡ suc (queue_len s q) = simp (length_append, n) (omega arith) in
+      let k : length (queue s q ++ (h ∷ [])) ≡ suc (queue_len s q) = simp (length-append, n) (omega arith) in
       let w = work_queue q low (queue s q ++ (h ∷ [])) (omega arith) in
       omega arith
 
@@ -93,7 +93,7 @@ module _ (p : Program) (s : State) (f : Fits p s) where
   work_await t low less e =
       let n = fits_buffer_long p s f t low in
       let k : length (buffer s t ++ (record { entry = e } ∷ [])) ≡ suc (buffer_len s t)
-      = simp (length_append, n) (omega arith) in
+      = simp (length-append, n) (omega arith) in
       let w = work_buffer t low (buffer s t ++ (record { entry = e } ∷ [])) (omega arith) in
       let a = weigh_append entry_weight (buffer s t) (record { entry = e } ∷ []) in
       let z : weigh entry_weight (record { entry = e } ∷ []) ≡ waiting_weight e = unfold weigh in add-zero _ in

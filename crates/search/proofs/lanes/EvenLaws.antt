@@ -6,7 +6,7 @@ use mathlib.Core.List.{List, [], ◌∷◌, ◌++◌}
 use native.Mathlib.Omega.{arith}
 use borrow.Author.Tests.{eqb-true}
 use lib.Dec.{eqb}
-use lib.ListN.{length, take, drop, length_append, length-take, length-drop}
+use lib.ListN.{length, take, drop, length-append, length-take, length-drop}
 use Rattle.cases.specs.Choice.{pick}
 use Rattle.search.specs.Rows.{rows_in}
 use Rattle.search.proofs.lanes.SeenLaws.{Seen, Even, changed, with_row, with_joined, with_left}
@@ -27,13 +27,13 @@ module _ (c : List ℕ) (v : Seen) (even : Even c v) where
       → length (take (2 * i) (v.row r) ++ drop (2 * i + 2) (v.row r)) + 2 ≡ length (v.row r)
   length_left r i h k =
       let e = even.twice r h in
-      simp (length_append, length-take, length-drop) (omega arith)
+      simp (length-append, length-take, length-drop) (omega arith)
 
   -- an entry that joins keeps Even; one that leaves
   pub even_joined : (r tag word : ℕ) → Even c (with_joined v r tag word)
   even_joined r tag word =
       even_row r (v.long r + 1) (v.row r ++ (tag ∷ word ∷ []))
-      (λ h. let e = even.twice r h in simp length_append (omega arith))
+      (λ h. let e = even.twice r h in simp length-append (omega arith))
 
   pub even_left : (r i : ℕ) → i < v.long r → Even c (with_left v r i)
   even_left r i k =

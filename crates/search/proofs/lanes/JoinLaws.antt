@@ -10,7 +10,7 @@ use native.Mathlib.Nat.{add-zero, add-suc, zero-mul, suc-mul}
 use native.Mathlib.Omega.{arith}
 use native.Mathlib.Decide.{ℕ_discrete}
 use borrow.Author.Tests.{eq-eqb, ne_eqb}
-use lib.ListN.{length, get_or, set, length_append}
+use lib.ListN.{length, get_or, set, length-append}
 use lib.Seq.{append_snoc, get_or_at, set_at, get_or-set_same, get_or-set_other}
 use Rattle.cases.proofs.ChoiceLaws.{pick_true, pick_false}
 use Rattle.machine.specs.Fit.{sum_to}
@@ -84,7 +84,7 @@ length_wide w zero f h = sym (zero-mul w)
 length_wide w (suc n) f h =
     let e = length_wide w n f h in
     let d = h n in
-    simp length_append (omega (arith, suc-mul n w))
+    simp length-append (omega (arith, suc-mul n w))
 
 -- each: how many; taken apart where only that of i is another; that of i read; that of i changed
 pub length_each : (n : ℕ) (f : ℕ → ℕ) → length (each n f) ≡ n
@@ -121,4 +121,4 @@ length_join zero f long h = refl
 length_join (suc n) f long h =
     let e = length_join n f long (λ i l. h i (omega arith)) in
     let d = h n (omega arith) in
-    simp length_append (omega arith)
+    simp length-append (omega arith)

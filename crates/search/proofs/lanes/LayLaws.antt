@@ -8,7 +8,7 @@ use mathlib.Core.Path.{◌≡◌, refl, ◌∙◌}
 use mathlib.Core.List.{List, [], ◌++◌, append_assoc}
 use native.Mathlib.Nat.{zero-add}
 use native.Mathlib.Omega.{arith}
-use lib.ListN.{length, get_or, set, length_append}
+use lib.ListN.{length, get_or, set, length-append}
 use Rattle.cases.specs.Sizes.{most_registers}
 use Rattle.machine.specs.Fit.{sum_to}
 use Rattle.machine.proofs.lists.SumLaws.{sum_same}
@@ -103,10 +103,10 @@ module _ (c : List ℕ) (v : Seen) where
 
   -- how many lanes stand before the words; before the registers
   length_word : length (to_word c v) ≡ threads_in c + rows_in c
-  length_word = simp (length_append, length_each)
+  length_word = simp (length-append, length_each)
 
   length_register : length (to_register c v) ≡ threads_in c + rows_in c + locations_in c
-  length_register = simp (length_append, length_each)
+  length_register = simp (length-append, length_each)
 
   -- what a look finds: how many a thread has issued; how long a row is; a word; a register; all rows' lengths
   pub see_issued : (t : ℕ) → t < threads_in c → get_or (padded (lay c v)) t 0 ≡ v.issued t
@@ -184,7 +184,7 @@ module _ (c : List ℕ) (v : Seen) (even : Even c v) where
   unfolding front
   length_front r h =
       let e = length_join r v.row v.long (λ i l. even.twice i (omega arith)) in
-      simp (length_append, length_each) (omega arith)
+      simp (length-append, length_each) (omega arith)
 
   pub lay_length : length (lay c v) ≡ pool_at c + 2 * sum_to (rows_in c) v.long
   lay_length = rw (lay_front c v) (length_front (rows_in c) (omega arith))

@@ -11,7 +11,7 @@ use mathlib.Core.List.{List, [], ◌∷◌, ◌++◌, append_assoc}
 use native.Mathlib.Nat.{add_assoc}
 use native.Mathlib.Numerals.{add-one}
 use native.Mathlib.Omega.{arith}
-use lib.ListN.{length, get_or, take, drop, replicate, length_append, length-replicate, length-take, length-drop}
+use lib.ListN.{length, get_or, take, drop, replicate, length-append, length-replicate, length-take, length-drop}
 use Rattle.cases.specs.Sizes.{all_code}
 use Rattle.machine.specs.Fit.{sum_to}
 use Rattle.search.specs.Sizes.{most_lanes}
@@ -57,7 +57,7 @@ module _ (c : List ℕ) (v : Seen) where
       → length (lay c (rowed v r l)) + length (v.row r) ≡ length (lay c v) + length l
   length_rowed r l h =
       rw (lay_front c (rowed v r l), lay_front c v, front_rowed r (rows_in c) l h, front_split c v r (rows_in c) h)
-      (simp length_append (omega arith))
+      (simp length-append (omega arith))
 
   -- row r at the end of the lanes before the next; all lanes, taken apart there; with an entry put there
   front_next : (r : ℕ) → front c v (suc r) ≡ front c v r ++ v.row r
@@ -80,7 +80,7 @@ module _ (c : List ℕ) (v : Seen) where
   -- grown: how many lanes
   length_grown : (r tag word : ℕ) → r < rows_in c → length (lay c (grown v r tag word)) ≡ length (lay c v) + 2
   length_grown r tag word h =
-      let e = simp length_append at (length_rowed r (v.row r ++ (tag ∷ word ∷ [])) h) in
+      let e = simp length-append at (length_rowed r (v.row r ++ (tag ∷ word ∷ [])) h) in
       omega arith
 
 module _ (c : List ℕ) (v : Seen) (even : Even c v) where
@@ -105,11 +105,11 @@ module _ (c : List ℕ) (v : Seen) (even : Even c v) where
       = front_split c v r n h
       ∙ ap (λ (y : List ℕ). front c v r ++ y ++ behind v r n) (entry_split l (2 * i) (omega arith))
       ∙ simp append_assoc in
-      let long = simp (length_append, length-take, length-drop) at (ap length apart) in
+      let long = simp (length-append, length-take, length-drop) at (ap length apart) in
       ap (λ (y : List ℕ). carried (y ++ after) at (length (front c v n)) tag word) apart
       ∙ carried_at (front c v r ++ take (2 * i) l) (drop (2 * i + 2) l ++ behind v r n) after (get_or l (2 * i) 0)
-      (get_or l (2 * i + 1) 0) tag word at (length (front c v n)) (simp (length_append, length-take) (omega arith))
-      (simp (length_append, length-drop) (omega arith))
+      (get_or l (2 * i + 1) 0) tag word at (length (front c v n)) (simp (length-append, length-take) (omega arith))
+      (simp (length-append, length-drop) (omega arith))
       ∙ rw (front_rowed c v r n (take (2 * i) l ++ drop (2 * i + 2) l) h) (simp append_assoc)
 
 module _ (c : List ℕ) (fits : ListingFits c) (v : Seen) (even : Even c v)
@@ -121,7 +121,7 @@ module _ (c : List ℕ) (fits : ListingFits c) (v : Seen) (even : Even c v)
   pub padded_long : length (padded (lay c v)) ≡ most_lanes
   padded_long =
       ap length (padded_by (lay c v) (spare c v) lay_spare)
-      ∙ simp (length_append, length-replicate) lay_spare
+      ∙ simp (length-append, length-replicate) lay_spare
 
   -- row_joined: an entry moved in at the end of row r; and counted
   inserted_row : (r tag word : ℕ) → r < rows_in c → sum_to (rows_in c) v.long < all_code
@@ -142,7 +142,7 @@ module _ (c : List ℕ) (fits : ListingFits c) (v : Seen) (even : Even c v)
       )
       (inserted_at (front c v (suc r)) (behind v r (rows_in c)) (replicate k 0) 0 0 tag word
       (length (front c v (suc r))) (length (front c v (rows_in c))) refl
-      (rw (← lay_front c v, lay_apart c v r h) (sym (length_append (front c v (suc r)) (behind v r (rows_in c))))))
+      (rw (← lay_front c v, lay_apart c v r h) (sym (length-append (front c v (suc r)) (behind v r (rows_in c))))))
 
   pub row_joined_lem : (r tag word : ℕ) → r < rows_in c → sum_to (rows_in c) v.long < all_code
       → row_joined c (padded (lay c v)) r tag word ≡ padded (lay c (with_joined v r tag word))

@@ -6,7 +6,7 @@ use mathlib.Core.List.{List, [], ◌∷◌, ◌++◌, append_assoc}
 use native.Mathlib.Nat.{zero-add, suc-add}
 use native.Mathlib.Numerals.{add-one, add-two}
 use native.Mathlib.Omega.{arith}
-use lib.ListN.{length, get_or, set, take, drop, replicate, length_append, length-set, get_or-append}
+use lib.ListN.{length, get_or, set, take, drop, replicate, length-append, length-set, get_or-append}
 use lib.Seq.{get_or-append-add, set-append_left, sets-eq, take_at, drop_at, drop-cons, split_at}
 use Rattle.machine.specs.View.{part}
 use Rattle.search.specs.Sizes.{most_lanes}
@@ -34,7 +34,7 @@ set_behind (x ∷ xs) ys i a = rw (suc-add, set_behind xs ys i a)
 -- amid others: there is such a place; what stands there; what stands there changed
 module _ (before here after : List ℕ) (base i : ℕ) (e : length before ≡ base) (h : i < length here) where
   within_amid : base + i < length (before ++ here ++ after)
-  within_amid = simp length_append (omega arith)
+  within_amid = simp length-append (omega arith)
 
   pub get_amid : get_or (padded (before ++ here ++ after)) (base + i) 0 ≡ get_or here i 0
   get_amid =
@@ -71,8 +71,8 @@ inserted_at before here after y z tag word at end e d =
     let r : drop (at + length (tag ∷ word ∷ here)) x ≡ after =
     rw apart
     (drop_at (before ++ here ++ (y ∷ z ∷ [])) after (at + length (tag ∷ word ∷ here))
-    (simp length_append (omega arith))) in
-    rw h (sets-eq (tag ∷ word ∷ here) x at (simp length_append (omega arith)) ∙ rw (b, r))
+    (simp length-append (omega arith))) in
+    rw h (sets-eq (tag ∷ word ∷ here) x at (simp length-append (omega arith)) ∙ rw (b, r))
 
 -- carried: the entry (g, w) goes, as another, behind what stands between, which comes two nearer
 pub carried_at : (before between after : List ℕ) (g w tag word at to : ℕ)
@@ -85,14 +85,14 @@ carried_at before between after g w tag word at to e d =
     let apart : x ≡ before ++ (g ∷ w ∷ []) ++ (between ++ after) = simp append_assoc in
     let all : x ≡ before ++ (g ∷ w ∷ between ++ after) = append_assoc before (g ∷ w ∷ between) after in
     let h : part (at + 2) (to - (at + 2)) x ≡ between =
-    rw (apart, drop_at (before ++ (g ∷ w ∷ [])) (between ++ after) (at + 2) (simp length_append (omega arith)))
+    rw (apart, drop_at (before ++ (g ∷ w ∷ [])) (between ++ after) (at + 2) (simp length-append (omega arith)))
     (take_at between after (to - (at + 2)) (omega arith)) in
     let b : take at x ≡ before = rw all (take_at before (g ∷ w ∷ between ++ after) at e) in
     let r : drop (at + length (between ++ (tag ∷ word ∷ []))) x ≡ after =
     drop_at (before ++ g ∷ w ∷ between) after (at + length (between ++ (tag ∷ word ∷ [])))
-    (simp length_append (omega arith)) in
+    (simp length-append (omega arith)) in
     rw h
-    (sets-eq (between ++ (tag ∷ word ∷ [])) x at (simp length_append (omega arith))
+    (sets-eq (between ++ (tag ∷ word ∷ [])) x at (simp length-append (omega arith))
     ∙ rw (b, r) (simp append_assoc))
 
 -- an entry of a row, and what stands on either side

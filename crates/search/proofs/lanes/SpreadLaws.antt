@@ -3,7 +3,7 @@ use Prim.Native.Nat.{ℕ, zero, suc, ◌+◌, ◌*◌, ◌<◌}
 use mathlib.Core.Path.{◌≡◌, refl, sym, ap, ◌∙◌}
 use mathlib.Core.List.{List, [], ◌∷◌, ◌++◌, append_assoc}
 use native.Mathlib.Omega.{arith}
-use lib.ListN.{length, get_or, take, drop, length_append, get_or-append}
+use lib.ListN.{length, get_or, take, drop, length-append, get_or-append}
 use lib.Seq.{get_or-append-add, take-nil, drop-nil, take-append-add, drop-append-add}
 use Rattle.machine.specs.declared.cells.Waiting.{Waiting}
 use Rattle.machine.specs.declared.cells.Entry.{Entry}
@@ -41,7 +41,7 @@ module _ {A : Type 0} (f : A → List ℕ) (two : (a : A) → length (f a) ≡ 2
   unfolding spread
   length_spread [] = refl
   length_spread (x ∷ xs) =
-      let a = length_append (f x) (spread f xs) in
+      let a = length-append (f x) (spread f xs) in
       let b = length_spread xs in
       let c = two x in
       omega arith

@@ -4,7 +4,7 @@ use mathlib.Core.Path.{◌≡◌, refl, ◌∙◌}
 use mathlib.Core.List.{List, ◌++◌, append-nil}
 use native.Mathlib.Omega.{arith}
 use native.Mathlib.Numerals.{add-one}
-use lib.ListN.{length, get_or, set, take, replicate, length_append, length-replicate, drop_of_length-le}
+use lib.ListN.{length, get_or, set, take, replicate, length-append, length-replicate, drop_of_length-le}
 use lib.Seq.{sets, take-suc, take_all, length-take-le}
 use Rattle.cases.specs.declared.case.Instruction.{Instruction}
 use Rattle.cases.specs.declared.case.Program.{Program}
@@ -103,7 +103,7 @@ module _ (p : Program) (fits : ProgramFits p) where
       let a = fits.sized.counts_long in
       let b = fits.sized.line_long in
       let w = length_codes p.code all_code in
-      simp length_append (omega arith)
+      simp length-append (omega arith)
 
   -- put into as many numbers as it has, it is all that there is
   listing_all : (blank : List ℕ) → length blank ≡ all_listing → sets blank 0 (listing_of p) ≡ listing_of p

@@ -4,7 +4,7 @@ use mathlib.Core.Path.{◌≡◌, refl, sym, ap, subst, ◌∙◌}
 use mathlib.Core.Logic.{inl, inr}
 use mathlib.Core.Bool.{Bool, true, false}
 use mathlib.Core.List.{List, [], ◌∷◌, ◌++◌, append_assoc}
-use lib.ListN.{length, take, drop, length_append, length-take, take-append-drop}
+use lib.ListN.{length, take, drop, length-append, length-take, take-append-drop}
 use lib.Seq.{take_at, take_all, take-append-add}
 use lib.Dec.{leb}
 use borrow.Author.Tests.{leb-true, leb-false, le-leb, lt-leb}
@@ -88,7 +88,7 @@ module _ {S K : Type 0} (test : S → Bool) where
   take_found b vs run (before, v, f, e) =
       let whole = sym (take-append-drop b vs) ∙ ap (λ xs. xs ++ drop b vs) f.stands
       ∙ append_assoc before (v ∷ f.after) (drop b vs) in
-      let n = ap length f.stands ∙ length_append before (v ∷ f.after) in (
+      let n = ap length f.stands ∙ length-append before (v ∷ f.after) in (
         before,
         v,
         record { after = f.after ++ drop b vs; stands = whole; passes = f.passes; none = f.none },
@@ -176,6 +176,6 @@ module _ {S K : Type 0} (test : S → Bool) where
   pub budget_one_less : (vs before : List (Visit S K)) (v : Visit S K) → FirstThat test vs before v
       → decided test (length before) vs ≡ undecided
   budget_one_less vs before v f =
-      let n = ap length f.stands ∙ length_append before (v ∷ f.after) in
+      let n = ap length f.stands ∙ length-append before (v ∷ f.after) in
       let e = ap (take (length before)) f.stands ∙ take_at before (v ∷ f.after) (length before) refl in
       budget_is_undecided (length before) vs (omega arith) (subst (None test) (sym e) f.none)

@@ -5,7 +5,7 @@ use mathlib.Core.Path.{◌≡◌, refl, sym, ap, ◌∙◌}
 use mathlib.Core.List.{List, ◌++◌, append-nil}
 use native.Mathlib.Omega.{arith}
 use native.Mathlib.Numerals.{add-one}
-use lib.ListN.{length, get_or, set, drop, replicate, length-set, length_append, length-drop, length-replicate}
+use lib.ListN.{length, get_or, set, drop, replicate, length-set, length-append, length-drop, length-replicate}
 use lib.ListN.{get_or-replicate, replicate-append-replicate, get_or-append}
 use lib.Seq.{set_at, drop-cons, drop-length, append_snoc}
 use Rattle.search.specs.Sizes.{state_words}
@@ -65,7 +65,7 @@ pub cleared_chained : (memory : List ℕ) (limit : ℕ) → limit * state_words 
 cleared_chained memory limit h =
     record {
       few = omega arith;
-      long = simp (length_append, length-replicate, length-drop) (omega arith);
+      long = simp (length-append, length-replicate, length-drop) (omega arith);
       links = λ j l. absurd (omega arith);
       sizes = λ j l. absurd (omega arith);
       heads = λ b l. zero_heads memory limit b l;

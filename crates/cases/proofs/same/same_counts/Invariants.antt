@@ -1,0 +1,12 @@
+-- `same_counts` meets its contract. The loop's invariant: what is still to compare says what the whole arrays
+-- say. Assumes nothing.
+use Rattle.std.proofs.Common.{◌-◌, eqb}
+use Rattle.cases.specs.Sizes.{most_threads}
+use Rattle.cases.proofs.same.SameLaws.{SameSoFar}
+use Rattle.cases.proofs.same.same_counts.Given as goal
+
+abbrev pub invariant-loop-i : goal.invariant-loop-i
+invariant-loop-i l = SameSoFar eqb l.a l.b most_threads l.i
+
+abbrev pub decreases-loop-i : goal.decreases-loop-i
+decreases-loop-i l = most_threads - l.i

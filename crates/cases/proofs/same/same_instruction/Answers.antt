@@ -1,0 +1,20 @@
+-- `same_instruction` meets its contract. Assumes nothing.
+use Rattle.cases.specs.Writing.{same_instruction}
+use Rattle.cases.proofs.ChoiceLaws.{choices}
+use Rattle.cases.proofs.same.same_instruction.Goals as goal
+
+pub returns-then-x-y : goal.returns-then-x-y
+unfolding same_instruction
+returns-then-x-y c = search choices
+
+pub returns-then-x-y-2 : goal.returns-then-x-y-2
+unfolding same_instruction
+returns-then-x-y-2 c = search choices
+
+pub returns-then-x-y-3 : goal.returns-then-x-y-3
+unfolding same_instruction
+returns-then-x-y-3 c = search choices
+
+pub returns : goal.returns
+unfolding same_instruction
+returns c = search choices

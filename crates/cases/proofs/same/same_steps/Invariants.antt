@@ -1,0 +1,13 @@
+-- `same_steps` meets its contract. The loop's invariant: what is still to compare says what the whole arrays
+-- say. Assumes nothing.
+use Rattle.std.proofs.Common.{◌-◌}
+use Rattle.cases.specs.Sizes.{most_steps}
+use Rattle.cases.specs.Writing.{same_step}
+use Rattle.cases.proofs.same.SameLaws.{SameSoFar}
+use Rattle.cases.proofs.same.same_steps.Given as goal
+
+abbrev pub invariant-loop-i : goal.invariant-loop-i
+invariant-loop-i l = SameSoFar same_step l.a l.b most_steps l.i
+
+abbrev pub decreases-loop-i : goal.decreases-loop-i
+decreases-loop-i l = most_steps - l.i

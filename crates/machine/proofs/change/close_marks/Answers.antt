@@ -1,0 +1,12 @@
+use Rattle.std.proofs.Common.{arith}
+use Rattle.machine.proofs.change.ChangeLaws.{closing_start, closing_next, closing_end}
+use Rattle.machine.proofs.change.close_marks.Goals as goal
+
+pub loop-i-init : goal.loop-i-init
+loop-i-init c = closing_start _ _ _ _ (omega arith) (omega arith) (omega arith)
+
+pub loop-i-preserved : goal.loop-i-preserved
+loop-i-preserved c = closing_next c.loop-i.invariant 0 (omega arith)
+
+pub returns : goal.returns
+returns c = closing_end c.loop-i.invariant 0 (omega arith)

@@ -1,0 +1,36 @@
+use Rattle.std.proofs.Common.{arith, rules}
+use Rattle.cases.proofs.ChoiceLaws.{told}
+use Rattle.machine.specs.Fit.{due, queue_misfits}
+use Rattle.machine.proofs.lists.AnyLaws.{any_start, any_next, any_here, any_end}
+use Rattle.machine.proofs.fit.MisfitLaws.{due_most}
+use Rattle.machine.proofs.fit.queues_misfit.Goals as goal
+
+pub overflow_add-coming : goal.overflow_add-coming
+unfolding due
+overflow_add-coming c =
+    let a = c.args in
+    let h = due_most a.p a.s (λ t. search rules) (λ t. search rules) in
+    let e = c.all_unissued.ensures in
+    let w = c.all_waiting.ensures in
+    omega arith
+
+pub loop-q-init : goal.loop-q-init
+unfolding due
+loop-q-init c =
+    let e = c.all_unissued.ensures in
+    let w = c.all_waiting.ensures in
+    (omega arith, any_start _ _)
+
+pub returns-then-queue_misfits : goal.returns-then-queue_misfits
+returns-then-queue_misfits c =
+    let l = c.loop-q in
+    any_here l.invariant.1 (omega arith) (told _ _ _ c.queue_misfits.ensures c.if-queue_misfits.true)
+
+pub loop-q-preserved : goal.loop-q-preserved
+loop-q-preserved c =
+    let l = c.loop-q in
+    let e = told _ _ _ c.queue_misfits.ensures c.if-queue_misfits.false in
+    (l.invariant.0, any_next l.invariant.1 (omega arith) e)
+
+pub returns : goal.returns
+returns c = any_end c.loop-q.invariant.1 (omega arith)

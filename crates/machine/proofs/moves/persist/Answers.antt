@@ -1,0 +1,31 @@
+-- `persist` meets its contract. Assumes nothing.
+use Rattle.std.proofs.Common.{◌≡◌, length, rules}
+use Rattle.cases.specs.Sizes.{most_locations}
+use Rattle.machine.specs.Sizes.{all_slots}
+use Rattle.machine.specs.View.{with_word}
+use Rattle.machine.proofs.change.ChangeLaws.{dequeue_is}
+use Rattle.machine.proofs.moves.MoveLaws.{persist_write, persist_marker}
+use Rattle.machine.proofs.moves.persist.Goals as goal
+
+pub returns-then-to-ge-LOCATIONS : goal.returns-then-to-ge-LOCATIONS
+returns-then-to-ge-LOCATIONS c =
+    let a = c.args in
+    let p = c.requires in
+    let held : length a.s.held ≡ all_slots = search rules in
+    let marks : length a.s.marks ≡ all_slots = search rules in
+    let words : length a.s.words ≡ most_locations = search rules in
+    persist_marker a.s a.q.0 p.0 p.1 p.2 held marks words _
+    (dequeue_is a.s a.q.0 held marks p.0 _ _ p.1 p.2 c.close_words.ensures
+    c.close_marks.ensures) c.if-to-ge-LOCATIONS.true
+
+pub returns : goal.returns
+unfolding with_word
+returns c =
+    let a = c.args in
+    let p = c.requires in
+    let held : length a.s.held ≡ all_slots = search rules in
+    let marks : length a.s.marks ≡ all_slots = search rules in
+    let words : length a.s.words ≡ most_locations = search rules in
+    persist_write a.s a.q.0 p.0 p.1 p.2 held marks words _
+    (dequeue_is a.s a.q.0 held marks p.0 _ _ p.1 p.2 c.close_words.ensures
+    c.close_marks.ensures) c.if-to-ge-LOCATIONS.false

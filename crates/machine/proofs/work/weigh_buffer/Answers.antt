@@ -1,0 +1,26 @@
+use Rattle.std.proofs.Common.{◌≡◌, arith, length}
+use Rattle.cases.specs.Sizes.{most_instructions, all_code}
+use Rattle.machine.specs.View.{buffer_in, blank_waiting}
+use Rattle.cases.proofs.ArrayLaws.{unmapped}
+use Rattle.machine.proofs.work.WeighLaws.{weigh_start, weigh_next, weigh_end}
+use Rattle.machine.proofs.work.weigh_buffer.Goals as goal
+
+pub loop-i-init : goal.loop-i-init
+loop-i-init c =
+    let k : length c.args.buffers ≡ all_code = search unmapped in
+    (c.requires.1, weigh_start _ _ _ _ _ (omega arith))
+
+pub overflow_add-weight : goal.overflow_add-weight
+overflow_add-weight c =
+    let w = c.loop-i.invariant.1.light in
+    let r = c.waiting_weight-weight.ensures.1 in
+    omega arith
+
+pub loop-i-preserved : goal.loop-i-preserved
+loop-i-preserved c =
+    let l = c.loop-i.invariant in
+    (l.0, weigh_next l.1 blank_waiting _ (omega arith) c.waiting_weight-weight.ensures)
+
+pub returns : goal.returns
+unfolding buffer_in
+returns c = let l = c.loop-i.invariant in weigh_end l.1 (omega arith) most_instructions l.0

@@ -1,0 +1,39 @@
+-- `is_issue_barred` meets its contract. Assumes nothing.
+use Rattle.std.proofs.Common.{arith}
+use Rattle.cases.proofs.ChoiceLaws.{choices}
+use Rattle.search.specs.Barred.{issue_barred}
+use Rattle.search.proofs.rows.RowLoopLaws.{code_low}
+use Rattle.search.proofs.next.is_issue_barred.Goals as goal
+
+pub returns-then-c-t : goal.returns-then-c-t
+unfolding issue_barred
+returns-then-c-t c = search choices
+
+pub overflow_cast-i-2 : goal.overflow_cast-i-2
+overflow_cast-i-2 c =
+    let g = c.requires in
+    let w = code_low _ g.0 _ _ g.2 c.if-c-t.false in
+    omega arith
+
+pub code_at-requires : goal.code_at-requires
+code_at-requires c =
+    let g = c.requires in
+    code_low _ g.0 _ _ g.2 c.if-c-t.false
+
+pub offset_bounds-c-code_at : goal.offset_bounds-c-code_at
+offset_bounds-c-code_at c =
+    let g = c.requires in
+    let w = code_low _ g.0 _ _ g.2 c.if-c-t.false in
+    let e = c.code_at.ensures in
+    omega arith
+
+pub bounds-c-code_at : goal.bounds-c-code_at
+bounds-c-code_at c =
+    let g = c.requires in
+    let w = code_low _ g.0 _ _ g.2 c.if-c-t.false in
+    let e = c.code_at.ensures in
+    omega arith
+
+pub returns : goal.returns
+unfolding issue_barred
+returns c = rw (← c.code_at.ensures) (search choices)

@@ -1,0 +1,18 @@
+-- `next_steps` meets its contract. Assumes nothing.
+use Rattle.search.proofs.next.RanksLoopLaws.{moves_fit, persists_fit, next_made}
+use Rattle.search.proofs.next.next_steps.Goals as goal
+
+pub offer_moves-moves-requires : goal.offer_moves-moves-requires
+offer_moves-moves-requires c =
+    let g = c.requires in
+    (g.0, g.1, moves_fit _ _ g.0 g.1 _ c.offer_issues-issues.ensures.1)
+
+pub offer_persists-count-requires : goal.offer_persists-count-requires
+offer_persists-count-requires c =
+    let g = c.requires in
+    (g.0, persists_fit _ _ g.0 g.1 _ c.offer_issues-issues.ensures.1 _ c.offer_moves-moves.ensures.1)
+
+pub returns : goal.returns
+returns c =
+    let i = c.offer_issues-issues.ensures.0 in
+    next_made _ _ _ _ _ i c.offer_moves-moves.ensures.0 c.offer_persists-count.ensures

@@ -1,0 +1,139 @@
+use Rattle.std.proofs.Common.{refl, ap, ◌∙◌, arith, length, rules}
+use Rattle.search.proofs.walk.WalkHeldLaws.{held_fits, held_few, held_long, held_takes, held_deep}
+use Rattle.search.proofs.walk.WalkHeldLaws.{held_room, held_next, held_below}
+use Rattle.search.proofs.recall.RecallTurnLaws.{recalls_listed, recalls_found, recalls_stopped}
+use Rattle.search.proofs.recall.RecallTurnLaws.{recalls_finished}
+use Rattle.search.proofs.recall.RecallHeldLaws.{met_finished, recalls_start, recall_before}
+use Rattle.search.proofs.recall.RecallHeldLaws.{meets_some, meets_chained, recall_full}
+use Rattle.search.proofs.recall.RecallHeldLaws.{recall_here, recall_found, recall_stopped, recall_end}
+use Rattle.search.proofs.recall.+recall.Goals as goal
+
+pub meet-requires : goal.meet-requires
+meet-requires t c =
+    let g = c.requires in
+    (held_fits g.0, held_few g.0, g.1, g.2, g.3, held_long g.0)
+
+pub returns-in-Before : goal.returns-in-Before
+returns-in-Before t c =
+    let g = c.requires in
+    recall_before _ _ _ _ _ _ _ _ _ _ _ _ c.meet.ensures g.2 g.3 c.in-Before.is
+
+pub returns-in-Full : goal.returns-in-Full
+returns-in-Full t c =
+    recall_full _ _ _ _ _ _ _ _ _ _ _ _ c.meet.ensures c.in-Full.is
+
+pub is_reached-requires : goal.is_reached-requires
+is_reached-requires t c =
+    held_fits c.requires.0
+
+pub returns-then-is_reached : goal.returns-then-is_reached
+returns-then-is_reached t c =
+    recall_here _ _ _ _ _ _ _ _ _ _ _ _ c.meet.ensures c.in-New.is _ c.is_reached.ensures
+    c.if-is_reached.true _
+
+pub next_steps-next-requires : goal.next_steps-next-requires
+next_steps-next-requires t c =
+    let h = c.requires.0 in
+    (held_fits h, held_few h)
+
+pub overflow_sub-rest : goal.overflow_sub-rest
+overflow_sub-rest t c =
+    let some = meets_some _ _ _ _ _ _ c.meet.ensures c.in-New.is in
+    omega arith
+
+pub loop-i-init : goal.loop-i-init
+loop-i-init t c =
+    let g = c.requires in
+    let few = g.2 in
+    let kept = meets_chained _ _ _ _ _ _ c.meet.ensures c.in-New.is in
+    (g.0, omega arith, kept, recalls_start _ _ _ _ _ _ g.0 _ _ _ _ c.next_steps-next.ensures, refl)
+
+pub bounds-next-i : goal.bounds-next-i
+bounds-next-i t c = let few = c.loop-i.invariant.3.list.few in omega arith
+
+pub take-requires : goal.take-requires
+take-requires t c =
+    let l = c.loop-i in
+    let on = recalls_listed l.invariant.3 (omega arith) _ c.step_at-k.ensures in
+    let h = l.invariant.0 in
+    (held_fits h, held_few h, held_takes h _ on, held_long h)
+
+pub overflow_add-depth : goal.overflow_add-depth
+overflow_add-depth t c =
+    let d = c.loop-i.invariant.0.deep in
+    search rules
+
+pub recall-below-requires : goal.recall-below-requires
+recall-below-requires t c =
+    let g = c.requires in
+    let m = c.decreases in
+    let o = c.loop-i.invariant in
+    let k = c.step_at-k.ensures in
+    let on = recalls_listed o.3 (omega arith) _ k in
+    let d = held_deep o.0 _ on in
+    (omega arith, (held_next o.0 _ on _ c.take.ensures, g.1, o.1, o.2))
+
+pub overflow_mul-depth : goal.overflow_mul-depth
+overflow_mul-depth t c =
+    let d = c.loop-i.invariant.0.deep in
+    search rules
+
+pub put_step-requires : goal.put_step-requires
+put_step-requires t c =
+    let o = c.loop-i.invariant in
+    let k = c.step_at-k.ensures in
+    let on = recalls_listed o.3 (omega arith) _ k in
+    let e = c.recall-below.auto.run in
+    let f = held_room o.0 _ on in
+    omega arith
+
+pub returns-in-Found : goal.returns-in-Found
+returns-in-Found t c =
+    let z = c.take.ensures in
+    let k = c.step_at-k.ensures in
+    let o = c.loop-i.invariant in
+    let on = recalls_listed o.3 (omega arith) _ k in
+    let n = held_below o.0 _ on in
+    let r = c.recall-below.ensures in
+    let f = c.in-Found.is in
+    let x = recalls_found o.3 (omega arith) _ k _ z _ n _ _ _ (r.0, r.1) _ f in
+    recall_found _ _ _ _ _ _ _ _ _ _ _ _ c.meet.ensures c.in-New.is _
+    c.is_reached.ensures c.if-is_reached.false _ _ _
+    (rw c.put_step.ensures x)
+
+pub returns-in-Stopped : goal.returns-in-Stopped
+returns-in-Stopped t c =
+    let z = c.take.ensures in
+    let k = c.step_at-k.ensures in
+    let o = c.loop-i.invariant in
+    let on = recalls_listed o.3 (omega arith) _ k in
+    let n = held_below o.0 _ on in
+    let r = c.recall-below.ensures in
+    let x = recalls_stopped o.3 (omega arith) _ k _ z _ n _ _ _ (r.0, r.1) c.in-Stopped.is in
+    recall_stopped _ _ _ _ _ _ _ _ _ _ _ _ c.meet.ensures c.in-New.is _
+    c.is_reached.ensures c.if-is_reached.false _ _ x
+
+pub overflow_add-i : goal.overflow_add-i
+overflow_add-i t c =
+    let few = c.loop-i.invariant.3.list.few in
+    omega arith
+
+pub loop-i-preserved : goal.loop-i-preserved
+loop-i-preserved t c =
+    let z = c.take.ensures in
+    let k = c.step_at-k.ensures in
+    let o = c.loop-i.invariant in
+    let on = recalls_listed o.3 (omega arith) _ k in
+    let n = held_below o.0 _ on in
+    let r = c.recall-below.ensures in
+    let f = c.in-Finished.is in
+    let x = met_finished _ _ _ _ r.2 _ f in
+    let y = recalls_finished o.3 (omega arith) _ k _ z _ n _ _ _ (r.0, r.1) _ f _ x.2 in
+    let e = c.recall-below.auto.run in
+    (rw e o.0, x.0, x.1, y, c.recall-below.auto.memory ∙ o.4)
+
+pub returns : goal.returns
+returns t c =
+    let o = c.loop-i.invariant in
+    recall_end _ _ _ _ _ _ _ _ _ _ _ _ c.meet.ensures c.in-New.is _
+    c.is_reached.ensures c.if-is_reached.false o.3 (omega arith) o.1 o.2

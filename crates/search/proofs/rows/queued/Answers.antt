@@ -1,0 +1,27 @@
+-- `queued` meets its contract. Assumes nothing.
+use Rattle.std.proofs.Common.{arith}
+use Rattle.search.proofs.rows.RowLoopLaws.{queue_low, row_room, queued_made}
+use Rattle.search.proofs.rows.queued.Goals as goal
+
+pub row_start-base-requires : goal.row_start-base-requires
+row_start-base-requires c =
+    let g = c.requires in
+    let w = queue_low _ g.0 _ _ _ c.line_of-q.ensures c.queue_row-r.ensures in
+    (g.0, g.1, omega arith)
+
+pub row_len-n-requires : goal.row_len-n-requires
+row_len-n-requires c =
+    let g = c.requires in
+    (g.0, queue_low _ g.0 _ _ _ c.line_of-q.ensures c.queue_row-r.ensures)
+
+pub newest-requires : goal.newest-requires
+newest-requires c =
+    let g = c.requires in
+    let w = queue_low _ g.0 _ _ _ c.line_of-q.ensures c.queue_row-r.ensures in
+    row_room _ _ g.0 g.1 _ w _ _ c.row_start-base.ensures c.row_len-n.ensures
+
+pub returns : goal.returns
+returns c =
+    let s = c.row_start-base.ensures in
+    queued_made _ _ _ _ _ _ _ s c.row_len-n.ensures _ _ c.line_of-q.ensures c.queue_row-r.ensures
+    c.word_at.ensures c.newest.ensures

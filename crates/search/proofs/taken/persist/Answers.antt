@@ -1,0 +1,52 @@
+-- `persist` meets its contract. Assumes nothing.
+use Rattle.std.proofs.Common.{◌+◌, ◌*◌, arith}
+use Rattle.search.specs.Rows.{queue_row}
+use Rattle.search.proofs.taken.RowLenLaws.{EntryWithin, entry_within}
+use Rattle.search.proofs.taken.TakenLaws.{persist_write, persist_marker}
+use Rattle.search.proofs.taken.persist.Goals as goal
+
+pub offset_bounds-x-at : goal.offset_bounds-x-at
+offset_bounds-x-at c =
+    let p = c.requires in
+    let e = entry_within _ _ p.0 p.1 _ _ _ 0 (omega arith) p.3 c.queue_row-r.ensures c.row_start-at.ensures in
+    omega arith
+
+pub bounds-x-at : goal.bounds-x-at
+bounds-x-at c =
+    let p = c.requires in
+    let e = entry_within _ _ p.0 p.1 _ _ _ 0 (omega arith) p.3 c.queue_row-r.ensures c.row_start-at.ensures in
+    omega arith
+
+pub overflow_add-word : goal.overflow_add-word
+overflow_add-word c =
+    let p = c.requires in
+    let e = entry_within _ _ p.0 p.1 _ _ _ 0 (omega arith) p.3 c.queue_row-r.ensures c.row_start-at.ensures in
+    omega arith
+
+pub offset_bounds-x-at-2 : goal.offset_bounds-x-at-2
+offset_bounds-x-at-2 c =
+    let p = c.requires in
+    let e = entry_within _ _ p.0 p.1 _ _ _ 0 (omega arith) p.3 c.queue_row-r.ensures c.row_start-at.ensures in
+    omega arith
+
+pub bounds-x-at-2 : goal.bounds-x-at-2
+bounds-x-at-2 c =
+    let p = c.requires in
+    let e = entry_within _ _ p.0 p.1 _ _ _ 0 (omega arith) p.3 c.queue_row-r.ensures c.row_start-at.ensures in
+    omega arith
+
+pub leave-requires : goal.leave-requires
+leave-requires c =
+    let p = c.requires in
+    let e = entry_within _ _ p.0 p.1 _ _ _ 0 (omega arith) p.3 c.queue_row-r.ensures c.row_start-at.ensures in
+    rw c.queue_row-r.ensures (p.0, p.1, omega arith, p.3, omega arith, omega arith, p.4)
+
+pub returns-then-tag-c : goal.returns-then-tag-c
+returns-then-tag-c c =
+    persist_write _ _ _ _ _ c.queue_row-r.ensures c.row_start-at.ensures _
+    c.leave.ensures _ c.if-tag-c.true c.word_at.ensures
+
+pub returns-else-tag-c : goal.returns-else-tag-c
+returns-else-tag-c c =
+    persist_marker _ _ _ _ _ c.queue_row-r.ensures c.row_start-at.ensures _
+    c.leave.ensures c.if-tag-c.false

@@ -1,0 +1,116 @@
+use Rattle.std.proofs.Common.{ap, ◌∙◌, arith, length, rules}
+use Rattle.search.proofs.walk.WalkLoopLaws.{left_used_up, left_here, walking_end}
+use Rattle.search.proofs.walk.WalkTurnLaws.{turn_listed, turn_length, turn_put, turn_found, turn_stopped}
+use Rattle.search.proofs.walk.WalkTurnLaws.{turn_finished}
+use Rattle.search.proofs.walk.WalkHeldLaws.{walks_start, held_fits, held_few, held_long, held_takes}
+use Rattle.search.proofs.walk.WalkHeldLaws.{held_deep, held_room, held_next, held_below}
+use Rattle.search.proofs.walk.+walk.Goals as goal
+
+pub returns-then-budget-eq0 : goal.returns-then-budget-eq0
+returns-then-budget-eq0 t c =
+    let a = c.args in
+    let l = left_used_up _ a.budget a.depth a.run.now _ _ _ c.if-budget-eq0.true in
+    (l.told, l.stored)
+
+pub is_reached-requires : goal.is_reached-requires
+is_reached-requires t c = held_fits c.requires
+
+pub returns-then-is_reached : goal.returns-then-is_reached
+returns-then-is_reached t c =
+    let a = c.args in
+    let e = c.is_reached.ensures in
+    let l = left_here _ a.budget a.depth a.run.now _ _ _ c.if-budget-eq0.false _ e c.if-is_reached.true in
+    (l.told, l.stored)
+
+pub next_steps-next-requires : goal.next_steps-next-requires
+next_steps-next-requires t c =
+    let h = c.requires in
+    (held_fits h, held_few h)
+
+pub loop-i-init : goal.loop-i-init
+loop-i-init t c =
+    let h = c.requires in
+    let e = c.is_reached.ensures in
+    (h, walks_start h _ _ _ _ _ _ c.next_steps-next.ensures c.if-budget-eq0.false _ e c.if-is_reached.false)
+
+pub bounds-next-i : goal.bounds-next-i
+bounds-next-i t c = let few = c.loop-i.invariant.1.list.few in omega arith
+
+pub take-requires : goal.take-requires
+take-requires t c =
+    let l = c.loop-i in
+    let on = turn_listed l.invariant.1 (omega arith) _ c.step_at-k.ensures in
+    (held_fits l.invariant.0, held_few l.invariant.0, held_takes l.invariant.0 _ on, held_long l.invariant.0)
+
+pub overflow_add-depth : goal.overflow_add-depth
+overflow_add-depth t c =
+    let l = c.loop-i in
+    let d = l.invariant.0.deep in
+    search rules
+
+pub walk-below-requires : goal.walk-below-requires
+walk-below-requires t c =
+    let l = c.loop-i in
+    let on = turn_listed l.invariant.1 (omega arith) _ c.step_at-k.ensures in
+    let d = held_deep l.invariant.0 _ on in
+    let m = c.decreases in
+    (omega arith, held_next l.invariant.0 _ on _ c.take.ensures)
+
+pub overflow_mul-depth : goal.overflow_mul-depth
+overflow_mul-depth t c =
+    let d = c.loop-i.invariant.0.deep in
+    search rules
+
+pub put_step-requires : goal.put_step-requires
+put_step-requires t c =
+    let z = c.take.ensures in
+    let k = c.step_at-k.ensures in
+    let l = c.loop-i in
+    let on = turn_listed l.invariant.1 (omega arith) _ k in
+    let n = held_below l.invariant.0 _ on in
+    let e = turn_length l.invariant.1 (omega arith) _ k _ z _ n _ _ _ c.walk-below.ensures in
+    let r = held_room l.invariant.0 _ on in
+    omega arith
+
+pub returns-in-Found : goal.returns-in-Found
+returns-in-Found t c =
+    let z = c.take.ensures in
+    let k = c.step_at-k.ensures in
+    let l = c.loop-i in
+    let on = turn_listed l.invariant.1 (omega arith) _ k in
+    let n = held_below l.invariant.0 _ on in
+    let f = c.in-Found.is in
+    let x = turn_found l.invariant.1 (omega arith) _ k _ z _ n _ _ _ c.walk-below.ensures _ f in
+    (x.told, c.put_step.ensures ∙ x.stored)
+
+pub returns-in-Stopped : goal.returns-in-Stopped
+returns-in-Stopped t c =
+    let z = c.take.ensures in
+    let k = c.step_at-k.ensures in
+    let l = c.loop-i in
+    let on = turn_listed l.invariant.1 (omega arith) _ k in
+    let n = held_below l.invariant.0 _ on in
+    let x = turn_stopped l.invariant.1 (omega arith) _ k _ z _ n _ _ _ c.walk-below.ensures c.in-Stopped.is in
+    (x.told, x.stored)
+
+pub overflow_add-i : goal.overflow_add-i
+overflow_add-i t c =
+    let few = c.loop-i.invariant.1.list.few in
+    omega arith
+
+pub loop-i-preserved : goal.loop-i-preserved
+loop-i-preserved t c =
+    let z = c.take.ensures in
+    let k = c.step_at-k.ensures in
+    let l = c.loop-i in
+    let on = turn_listed l.invariant.1 (omega arith) _ k in
+    let n = held_below l.invariant.0 _ on in
+    let e = turn_length l.invariant.1 (omega arith) _ k _ z _ n _ _ _ c.walk-below.ensures in
+    let r = c.in-Finished.is in
+    let o = turn_finished l.invariant.1 (omega arith) _ k _ z _ n _ _ _ c.walk-below.ensures _ r in
+    (rw e l.invariant.0, o)
+
+pub returns : goal.returns
+returns t c =
+    let e = walking_end c.loop-i.invariant.1 _ (omega arith) in
+    (e.told, e.stored)

@@ -1,0 +1,13 @@
+-- `is_lacking` meets its contract. Assumes nothing.
+use Rattle.std.proofs.Common.{◌-◌}
+use Rattle.machine.proofs.lists.AnyLaws.{AskedSoFar}
+use Rattle.search.specs.Question.{lacks_at}
+use Rattle.search.specs.Listing.{threads_in}
+use Rattle.search.proofs.wants.is_lacking.Given as goal
+
+-- the threads from t on say what all say
+abbrev pub invariant-loop-t : goal.invariant-loop-t
+invariant-loop-t l = AskedSoFar (lacks_at l.passed l.x) (threads_in l.c) l.t
+
+abbrev pub decreases-loop-t : goal.decreases-loop-t
+decreases-loop-t l = l.threads - l.t
