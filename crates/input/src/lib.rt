@@ -1,10 +1,15 @@
-// Reading for the programs, so that an input that cannot be read is told from one that has ended: io's own
-// reading stops at both alike. A read that a signal interrupts counts as failed; no program here catches one.
+// Reading for the programs, so that an input that cannot be read is told from one that has ended. A read that a
+// signal interrupts counts as failed; no program here catches one.
 #![tactic(auto)]
 
+ghost use Rattle.std.specs.Prelude.{◌≡◌, length};
 ghost use Rattle.input.specs.Filled.{Within};
 
-use libc::STDERR_FILENO;
+use std::io;
+use std::io::{Print, Read};
+
+// As many bytes as an input can have that a program looks at.
+pub const LARGE: usize = 65536;
 
 // Bytes: so many of the lent bytes were read, fewer than all only where the input has ended. Failed: a read
 // failed; what was read before is not told.
@@ -14,24 +19,30 @@ pub enum Filled {
     Failed,
 }
 
+// A function of its own, so that a proof elsewhere knows its length without its bytes.
+pub fn large_buffer() -> [u8; LARGE]
+    ensures { 65536 ≡ length result }
+{
+    [0; LARGE]
+}
+
 // One read into the lent bytes.
-fn once(fd: i32, buf: &mut [u8]) -> Filled
+fn once<R: Read>(from: &mut R, buf: &mut [u8]) -> Filled
     ensures { Within result buf.new }
 {
-    let got = libc::read(fd, buf);
-    if got < 0 {
-        return Filled::Failed;
+    match from.read(buf) {
+        Ok(got) => Filled::Bytes(got),
+        Err(_) => Filled::Failed,
     }
-    Filled::Bytes(io::count(got, buf))
 }
 
 // Reads until the lent bytes are full, the input ends or a read fails.
-pub fn fill(fd: i32, buf: &mut [u8]) -> Filled
+pub fn fill<R: Read>(from: &mut R, buf: &mut [u8]) -> Filled
     ensures { Within result buf.new }
 {
     let mut done = 0;
     while done < buf.len() {
-        let filled = once(fd, &mut buf[done..]);
+        let filled = once(from, &mut buf[done..]);
         let Filled::Bytes(more) = filled else {
             return Filled::Failed;
         };
@@ -44,7 +55,7 @@ pub fn fill(fd: i32, buf: &mut [u8]) -> Filled
 }
 
 // What a program says on standard error where it could not read.
-pub fn say_failed(program: &[u8]) {
-    io::write_all(STDERR_FILENO, program);
-    io::write_all(STDERR_FILENO, b": standard input could not be read\n");
+pub fn say_failed<P: Print>(to: &P, program: &[u8]) -> io::Result<()> {
+    to.write_all(program)?;
+    to.write_all(b": standard input could not be read\n")
 }

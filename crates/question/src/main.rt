@@ -4,24 +4,24 @@
 #![tactic(auto)]
 
 use input::Filled;
-use libc::STDIN_FILENO;
+use std::io;
 use telling::ROOM;
 
 // How many runs the question looks at.
 const BUDGET: u32 = 1000000;
 
-fn answer(bytes: &[u8]) {
+fn answer(rt: HostRuntime, bytes: &[u8]) -> io::Result<()> {
     let mut run = [0u8; ROOM];
     let outcome = search::question(bytes, &mut run, BUDGET);
-    telling::tell(outcome, run);
+    telling::tell(&rt, outcome, run)
 }
 
-fn main() {
-    // Reading looks at no byte behind 1,340, so that a fixed buffer answers for an input of any length.
-    let mut lent = io::large_buffer();
-    let filled = input::fill(STDIN_FILENO, &mut lent);
+fn main(rt: HostRuntime) -> io::Result<()> {
+    // Reading looks at no byte behind 2,640, so that a fixed buffer answers for an input of any length.
+    let mut lent = input::large_buffer();
+    let filled = input::fill(&mut rt.stdin(), &mut lent);
     match filled {
-        Filled::Bytes(n) => answer(&lent[..n]),
-        Filled::Failed => input::say_failed(b"question"),
+        Filled::Bytes(n) => answer(rt, &lent[..n]),
+        Filled::Failed => input::say_failed(&rt.stderr(), b"question"),
     }
 }

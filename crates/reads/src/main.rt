@@ -4,32 +4,22 @@
 
 use cases::reader::Answer;
 use input::Filled;
-use libc::{STDIN_FILENO, STDOUT_FILENO};
+use std::io;
 
-fn answer(bytes: &[u8]) {
+fn answer(rt: HostRuntime, bytes: &[u8]) -> io::Result<()> {
     let r = cases::read(bytes);
-    let answer = r.answer;
-    match answer {
-        Answer::Whole(length) => {
-            io::write_all(STDOUT_FILENO, b"READ ");
-            io::print_decimal(STDOUT_FILENO, length as u64);
-        }
-        Answer::Refused(number, offset) => {
-            io::write_all(STDOUT_FILENO, b"REFUSED ");
-            io::print_decimal(STDOUT_FILENO, number as u64);
-            io::write_all(STDOUT_FILENO, b" ");
-            io::print_decimal(STDOUT_FILENO, offset as u64);
-        }
+    match r.answer {
+        Answer::Whole(length) => println!(rt; "READ {length}"),
+        Answer::Refused(number, offset) => println!(rt; "REFUSED {number} {offset}"),
     }
-    io::write_all(STDOUT_FILENO, b"\n");
 }
 
-fn main() {
-    // Reading looks at no byte behind 1,340, so that a fixed buffer answers for an input of any length.
-    let mut lent = io::large_buffer();
-    let filled = input::fill(STDIN_FILENO, &mut lent);
+fn main(rt: HostRuntime) -> io::Result<()> {
+    // Reading looks at no byte behind 2,640, so that a fixed buffer answers for an input of any length.
+    let mut lent = input::large_buffer();
+    let filled = input::fill(&mut rt.stdin(), &mut lent);
     match filled {
-        Filled::Bytes(n) => answer(&lent[..n]),
-        Filled::Failed => input::say_failed(b"reads"),
+        Filled::Bytes(n) => answer(rt, &lent[..n]),
+        Filled::Failed => input::say_failed(&rt.stderr(), b"reads"),
     }
 }

@@ -5,7 +5,7 @@
 ghost use Rattle.std.specs.Prelude.{◌≡◌, length};
 
 use input::Filled;
-use libc::STDIN_FILENO;
+use std::io;
 use telling::ROOM;
 
 // How many distinct states are covered at most; the memory covers fewer.
@@ -21,20 +21,19 @@ fn zeros() -> [u32; WORDS]
     [0; WORDS]
 }
 
-fn answer(bytes: &[u8]) {
+fn answer(rt: HostRuntime, bytes: &[u8]) -> io::Result<()> {
     let mut run = [0u8; ROOM];
     let mut memory = zeros();
     let remembered = search::remember(bytes, &mut run, &mut memory, BUDGET);
-    let outcome = remembered.outcome;
-    telling::tell(outcome, run);
+    telling::tell(&rt, remembered.outcome, run)
 }
 
-fn main() {
-    // Reading looks at no byte behind 1,340, so that a fixed buffer answers for an input of any length.
-    let mut lent = io::large_buffer();
-    let filled = input::fill(STDIN_FILENO, &mut lent);
+fn main(rt: HostRuntime) -> io::Result<()> {
+    // Reading looks at no byte behind 2,640, so that a fixed buffer answers for an input of any length.
+    let mut lent = input::large_buffer();
+    let filled = input::fill(&mut rt.stdin(), &mut lent);
     match filled {
-        Filled::Bytes(n) => answer(&lent[..n]),
-        Filled::Failed => input::say_failed(b"remember"),
+        Filled::Bytes(n) => answer(rt, &lent[..n]),
+        Filled::Failed => input::say_failed(&rt.stderr(), b"remember"),
     }
 }

@@ -4,64 +4,49 @@
 
 use cases::operations::{ISSUE, MOVE, PERSIST};
 use cases::sizes::{STEP_SIZE, STEPS};
-use libc::STDOUT_FILENO;
 use search::ask::Outcome;
+use std::io;
+use std::io::Print;
 
 // Room for the longest run.
 pub const ROOM: usize = STEP_SIZE * STEPS;
 
-fn say(word: &[u8], n: u64) {
-    io::write_all(STDOUT_FILENO, word);
-    io::print_decimal(STDOUT_FILENO, n);
-}
-
 // A step by the payload of its record: I0 issues in thread 0, M0.0 moves the entry at position 0 of thread 0's
 // buffer, P1 persists the oldest entry of line 1.
-fn say_step(thread: u8, code: u8, position: u8, location: u8) {
+fn say_step<P: Print>(to: &P, thread: u8, code: u8, position: u8, location: u8) -> io::Result<()> {
     if code == ISSUE {
-        say(b"I", thread as u64);
+        return println!(to; "I{thread}");
     }
     if code == MOVE {
-        say(b"M", thread as u64);
-        say(b".", position as u64);
+        return println!(to; "M{thread}.{position}");
     }
     if code == PERSIST {
-        say(b"P", location as u64);
+        return println!(to; "P{location}");
     }
-    io::write_all(STDOUT_FILENO, b"\n");
+    println!(to)
 }
 
 // The first steps of a run of records, no more than there is room for.
-fn say_run(run: [u8; ROOM], count: usize) {
-    let mut i = 0;
-    while i < STEPS {
+fn say_run<P: Print>(to: &P, run: [u8; ROOM], count: usize) -> io::Result<()> {
+    for i in 0..STEPS {
         if count <= i {
-            return;
+            return Ok(());
         }
         let at = STEP_SIZE * i;
-        say_step(run[at + 4], run[at + 5], run[at + 6], run[at + 7]);
-        i += 1;
+        say_step(to, run[at + 4], run[at + 5], run[at + 6], run[at + 7])?;
     }
+    Ok(())
 }
 
 // An answer, and the run that stands in the buffer that was lent for it.
-pub fn tell(outcome: Outcome, run: [u8; ROOM]) {
+pub fn tell<P: Print>(to: &P, outcome: Outcome, run: [u8; ROOM]) -> io::Result<()> {
     match outcome {
         Outcome::Reached(count) => {
-            say(b"REACHED ", count as u64);
-            io::write_all(STDOUT_FILENO, b"\n");
-            say_run(run, count);
+            println!(to; "REACHED {count}")?;
+            say_run(to, run, count)
         }
-        Outcome::Unreachable => {
-            io::write_all(STDOUT_FILENO, b"UNREACHABLE\n");
-        }
-        Outcome::Undecided => {
-            io::write_all(STDOUT_FILENO, b"UNDECIDED\n");
-        }
-        Outcome::Refused(number, offset) => {
-            say(b"REFUSED ", number as u64);
-            say(b" ", offset as u64);
-            io::write_all(STDOUT_FILENO, b"\n");
-        }
+        Outcome::Unreachable => println!(to; "UNREACHABLE"),
+        Outcome::Undecided => println!(to; "UNDECIDED"),
+        Outcome::Refused(number, offset) => println!(to; "REFUSED {number} {offset}"),
     }
 }
