@@ -5,19 +5,26 @@ ghost use Rattle.batch.specs.Sizes.{most_input};
 use crate::print::ROOM;
 use crate::{INPUT, print};
 use search::ask;
+use std::io;
 
 // Asks the question of a buffer's first n bytes; false where so much room is not to be had.
-pub(crate) fn answer(input: [u8; INPUT], n: usize, room: usize, budget: u32) -> bool
+pub(crate) fn answer(
+    rt: HostRuntime,
+    input: [u8; INPUT],
+    n: usize,
+    room: usize,
+    budget: u32,
+) -> io::Result<bool>
     requires { n ≤ most_input }
 {
     if ROOM < room {
-        return false;
+        return Ok(false);
     }
     let mut lent = [0xA5u8; ROOM];
     let o = search::question(&input[..n], &mut lent[..room], budget);
-    print::number(ask::outcome_number(o) as usize);
-    print::number(ask::outcome_place(o));
-    print::buffer(lent, room);
-    print::end();
-    true
+    print::number(rt, ask::outcome_number(o) as usize)?;
+    print::number(rt, ask::outcome_place(o))?;
+    print::buffer(rt, lent, room)?;
+    print::end(rt)?;
+    Ok(true)
 }

@@ -6,6 +6,7 @@
 
 use crate::print::ROOM;
 use cases::{reader, writer};
+use std::io;
 
 mod asked;
 mod change;
@@ -37,94 +38,101 @@ fn number_at(head: [u8; HEAD], at: usize) -> u32
     numbers::word(head[at], head[at + 1], head[at + 2], head[at + 3])
 }
 
-fn answer(bytes: &[u8], field: usize, value: u32, room: usize)
+fn answer(rt: HostRuntime, bytes: &[u8], field: usize, value: u32, room: usize) -> io::Result<()>
     requires { room ≤ most_room }
 {
     let r = cases::read(bytes);
     let a = r.answer;
     let rest = cases::unread(bytes);
-    print::number(reader::number(a) as usize);
-    print::number(reader::offset(a));
-    print::number(rest.len());
-    print::part(rest);
+    print::number(rt, reader::number(a) as usize)?;
+    print::number(rt, reader::offset(a))?;
+    print::number(rt, rest.len())?;
+    print::part(rt, rest)?;
     let c = r.case;
     let mut lent = [0xA5u8; ROOM];
     let w = cases::write(change::changed(c, field, value), &mut lent[..room]);
-    print::number(writer::wrote_number(w) as usize);
-    print::number(writer::wrote_length(w));
-    print::buffer(lent, room);
-    print::end();
+    print::number(rt, writer::wrote_number(w) as usize)?;
+    print::number(rt, writer::wrote_length(w))?;
+    print::buffer(rt, lent, room)?;
+    print::end(rt)
 }
 
 // Answers for the first n bytes of a buffer. By value: what filled it is forgotten here, and that it is as long
 // as its type is not.
-fn answer_first(input: [u8; INPUT], n: usize, field: usize, value: u32, room: usize)
+fn answer_first(
+    rt: HostRuntime,
+    input: [u8; INPUT],
+    n: usize,
+    field: usize,
+    value: u32,
+    room: usize,
+) -> io::Result<()>
     requires { (n ≤ most_input) × (room ≤ most_room) }
 {
-    answer(&input[..n], field, value, room);
+    answer(rt, &input[..n], field, value, room)
 }
 
 // Answers a frame of cases; false where the stream ends in it, or is no stream of frames.
-fn case_frame(head: [u8; HEAD]) -> bool {
+fn case_frame(rt: HostRuntime, head: [u8; HEAD]) -> io::Result<bool> {
     let n = number_at(head, 0) as usize;
     let room = number_at(head, 12) as usize;
     if INPUT < n {
-        return false;
+        return Ok(false);
     }
     if ROOM < room {
-        return false;
+        return Ok(false);
     }
-    let mut input = io::large_buffer();
-    if !stream::fills(&mut input[..n]) {
-        return false;
+    let mut lent = input::large_buffer();
+    if !stream::fills(rt, &mut lent[..n])? {
+        return Ok(false);
     }
     answer_first(
-        input,
+        rt,
+        lent,
         n,
         number_at(head, 4) as usize,
         number_at(head, 8),
         room,
-    );
-    true
+    )?;
+    Ok(true)
 }
 
 // Answers a frame of the machine; false where the stream ends in it, or is no stream of frames.
-fn machine_frame(head: [u8; HEAD], job: u32) -> bool {
+fn machine_frame(rt: HostRuntime, head: [u8; HEAD], job: u32) -> io::Result<bool> {
     let n = number_at(head, 4) as usize;
     if INPUT < n {
-        return false;
+        return Ok(false);
     }
-    let mut input = io::large_buffer();
-    if !stream::fills(&mut input[..n]) {
-        return false;
+    let mut lent = input::large_buffer();
+    if !stream::fills(rt, &mut lent[..n])? {
+        return Ok(false);
     }
     let third = number_at(head, 8) as usize;
     let fourth = number_at(head, 12);
     if job == QUESTION {
-        return asked::answer(input, n, third, fourth);
+        return asked::answer(rt, lent, n, third, fourth);
     }
-    trial::answer(job, input, n, third, fourth)
+    trial::answer(rt, job, lent, n, third, fourth)
 }
 
 // Answers one frame; false where the stream has ended.
-fn frame() -> bool {
+fn frame(rt: HostRuntime) -> io::Result<bool> {
     let mut head = [0u8; HEAD];
-    if !stream::fills(&mut head) {
-        return false;
+    if !stream::fills(rt, &mut head)? {
+        return Ok(false);
     }
     let first = number_at(head, 0);
     if MACHINE <= first {
-        return machine_frame(head, first - MACHINE);
+        return machine_frame(rt, head, first - MACHINE);
     }
-    case_frame(head)
+    case_frame(rt, head)
 }
 
-fn main() {
-    let mut i: u32 = 0;
-    while i < FRAMES {
-        if !frame() {
-            return;
+fn main(rt: HostRuntime) -> io::Result<()> {
+    for _ in 0..FRAMES {
+        if !frame(rt)? {
+            return Ok(());
         }
-        i = i + 1;
     }
+    Ok(())
 }

@@ -2,7 +2,8 @@
 ghost use Rattle.std.specs.Prelude.{◌≤◌, ◌<◌, length};
 ghost use Rattle.batch.specs.Sizes.{most_room};
 
-use libc::STDOUT_FILENO;
+use std::io;
+use std::io::Print;
 
 // The most bytes that are printed at once.
 pub const ROOM: usize = 8192;
@@ -17,7 +18,7 @@ fn glyph(digit: u8) -> u8
 }
 
 // Bytes in hex, two digits each.
-fn bytes(part: &[u8])
+fn bytes(rt: HostRuntime, part: &[u8]) -> io::Result<()>
     requires { length part.now ≤ most_room }
 {
     let count = part.len();
@@ -29,7 +30,7 @@ fn bytes(part: &[u8])
         text[2 * i + 1] = glyph(b % 16);
         i = i + 1;
     }
-    io::write_all(STDOUT_FILENO, &text[..2 * count]);
+    rt.write_all(&text[..2 * count])
 }
 
 // How many of the bytes that are left are printed next.
@@ -44,43 +45,39 @@ fn at_once(left: usize) -> usize
 }
 
 // A part of a line: any number of bytes, or `-` where there are none.
-pub(crate) fn part(rest: &[u8]) {
+pub(crate) fn part(rt: HostRuntime, rest: &[u8]) -> io::Result<()> {
     let count = rest.len();
     if count == 0 {
-        io::write_all(STDOUT_FILENO, b"-");
+        print!(rt; "-")?;
     }
     let mut at = 0;
     while at < count {
         let end = at + at_once(count - at);
-        bytes(&rest[at..end]);
+        bytes(rt, &rest[at..end])?;
         at = end;
     }
-    io::write_all(STDOUT_FILENO, b" ");
+    print!(rt; " ")
 }
 
 // The first `count` bytes, or `-` where there are none.
-pub(crate) fn buffer(lent: [u8; ROOM], count: usize)
+pub(crate) fn buffer(rt: HostRuntime, lent: [u8; ROOM], count: usize) -> io::Result<()>
     requires { count ≤ most_room }
 {
     if count == 0 {
-        io::write_all(STDOUT_FILENO, b"-");
+        print!(rt; "-")?;
     }
-    bytes(&lent[..count]);
+    bytes(rt, &lent[..count])
 }
 
-pub(crate) fn end() {
-    io::write_all(STDOUT_FILENO, b"\n");
+pub(crate) fn end(rt: HostRuntime) -> io::Result<()> {
+    println!(rt)
 }
 
 // Which buffer or queue, and the position in it.
-pub(crate) fn place(word: &[u8], number: u8, position: u8) {
-    io::write_all(STDOUT_FILENO, word);
-    io::print_decimal(STDOUT_FILENO, number as u64);
-    io::write_all(STDOUT_FILENO, b".");
-    io::print_decimal(STDOUT_FILENO, position as u64);
+pub(crate) fn place(rt: HostRuntime, word: &str, number: u8, position: u8) -> io::Result<()> {
+    print!(rt; "{word}{number}.{position}")
 }
 
-pub(crate) fn number(n: usize) {
-    io::print_decimal(STDOUT_FILENO, n as u64);
-    io::write_all(STDOUT_FILENO, b" ");
+pub(crate) fn number(rt: HostRuntime, n: usize) -> io::Result<()> {
+    print!(rt; "{n} ")
 }

@@ -100,7 +100,7 @@ fn read_bytes(raw: &[u8], at: usize, into: &mut [u8])
     requires { at + length into.old ≤ length raw.now }
 {
     let end = at + into.len();
-    bytes::copy(&raw[at..end], into);
+    into.copy_from_slice(&raw[at..end]);
 }
 
 // By value: an array of entries cannot be lent.
@@ -160,7 +160,7 @@ fn put_bytes(raw: &mut [u8], at: usize, part: &[u8])
     requires { at + length part.now ≤ length raw.old }
 {
     let end = at + part.len();
-    bytes::copy(part, &mut raw[at..end]);
+    raw[at..end].copy_from_slice(part);
 }
 
 fn put_entries(raw: &mut [u8; ROOM], entries: [Waiting; CODE]) {

@@ -1,15 +1,15 @@
 // The stream of frames, which comes from standard input.
 use input::Filled;
-use libc::STDIN_FILENO;
+use std::io;
 
 // Fills the lent bytes; false where the stream ends before they are full, or cannot be read, which it says.
-pub(crate) fn fills(lent: &mut [u8]) -> bool {
-    let filled = input::fill(STDIN_FILENO, lent);
+pub(crate) fn fills(rt: HostRuntime, lent: &mut [u8]) -> io::Result<bool> {
+    let filled = input::fill(&mut rt.stdin(), lent);
     match filled {
-        Filled::Bytes(n) => n == lent.len(),
+        Filled::Bytes(n) => Ok(n == lent.len()),
         Filled::Failed => {
-            input::say_failed(b"batch");
-            false
+            input::say_failed(&rt.stderr(), b"batch")?;
+            Ok(false)
         }
     }
 }

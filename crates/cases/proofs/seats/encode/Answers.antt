@@ -16,9 +16,9 @@ loop-k-preserved c =
     let seat = sym c.seat_at-x.ensures in (
       omega arith,
       elim c.match-x.branch [
-        in-Holds w ↦
-          encoded_next put (seat ∙ w.in-Holds.is) (w.at-is ∙ w.put_record-at.ensures.0) (w.out-is ∙ w.put_record-at.ensures.1)
-      | in_default w ↦ rw (w.out-is, w.at-is) (encoded_none put (seat ∙ w.in_default.is))
+        | in-Holds w ↦
+            encoded_next put (seat ∙ w.in-Holds.is) (w.at-is ∙ w.put_record-at.ensures.0) (w.out-is ∙ w.put_record-at.ensures.1)
+        | in_default w ↦ rw (w.out-is, w.at-is) (encoded_none put (seat ∙ w.in_default.is))
       ],
     )
 

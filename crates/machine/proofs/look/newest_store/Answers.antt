@@ -23,11 +23,11 @@ loop-j-preserved c =
     let o = c.loop-j.invariant in (
       o.0,
       store_next _ _ _ _ o.0 o.1 (omega arith) (
-        elim c.match-e.branch [
-          in-Store+else-x-l w ↦ store_elsewhere _ w.in-Store.is w.if-x-l.false
-        | in_default w ↦ store_none _ _ w.in_default.not-Store
-        ]
-      ),
+          elim c.match-e.branch [
+            | in-Store+else-x-l w ↦ store_elsewhere _ w.in-Store.is w.if-x-l.false
+            | in_default w ↦ store_none _ _ w.in_default.not-Store
+          ]
+          ),
     )
 
 pub returns : goal.returns

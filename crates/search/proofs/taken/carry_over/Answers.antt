@@ -8,32 +8,32 @@ use Rattle.search.proofs.taken.carry_over.Goals as goal
 pub overflow_add-word : goal.overflow_add-word
 overflow_add-word c =
     let w =
-        carried_within _ _ c.requires.0 c.requires.1 _ _ (omega arith) c.requires.6 _ _ (omega arith) (omega arith)
-        c.row_start-to.ensures
+    carried_within _ _ c.requires.0 c.requires.1 _ _ (omega arith) c.requires.6 _ _ (omega arith) (omega arith)
+    c.row_start-to.ensures
     in
     omega arith
 
 pub offset_bounds-x-at : goal.offset_bounds-x-at
 offset_bounds-x-at c =
     let w =
-        carried_within _ _ c.requires.0 c.requires.1 _ _ (omega arith) c.requires.6 _ _ (omega arith) (omega arith)
-        c.row_start-to.ensures
+    carried_within _ _ c.requires.0 c.requires.1 _ _ (omega arith) c.requires.6 _ _ (omega arith) (omega arith)
+    c.row_start-to.ensures
     in
     omega arith
 
 pub bounds-x-at : goal.bounds-x-at
 bounds-x-at c =
     let w =
-        carried_within _ _ c.requires.0 c.requires.1 _ _ (omega arith) c.requires.6 _ _ (omega arith) (omega arith)
-        c.row_start-to.ensures
+    carried_within _ _ c.requires.0 c.requires.1 _ _ (omega arith) c.requires.6 _ _ (omega arith) (omega arith)
+    c.row_start-to.ensures
     in
     omega arith
 
 pub carry-requires : goal.carry-requires
 carry-requires c =
     let w =
-        carried_within _ _ c.requires.0 c.requires.1 _ _ (omega arith) c.requires.6 _ _ (omega arith) (omega arith)
-        c.row_start-to.ensures
+    carried_within _ _ c.requires.0 c.requires.1 _ _ (omega arith) c.requires.6 _ _ (omega arith) (omega arith)
+    c.row_start-to.ensures
     in
     (w.0, w.1, c.requires.7)
 
