@@ -2,7 +2,7 @@
  * Garluveni's C face: judges a run of a small program on persistent memory, names the entry that stands in the way
  * of an illegal step, and asks whether a power cut can leave a memory, of every run in turn or of every state once.
  * The functions are proved to return exactly what docs/SIGNATURES.md says of them, for every input. They are for
- * x86-64 Linux and stand in target/staticlib/libhost.a, which 'rt staticlib host' makes:
+ * x86-64 Linux and stand in target/staticlib/libhost.a, which 'tools/build-proved host' makes:
  *
  *     cc -Iinclude host.c target/staticlib/libhost.a
  *
@@ -135,25 +135,11 @@ uint32_t garluveni_remember(const uint8_t *bytes, size_t bytes_len, uint8_t *ste
 uint64_t garluveni_remember_counting(const uint8_t *bytes, size_t bytes_len, uint8_t *steps, size_t steps_len,
                                      uint32_t *memory, size_t memory_len, uint32_t budget);
 
-/*
- * The question, asked of fewer runs: in a state where a flush-opt may move or a marker may persist, only such steps come
- * next. Nothing is lost: some such run reaches a question exactly when some run does. The budget counts such runs, and
- * GARLUVENI_REACHED stores the first of them, which need not be the run that garluveni_question stores.
- */
-uint32_t garluveni_eager(const uint8_t *bytes, size_t bytes_len,
-                         uint8_t *steps, size_t steps_len, uint32_t budget);
-
-/* As garluveni_remember and garluveni_remember_counting, over these fewer runs and the states that they meet. */
-uint32_t garluveni_remember_eager(const uint8_t *bytes, size_t bytes_len, uint8_t *steps, size_t steps_len,
-                                  uint32_t *memory, size_t memory_len, uint32_t budget);
-uint64_t garluveni_remember_eager_counting(const uint8_t *bytes, size_t bytes_len, uint8_t *steps, size_t steps_len,
-                                           uint32_t *memory, size_t memory_len, uint32_t budget);
-
 /* The number that the judge or the question returns is the answer plus 256 times its place. */
 static inline uint32_t garluveni_answer(uint32_t number) { return number % 256u; }
 static inline uint32_t garluveni_place(uint32_t number) { return number / 256u; }
 
-/* What garluveni_remember_counting and garluveni_remember_eager_counting return: such a number, and the states. */
+/* What garluveni_remember_counting returns: such a number, and the states. */
 static inline uint32_t garluveni_counted_number(uint64_t counted) { return (uint32_t)counted; }
 static inline uint32_t garluveni_counted_states(uint64_t counted) { return (uint32_t)(counted >> 32); }
 
