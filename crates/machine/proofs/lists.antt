@@ -1,13 +1,13 @@
 -- Over lists and numbers of any kind; other crates can name these too.
--- part: a part of a list; its drop, take, getD and length; lt_or_ge
+-- part: a part of a list; its drop, take, get_d and length; lt_or_ge
 pub mod PartLaws
--- put, part-put, shift, length-without: a list put into another, one left out; getD behind it
+-- put, part-put, shift, length-without: a list put into another, one left out; get_d behind it
 pub mod PutLaws
 -- any, none-any: a test is true of one number, or of one on a list; AskedSoFar, AnySoFar
 pub mod AnyLaws
 -- all, none_all: what holds of each on a list
 pub mod AllLaws
--- listed: being on a list
+-- listed, any: being on a list
 pub mod ListedLaws
 -- stands, within_stands, some_stands: what stands at a position of a list
 pub mod StandsLaws

@@ -19,7 +19,7 @@ use Rattle.machine.specs.Ptso.{ptso}
 use Rattle.search.specs.declared.ask.Outcome.TheVariants.{Reached, Unreachable, Undecided, Refused}
 use Rattle.search.specs.Sizes.{state_words}
 use Rattle.search.specs.Walk.{Visit, Sublist, walk_from}
-use Rattle.search.specs.Question.{reaches, reached, unreachable, undecided, None, FirstThat, ask_of}
+use Rattle.search.specs.Question.{reached, unreachable, undecided, None, FirstThat, ask_of}
 use Rattle.search.specs.Question.{outcome_no, question_of, shown_of}
 use Rattle.search.specs.Lanes.{lanes_of}
 use Rattle.search.specs.Remember.{distinct_of, recall_of, covers_of, recall_for, remember_of, recalled_of, cleared_of}

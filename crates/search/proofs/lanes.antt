@@ -19,7 +19,7 @@ pub mod EvenLaws
 pub mod LayRowLaws
 -- split, seen_of, row, long, even, entries, few, lay: of a state
 pub mod StateLaws
--- blank_slot, laidOf, row, queue, see, named, queued, loaded: the code's looks find what the machine's find
+-- blank_slot, laid_of, row, queue, see, named, queued, loaded: the code's looks find what the machine's find
 pub mod LookLanesLaws
 -- marked: a thread's marker
 pub mod MarkLanesLaws

@@ -5,7 +5,7 @@ pub mod WalkLaws
 pub mod WalkOrderLaws
 -- walk of a model, walkable, thinned; leads
 pub mod WalkModelLaws
--- walking, Walking, Lists: the code's loop; left, Left, restOf
+-- walking, Walking, Lists: the code's loop; left, Left, rest_of
 pub mod WalkLoopLaws
 -- Turn, below, LeavesBelow: a turn of a walk's loop, over any lists of runs
 pub mod TurnLaws

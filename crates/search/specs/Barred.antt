@@ -15,7 +15,7 @@
 -- Assumes nothing.
 use Rattle.std.specs.Prelude.{ℕ, zero, suc, ◌+◌, ◌*◌, ◌-◌, ◌/◌, ◌%◌, Bool, true, false, not, List, [], ◌∷◌, ◌++◌, get_or, set, replicate, eqb, leb, ltb}
 use Rattle.cases.specs.declared.case.Step.{Step}
-use Rattle.cases.specs.Choice.{pick, both, either}
+use Rattle.cases.specs.Choice.{pick, either}
 use Rattle.cases.specs.Sizes.{most_instructions}
 use Rattle.machine.specs.Sizes.{most_candidates, kind_ranks}
 use Rattle.machine.specs.Fit.{any_from}

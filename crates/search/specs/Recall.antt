@@ -10,7 +10,7 @@
 --   MetAfter r memory limit met   where nothing was found and the limit not used up, the lent words keep the keys met
 --   Meets r memory last limit left key   what the code's `meet` of a key tells, and leaves in the lent words
 -- Assumes nothing.
-use Rattle.std.specs.Prelude.{ℕ, zero, suc, ◌+◌, ◌-◌, ◌<◌, ◌≤◌, ◌≡◌, Bool, true, false, List, [], ◌∷◌, ◌++◌, map, take}
+use Rattle.std.specs.Prelude.{ℕ, zero, suc, ◌-◌, ◌<◌, ◌≤◌, ◌≡◌, Bool, true, false, List, [], ◌∷◌, ◌++◌, map, take}
 use Rattle.cases.specs.declared.case.Step.{Step}
 use Rattle.machine.specs.Sizes.{most_work}
 use Rattle.search.specs.declared.walk.Walked.{Walked}

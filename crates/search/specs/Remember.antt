@@ -22,7 +22,6 @@ use Rattle.cases.specs.declared.case.Ask.{Ask}
 use Rattle.cases.specs.declared.case.Step.{Step}
 use Rattle.cases.specs.Choice.{pick, both, either}
 use Rattle.cases.specs.Reading.{number_of, offset_of, read_of}
-use Rattle.machine.specs.declared.cells.State.{State}
 use Rattle.machine.specs.Model.{Model}
 use Rattle.machine.specs.Ptso.{ptso}
 use Rattle.search.specs.declared.ask.Outcome.TheVariants.{Refused}

@@ -2,13 +2,11 @@
 -- begins (start), and one law for each point of the loop that uses it (next, here, end). Assumes nothing.
 use Prim.Native.Nat.{ℕ, zero, suc, ◌+◌, ◌*◌, ◌-◌, ◌≤◌, ◌<◌}
 use mathlib.Core.Path.{◌≡◌, refl, ap, sym, ◌∙◌}
-use mathlib.Core.Logic.{◌≢◌, ⊎_elim}
+use mathlib.Core.Logic.{◌≢◌}
 use mathlib.Core.Bool.{true, false}
 use mathlib.Core.List.{List, [], ◌∷◌}
 use native.Mathlib.Omega.{arith}
 use native.Mathlib.Nat.{zero-add, add-zero}
-use types.Run.{OneOf}
-use denote.Enum.Declared.{tag_of}
 use borrow.Author.Tests.{eq-eqb, ne_eqb}
 use lib.ListN.{length, get_or, take, drop}
 use Rattle.cases.specs.declared.case.Program.{Program}
@@ -21,7 +19,6 @@ use Rattle.machine.specs.declared.cells.Entry.{Entry}
 use Rattle.machine.specs.declared.cells.Entry.TheVariants.{Store, Flush, FlushOpt, Sfence}
 use Rattle.machine.specs.View.{Slot, part, slots, blank_waiting, buffer_in}
 use Rattle.machine.specs.Look.{word_or, newest_write, stored_or, newest_store, bars, first_bar}
-use Rattle.machine.specs.contracts.cells.Entry.{the_type}
 use Rattle.machine.proofs.lists.PartLaws.{take_part, part_next, part_end}
 use Rattle.machine.proofs.view.SlotLaws.{slots_end, slots_next}
 

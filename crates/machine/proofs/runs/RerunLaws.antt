@@ -20,7 +20,6 @@ use Rattle.cases.proofs.ChoiceLaws.{pick_false, true_not}
 use Rattle.machine.specs.declared.cells.State.{State}
 use Rattle.machine.specs.declared.runs.Verdict.TheVariants.{Legal}
 use Rattle.machine.specs.Rules.{start_of}
-use Rattle.machine.specs.Work.{work}
 use Rattle.machine.specs.Model.{full_length, Leads, Faultless}
 use Rattle.machine.specs.Judge.{judged, judge_from, run_of, judge_run, judge_of}
 use Rattle.machine.specs.Ptso.{ptso}

@@ -29,7 +29,6 @@ use Rattle.machine.proofs.lists.PutLaws.{length_without}
 use Rattle.machine.proofs.view.BufferLaws.{buffer_same, buffer_other}
 use Rattle.machine.proofs.fit.FitLaws.{fits_buffer_within, fits_buffer_long}
 use Rattle.machine.proofs.fit.SpareLaws.{taken_spare}
-use Rattle.machine.proofs.steps.IssueLaws as IssueLaws
 use Rattle.machine.proofs.steps.StepLaws.{move_there, move_named}
 use Rattle.machine.proofs.steps.AddsLaws.{Adds, effect_adds}
 

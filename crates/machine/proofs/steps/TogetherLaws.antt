@@ -1,12 +1,11 @@
 -- All entries in queues and buffers and all unissued instructions together: a legal step makes them no more, so that
 -- after a legal run they are at most the program's instructions. Assumes nothing.
-use Prim.Native.Nat.{ℕ, zero, suc, ◌+◌, ◌-◌, ◌≤◌, ◌<◌}
+use Prim.Native.Nat.{ℕ, suc, ◌+◌, ◌≤◌, ◌<◌}
 use mathlib.Core.Path.{◌≡◌, refl, sym, ap, ◌∙◌}
 use mathlib.Core.Logic.{◌≢◌, ⊎_elim, inl, inr}
 use mathlib.Core.Bool.{Bool, true, false}
 use mathlib.Core.List.{List, [], ◌∷◌, ◌++◌}
 use native.Mathlib.Omega.{arith}
-use native.Mathlib.Decide.{ℕ_discrete}
 use borrow.Author.Tests.{eq-eqb, ne_eqb}
 use lib.Dec.{eqb}
 use lib.ListN.{length, length-append}
@@ -21,11 +20,10 @@ use Rattle.cases.specs.Checks.{limits_of, lines_of, step_fault, count_at, instru
 use Rattle.cases.proofs.ChoiceLaws.{never_both}
 use Rattle.cases.proofs.Promises.{thread_low}
 use Rattle.machine.specs.declared.cells.State.{State}
-use Rattle.machine.specs.declared.cells.Waiting.{Waiting}
 use Rattle.machine.specs.declared.cells.Entry.{Entry}
 use Rattle.machine.specs.declared.cells.Entry.TheVariants.{Store, Flush, FlushOpt, Sfence}
 use Rattle.machine.specs.View.{Slot, line_of, write_slot, queue, queue_len, buffer, buffer_len, issued_of}
-use Rattle.machine.specs.Rules.{is_barrier, matches, entry_at, rule_of, next_of, start_of}
+use Rattle.machine.specs.Rules.{is_barrier, matches, rule_of, next_of, start_of}
 use Rattle.machine.specs.Joins.{joins, swaps, exchanges, enters}
 use Rattle.machine.specs.Fit.{sum_to, unissued, due, together, instructions_of, Fits}
 use Rattle.machine.specs.Model.{Leads, Faultless}

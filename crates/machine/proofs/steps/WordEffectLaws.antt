@@ -1,7 +1,7 @@
 -- What each legal step does to the words on their way to a location, whichever queue they go through: an issue
 -- and a move put what they bring there at the end; a persist takes what goes there from the front. Assumes
 -- nothing.
-use Prim.Native.Nat.{ℕ, ◌+◌, ◌<◌}
+use Prim.Native.Nat.{ℕ, ◌<◌}
 use mathlib.Core.Path.{◌≡◌, refl, sym, ap, ◌∙◌}
 use mathlib.Core.Logic.{◌≢◌, inl, inr}
 use mathlib.Core.Bool.{Bool, true, false}

@@ -3,9 +3,9 @@ use Prim.Native.Nat.{ℕ, suc, ◌*◌, ◌-◌, ◌<◌, ◌≤◌}
 use mathlib.Core.Path.{◌≡◌, refl, sym, ap, subst, ◌∙◌}
 use mathlib.Core.Logic.{◌≢◌, inl}
 use mathlib.Core.Bool.{Bool}
-use mathlib.Core.List.{List, ◌∷◌, ◌++◌}
-use lib.ListN.{length, drop}
-use borrow.Author.Tests.{lt-ltb, le-ltb, eq-eqb, ne_eqb}
+use mathlib.Core.List.{List, ◌∷◌}
+use lib.ListN.{length}
+use borrow.Author.Tests.{eq-eqb, ne_eqb}
 use native.Mathlib.Omega.{arith}
 use Rattle.cases.specs.declared.case.Step.{Step}
 use Rattle.cases.specs.declared.case.Program.{Program}
@@ -14,10 +14,8 @@ use Rattle.cases.specs.declared.reader.Reading.{Reading}
 use Rattle.cases.specs.Sizes.{step_size}
 use Rattle.machine.specs.Sizes.{most_work}
 use Rattle.cases.specs.Reading.{number_of, offset_of, read_of}
-use Rattle.cases.specs.Seats.{steps_bytes}
 use Rattle.cases.proofs.ChoiceLaws.{pick_true, pick_false}
-use Rattle.cases.proofs.ArrayLaws.{sets_front}
-use Rattle.cases.proofs.Promises.{steps_bytes_length, read_ranged}
+use Rattle.cases.proofs.Promises.{read_ranged}
 use Rattle.machine.specs.declared.cells.State.{State}
 use Rattle.machine.specs.Rules.{start_of}
 use Rattle.cases.specs.Ranges.{ProgramFits}

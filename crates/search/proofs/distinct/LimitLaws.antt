@@ -1,5 +1,5 @@
 -- The limit L, and how much of it a walk uses up. Assumes nothing.
-use Prim.Native.Nat.{ℕ, suc, zero, ◌+◌, ◌-◌, ◌*◌, ◌/◌, ◌≤◌, ◌<◌}
+use Prim.Native.Nat.{ℕ, suc, zero, ◌+◌, ◌*◌, ◌/◌, ◌≤◌, ◌<◌}
 use mathlib.Core.Path.{◌≡◌, refl, sym, ap, subst, ◌∙◌}
 use mathlib.Core.Logic.{◌⊎◌, inl, inr}
 use mathlib.Core.Bool.{Bool, true, false}
@@ -11,10 +11,9 @@ use native.Mathlib.Omega.{arith}
 use Rattle.cases.specs.declared.case.Step.{Step}
 use Rattle.cases.proofs.ChoiceLaws.{pick_true, pick_false, pick_cases}
 use Rattle.search.specs.declared.walk.Walked.{Walked}
-use Rattle.search.specs.declared.walk.Walked.TheVariants.{Found, Finished, Stopped}
+use Rattle.search.specs.declared.walk.Walked.TheVariants.{Finished}
 use Rattle.search.specs.Sizes.{state_words}
 use Rattle.search.specs.Walk.{Visit}
-use Rattle.search.specs.Question.{reached, unreachable, undecided}
 use Rattle.search.specs.Seek.{Sought, hit, done, used_up, seek, walked_of}
 use Rattle.search.specs.Remember.{covers_of, states_of}
 use Rattle.search.specs.Recall.{WithinLimit, states_walked}

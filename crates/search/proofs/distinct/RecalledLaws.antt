@@ -9,7 +9,7 @@ use lib.Dec.{eqb}
 use borrow.Author.Tests.{lt-ltb, le-ltb, eq-eqb, ne_eqb, eqb-true}
 use native.Mathlib.Omega.{arith}
 use Rattle.cases.specs.declared.case.Step.{Step}
-use Rattle.cases.specs.Sizes.{longest, step_size}
+use Rattle.cases.specs.Sizes.{step_size}
 use Rattle.cases.specs.Reading.{number_of, offset_of, read_of}
 use Rattle.cases.specs.Seats.{steps_bytes}
 use Rattle.cases.proofs.ChoiceLaws.{pick_true, pick_false, pick_cases, pick_pair}
@@ -19,7 +19,7 @@ use Rattle.machine.specs.Ptso.{ptso}
 use Rattle.machine.proofs.Promises.{read_fits, ptso_lawful, full_length_most}
 use Rattle.search.specs.declared.ask.Outcome.TheVariants.{Reached, Unreachable, Undecided, Refused}
 use Rattle.search.specs.declared.distinct.Remembered.{Remembered}
-use Rattle.search.specs.Question.{reaches, reached, unreachable, undecided, outcome_no, outcome_place, short}
+use Rattle.search.specs.Question.{reaches, reached, unreachable, undecided, outcome_no, short}
 use Rattle.search.specs.Question.{answer_by, shown_after}
 use Rattle.search.specs.Lanes.{lanes_of}
 use Rattle.search.specs.Remember.{distinct_of, states_of, covers_of, recall_for, remember_for, remember_of, recalled_of}

@@ -1,5 +1,5 @@
 -- The code of the question over distinct states: where it begins, what it comes to, what it leaves. Assumes nothing.
-use Prim.Native.Nat.{ℕ, zero, suc, ◌*◌, ◌-◌, ◌<◌, ◌≤◌}
+use Prim.Native.Nat.{ℕ, ◌*◌, ◌-◌, ◌<◌, ◌≤◌}
 use mathlib.Core.Path.{◌≡◌, refl, sym, ap, subst, ◌∙◌}
 use mathlib.Core.Logic.{◌≢◌}
 use mathlib.Core.Bool.{Bool}
@@ -16,10 +16,9 @@ use Rattle.cases.specs.Ranges.{ProgramFits}
 use Rattle.cases.specs.Reading.{number_of, offset_of, read_of}
 use Rattle.cases.proofs.ChoiceLaws.{pick_true, pick_false}
 use Rattle.machine.specs.declared.cells.State.{State}
-use Rattle.machine.specs.Sizes.{most_work}
 use Rattle.machine.specs.Rules.{start_of}
 use Rattle.machine.specs.Work.{work}
-use Rattle.machine.specs.Model.{Model, Lawful, full_length, Listed}
+use Rattle.machine.specs.Model.{Model, Lawful, full_length}
 use Rattle.machine.specs.Ptso.{ptso}
 use Rattle.machine.proofs.Promises.{ptso_lawful, start_fits, full_length_most, start_together, instructions_most}
 use Rattle.search.specs.declared.walk.Walked.{Walked}
@@ -28,9 +27,9 @@ use Rattle.search.specs.declared.ask.Outcome.{Outcome}
 use Rattle.search.specs.declared.ask.Outcome.TheVariants.{Refused}
 use Rattle.search.specs.declared.distinct.Remembered.{Remembered}
 use Rattle.search.specs.Sizes.{state_words}
-use Rattle.search.specs.Walk.{Visit, here, walk_of, walk_from}
-use Rattle.search.specs.Question.{reaches, Decided, reached, short, answer_by, shown_after}
-use Rattle.search.specs.Seek.{Sought, hit, seek, walked_of, walked_outcome, stored_of}
+use Rattle.search.specs.Walk.{Visit, here, walk_from}
+use Rattle.search.specs.Question.{reaches, Decided, reached, short, shown_after}
+use Rattle.search.specs.Seek.{Sought, seek, walked_of, walked_outcome, stored_of}
 use Rattle.search.specs.Lanes.{lanes_of}
 use Rattle.search.specs.Listing.{listing_of}
 use Rattle.search.specs.Taken.{padded}

@@ -4,7 +4,7 @@
 --   Recalling                  what the loop keeps: the next steps from position i on are still to be gone through, where
 --                              met are the keys met by then
 -- Assumes nothing.
-use Prim.Native.Nat.{ℕ, zero, suc, ◌+◌, ◌-◌, ◌≤◌, ◌<◌}
+use Prim.Native.Nat.{ℕ, zero, suc, ◌-◌, ◌≤◌}
 use mathlib.Core.Path.{◌≡◌, refl, sym, ap, ◌∙◌}
 use mathlib.Core.Logic.{◌≢◌}
 use mathlib.Core.Bool.{Bool, true, false}
@@ -15,10 +15,9 @@ use Rattle.cases.specs.declared.case.Step.{Step}
 use Rattle.cases.specs.Seats.{steps_bytes}
 use Rattle.cases.specs.Record.{bytes_of}
 use Rattle.search.specs.declared.next.Ranks.{Ranks}
-use Rattle.search.specs.declared.walk.Walked.{Walked}
 use Rattle.search.specs.declared.walk.Walked.TheVariants.{Found, Finished, Stopped}
 use Rattle.search.specs.Walk.{Machine, Visit, here}
-use Rattle.search.specs.Seek.{Sought, hit, done, used_up, seek, walked_of, stored_of}
+use Rattle.search.specs.Seek.{hit, done, used_up, seek, walked_of, stored_of}
 use Rattle.search.specs.Remember.{among}
 use Rattle.search.specs.Recall.{met_by, starting_new, remembering}
 use Rattle.search.proofs.walk.WalkLoopLaws.{Lists, Left, left_as}

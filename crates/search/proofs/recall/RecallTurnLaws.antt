@@ -1,8 +1,8 @@
 -- A turn of the loop of the walk that remembers: what it may take for granted, and each way out of it. Assumes nothing.
-use Prim.Native.Nat.{ℕ, suc, ◌+◌, ◌*◌, ◌<◌}
+use Prim.Native.Nat.{ℕ, ◌+◌, ◌*◌, ◌<◌}
 use mathlib.Core.Path.{◌≡◌, sym, ap, ◌∙◌}
 use mathlib.Core.Bool.{Bool}
-use mathlib.Core.List.{List, ◌∷◌, ◌++◌, map}
+use mathlib.Core.List.{List, ◌++◌, map}
 use lib.ListN.{get_or, drop}
 use lib.Seq.{sets}
 use native.Mathlib.Omega.{arith}

@@ -18,7 +18,7 @@ use Rattle.cases.specs.Sizes.{step_size}
 use Rattle.search.specs.declared.walk.Walked.{Walked}
 use Rattle.search.specs.declared.walk.Walked.TheVariants.{Found, Finished, Stopped}
 use Rattle.search.specs.Walk.{Visit, under}
-use Rattle.search.specs.Seek.{Sought, hit, done, used_up, seek, walked_of, stored_of}
+use Rattle.search.specs.Seek.{Sought, hit, used_up, seek, walked_of, stored_of}
 use Rattle.search.proofs.seek.SeekLaws.{onward, behind_step, seek_append, seek_under, walked_found}
 use Rattle.search.proofs.seek.SeekLaws.{walked_finished, walked_stopped}
 use Rattle.search.proofs.shown.StoreLaws.{step_before, length_stored}

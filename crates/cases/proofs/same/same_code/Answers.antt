@@ -1,5 +1,4 @@
 use Rattle.std.proofs.Common.{arith}
-use Rattle.cases.specs.Writing.{same_instruction}
 use Rattle.cases.specs.Checks.{no_instruction}
 use Rattle.cases.proofs.ChoiceLaws.{told_true, told_false}
 use Rattle.cases.proofs.ArrayLaws.{unmapped}

@@ -1,5 +1,4 @@
 use Rattle.std.proofs.Common.{arith, false, rules}
-use Rattle.cases.specs.Writing.{same_flag}
 use Rattle.cases.proofs.ChoiceLaws.{told_true, told_false}
 use Rattle.cases.proofs.same.SameLaws.{same_start, same_next, same_here, same_end}
 use Rattle.cases.proofs.same.same_flags.Goals as goal

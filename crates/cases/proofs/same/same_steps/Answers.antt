@@ -1,5 +1,4 @@
 use Rattle.std.proofs.Common.{arith}
-use Rattle.cases.specs.Writing.{same_step}
 use Rattle.cases.specs.Draft.{no_step}
 use Rattle.cases.proofs.ChoiceLaws.{told_true, told_false}
 use Rattle.cases.proofs.ArrayLaws.{unmapped}

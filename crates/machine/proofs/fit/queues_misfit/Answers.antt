@@ -1,6 +1,6 @@
 use Rattle.std.proofs.Common.{arith, rules}
 use Rattle.cases.proofs.ChoiceLaws.{told}
-use Rattle.machine.specs.Fit.{due, queue_misfits}
+use Rattle.machine.specs.Fit.{due}
 use Rattle.machine.proofs.lists.AnyLaws.{any_start, any_next, any_here, any_end}
 use Rattle.machine.proofs.fit.MisfitLaws.{due_most}
 use Rattle.machine.proofs.fit.queues_misfit.Goals as goal

@@ -1,6 +1,5 @@
 use Rattle.std.proofs.Common.{arith}
 use Rattle.cases.proofs.ChoiceLaws.{told}
-use Rattle.machine.specs.Fit.{thread_misfits}
 use Rattle.machine.proofs.lists.AnyLaws.{any_start, any_next, any_here, any_end}
 use Rattle.machine.proofs.fit.threads_misfit.Goals as goal
 

@@ -1,4 +1,4 @@
-use Rattle.std.proofs.Common.{refl, ap, ◌∙◌, arith, length, rules}
+use Rattle.std.proofs.Common.{refl, ◌∙◌, arith, rules}
 use Rattle.search.proofs.walk.WalkHeldLaws.{held_fits, held_few, held_long, held_takes, held_deep}
 use Rattle.search.proofs.walk.WalkHeldLaws.{held_room, held_next, held_below}
 use Rattle.search.proofs.recall.RecallTurnLaws.{recalls_listed, recalls_found, recalls_stopped}

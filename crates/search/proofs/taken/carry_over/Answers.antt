@@ -1,6 +1,5 @@
 -- `carry_over` meets its contract. Assumes nothing.
-use Rattle.std.proofs.Common.{◌+◌, ◌≤◌, arith}
-use Rattle.search.specs.Sizes.{most_lanes}
+use Rattle.std.proofs.Common.{arith}
 use Rattle.search.specs.Taken.{row_carried}
 use Rattle.search.proofs.taken.RowLenLaws.{carried_within, carried_discount, carried_count}
 use Rattle.search.proofs.taken.carry_over.Goals as goal

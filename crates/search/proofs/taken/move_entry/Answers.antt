@@ -1,7 +1,7 @@
 -- `move_entry` meets its contract. Assumes nothing.
-use Rattle.std.proofs.Common.{◌+◌, ◌*◌, arith}
+use Rattle.std.proofs.Common.{arith}
 use Rattle.search.specs.Taken.{move_lanes}
-use Rattle.search.proofs.taken.RowLenLaws.{EntryWithin, entry_within}
+use Rattle.search.proofs.taken.RowLenLaws.{entry_within}
 use Rattle.search.proofs.taken.move_entry.Goals as goal
 
 pub overflow_mul-at : goal.overflow_mul-at

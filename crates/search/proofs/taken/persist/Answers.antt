@@ -1,7 +1,6 @@
 -- `persist` meets its contract. Assumes nothing.
-use Rattle.std.proofs.Common.{◌+◌, ◌*◌, arith}
-use Rattle.search.specs.Rows.{queue_row}
-use Rattle.search.proofs.taken.RowLenLaws.{EntryWithin, entry_within}
+use Rattle.std.proofs.Common.{arith}
+use Rattle.search.proofs.taken.RowLenLaws.{entry_within}
 use Rattle.search.proofs.taken.TakenLaws.{persist_write, persist_marker}
 use Rattle.search.proofs.taken.persist.Goals as goal
 

@@ -1,6 +1,6 @@
-use Rattle.std.proofs.Common.{ap, ◌∙◌, arith, length, rules}
+use Rattle.std.proofs.Common.{◌∙◌, arith, rules}
 use Rattle.search.proofs.walk.WalkLoopLaws.{left_used_up, left_here, walking_end}
-use Rattle.search.proofs.walk.WalkTurnLaws.{turn_listed, turn_length, turn_put, turn_found, turn_stopped}
+use Rattle.search.proofs.walk.WalkTurnLaws.{turn_listed, turn_length, turn_found, turn_stopped}
 use Rattle.search.proofs.walk.WalkTurnLaws.{turn_finished}
 use Rattle.search.proofs.walk.WalkHeldLaws.{walks_start, held_fits, held_few, held_long, held_takes}
 use Rattle.search.proofs.walk.WalkHeldLaws.{held_deep, held_room, held_next, held_below}
