@@ -74,8 +74,9 @@ pub(crate) fn end(rt: HostRuntime) -> io::Result<()> {
 }
 
 // Which buffer or queue, and the position in it.
-pub(crate) fn place(rt: HostRuntime, word: &str, number: u8, position: u8) -> io::Result<()> {
-    print!(rt; "{word}{number}.{position}")
+pub(crate) fn place(rt: HostRuntime, word: &[u8], number: u8, position: u8) -> io::Result<()> {
+    rt.write_all(word)?;
+    print!(rt; "{number}.{position}")
 }
 
 pub(crate) fn number(rt: HostRuntime, n: usize) -> io::Result<()> {

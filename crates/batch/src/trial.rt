@@ -27,8 +27,8 @@ fn print_weight(rt: HostRuntime, w: Weighed) -> io::Result<()> {
 // `B0.2` or `Q1.0`, and nothing where no entry is named.
 fn print_place(rt: HostRuntime, b: Blocker) -> io::Result<()> {
     match b {
-        Blocker::InBuffer(t, i) => print::place(rt, " B", t.0, i),
-        Blocker::InQueue(q, i) => print::place(rt, " Q", q.0, i),
+        Blocker::InBuffer(t, i) => print::place(rt, b" B", t.0, i),
+        Blocker::InQueue(q, i) => print::place(rt, b" Q", q.0, i),
         Blocker::NoEntry => Ok(())
     }
 }
