@@ -7,5 +7,5 @@ pub mod StepsLaws
 pub mod CutLaws
 -- other, run: a case with other steps
 pub mod OtherRunLaws
--- twin: a case of version 2 with a line each; versioned, reads-on, ReadsOn
+-- twin: a case of version 2 with a line each; versioned, reads_on, ReadsOn
 pub mod TwinLaws

@@ -1,9 +1,9 @@
 -- Reading (specs/Reading).
 -- read_cases; which record decides: unopened, faulty, sound; nothing, end, record; as_record, behind
 pub mod ReadLaws
--- read-loop: the loop; ReadSoFar
+-- read_loop: the loop; ReadSoFar
 pub mod ReadLoopLaws
--- round-trip: from the first record to the last; RoundTripTold
+-- round_trip: from the first record to the last; RoundTripTold
 pub mod RoundTripLaws
 -- unread: the unread part
 pub mod UnreadLaws

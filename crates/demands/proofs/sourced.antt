@@ -1,5 +1,5 @@
 -- Where the words of a run come from (specs/Sources).
--- step-keeps, step_takes, set-last, needed: what the registers hold
+-- step_keeps, step_takes, set_last, needed: what the registers hold
 pub mod TookLaws
 -- stored: what a store of a register fixes
 pub mod StoredLaws

@@ -1,7 +1,7 @@
 -- A location's writes, from thread to queue to memory (specs/Writes).
 -- last: the last of some words; append, cons; settles, Settles
 pub mod LastLaws
--- stores, storesOf, fixes, fixes_from: those that wait and those that are still to fix; gathered: of each entry
+-- stores, stores_of, fixes, fixes_from: those that wait and those that are still to fix; gathered: of each entry
 pub mod StoresLaws
 -- coming: what is still to come; move_passing, persist_passing, Passing
 pub mod ComingLaws

@@ -1,9 +1,9 @@
 -- Over lists and numbers of any kind; other crates can name these too.
 -- part: a part of a list; its drop, take, get_d and length; lt_or_ge
 pub mod PartLaws
--- put, part-put, shift, length-without: a list put into another, one left out; get_d behind it
+-- put, part_put, shift, length_without: a list put into another, one left out; get_d behind it
 pub mod PutLaws
--- any, none-any: a test is true of one number, or of one on a list; AskedSoFar, AnySoFar
+-- any, none_any: a test is true of one number, or of one on a list; AskedSoFar, AnySoFar
 pub mod AnyLaws
 -- all, none_all: what holds of each on a list
 pub mod AllLaws
@@ -11,5 +11,5 @@ pub mod AllLaws
 pub mod ListedLaws
 -- stands, within_stands, some_stands: what stands at a position of a list
 pub mod StandsLaws
--- sum, some-or-none: sums, and the loops that sum; SummedSoFar
+-- sum, some_or_none: sums, and the loops that sum; SummedSoFar
 pub mod SumLaws

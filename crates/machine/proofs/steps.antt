@@ -3,7 +3,7 @@
 pub mod StepFaultLaws
 -- issue_fits, issue_work and issue_left; load, compare
 pub mod IssueLaws
--- move_fits, persist_work, step-fits and their like
+-- move_fits, persist_work, step_fits and their like
 pub mod StepLaws
 -- fails_none, cost_one, failures_none: of a program without a compare
 pub mod FailureLaws

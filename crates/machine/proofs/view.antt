@@ -9,5 +9,5 @@ pub mod BufferLaws
 pub mod IssuedLaws
 -- sized: the arrays are as long as they were, whatever is put
 pub mod SizedLaws
--- lineOf, linesOf: line_there and its like, few_lines
+-- line_of, lines_of: line_there and its like, few_lines
 pub mod LineOfLaws

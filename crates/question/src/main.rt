@@ -17,7 +17,7 @@ fn answer(rt: HostRuntime, bytes: &[u8]) -> io::Result<()> {
 }
 
 fn main(rt: HostRuntime) -> io::Result<()> {
-    // Reading looks at no byte behind 2,640, so that a fixed buffer answers for an input of any length.
+    // Reading looks at no byte behind 2,664, so that a fixed buffer answers for an input of any length.
     let mut lent = input::large_buffer();
     let filled = input::fill(&mut rt.stdin(), &mut lent);
     match filled {

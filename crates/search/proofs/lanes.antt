@@ -1,7 +1,7 @@
 -- The lanes (specs/Lanes), seen apart from any state, and of a state.
 -- any, sum, listed: over any test, sum or list
 pub mod GeneralLaws
--- Seen, changed, lay, Even, with_issued, with_long, with_word, with_register, with_registers, withRow, with_joined, with_left
+-- Seen, changed, lay, Even, with_issued, with_long, with_word, with_register, with_registers, with_row, with_joined, with_left
 pub mod SeenLaws
 -- changed, shifted, join, each; length, get, set: what stands one behind the other
 pub mod JoinLaws
@@ -9,7 +9,7 @@ pub mod JoinLaws
 pub mod ShiftLaws
 -- entry, waiting, slot, spread; length, get: entries, two lanes each
 pub mod SpreadLaws
--- byTag, tag: a choice by an entry's tag
+-- by_tag, tag: a choice by an entry's tag
 pub mod TagLaws
 -- Agree, front, behind, lay, see, set, count, discount: what stands where, and what a change does
 pub mod LayLaws
