@@ -1,10 +1,11 @@
 -- Document 01, "Records of a case" and "Refusal numbers": reading. "Records are checked from the left; the
 -- first faulty one decides."
 --   number_of, offset_of   the number that an answer stands for, and its offset
---   read_from n d at s    what reading s answers, which lies at offset `at` behind the draft d; fewer than n
---                        records are left
---   read_of s             what reading s answers
---   unread_of s           the part of s that was not read
+--   read_from n d at s     what reading s answers, which lies at offset `at` behind the draft d; fewer than n
+--                          records are left
+--   read_of s              what reading s answers
+--   unread_of s            the part of s that was not read
+--   unread_at place s      where that part lies, if s lies at that place: in the same memory, behind what was read
 -- Assumes nothing.
 use Rattle.std.specs.Prelude.{ℕ, zero, suc, ◌+◌, List, length, drop, eqb}
 use Rattle.cases.specs.declared.draft.Draft.{Draft}
@@ -57,3 +58,7 @@ read_of s = read_from (suc (length s)) blank_draft 0 s
 
 unfoldable pub unread_of : List ℕ → List ℕ
 unread_of s = drop (offset_of (read_of s).answer) s
+
+-- "the part of the caller's own bytes": a place is a piece of memory, and an offset in it
+abbrev pub unread_at : ℕ × ℕ → List ℕ → ℕ × ℕ
+unread_at place s = (place.0, offset_of (read_of s).answer + place.1)

@@ -1,6 +1,6 @@
 // Reading: any bytes are a case, or are refused at the first faulty record.
 ghost use Rattle.std.specs.Prelude.{◌≡◌};
-ghost use Rattle.cases.specs.Reading.{number_of, offset_of, refused_of, read_of, unread_of};
+ghost use Rattle.cases.specs.Reading.{number_of, offset_of, refused_of, read_of, unread_of, unread_at};
 
 use crate::case::Case;
 use crate::checks::fault;
@@ -78,7 +78,8 @@ pub fn read(bytes: &[u8]) -> Reading
 
 // The caller's own bytes from the faulty record on; none where all were read.
 pub fn unread(bytes: &[u8]) -> &[u8]
-    ensures { result.now ≡ unread_of bytes.now }
+    ensures content { result.now ≡ unread_of bytes.now }
+    ensures place { result.ref_ptr ≡ unread_at bytes.entry.ref_ptr bytes.now }
 {
     let r = read(bytes);
     let answer = r.answer;
