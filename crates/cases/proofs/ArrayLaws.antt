@@ -21,11 +21,11 @@ pub length_none {ℓ} : {A : Type ℓ} (xs : List A) → length xs ≡ 0 → xs 
 length_none [] h = refl
 length_none (x ∷ xs) h = absurd (omega arith)
 
-pub get_d_blank {ℓ} : {A : Type ℓ} (n i : ℕ) (d : A) → get_or (replicate n d) i d ≡ d
-get_d_blank zero zero d = refl
-get_d_blank zero (suc i) d = refl
-get_d_blank (suc n) zero d = refl
-get_d_blank (suc n) (suc i) d = get_d_blank n i d
+pub get_or_blank {ℓ} : {A : Type ℓ} (n i : ℕ) (d : A) → get_or (replicate n d) i d ≡ d
+get_or_blank zero zero d = refl
+get_or_blank zero (suc i) d = refl
+get_or_blank (suc n) zero d = refl
+get_or_blank (suc n) (suc i) d = get_or_blank n i d
 
 -- an index where something stands is within its list
 pub within : {A : Type 0} (l : List A) (i : ℕ) (blank : A) → get_or l i blank ≢ blank → i < length l

@@ -1,7 +1,7 @@
 -- Document 01, "Records of a case": "Numbers are little-endian."
---   half s i, word_at s i    the number of two or four bytes from i on; a byte past the end counts as 0
+--   half s i, word_at s i     the number of two or four bytes from i on; a byte past the end counts as 0
 --   half_bytes, word_bytes    the bytes of such a number
---   IsBytes s               every element of s is a byte
+--   IsBytes s                 every element of s is a byte
 -- Assumes nothing.
 use Rattle.std.specs.Prelude.{ℕ, ◌+◌, ◌*◌, ◌/◌, ◌%◌, ◌<◌, List, [], ◌∷◌, get_or}
 

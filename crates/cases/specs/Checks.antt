@@ -4,18 +4,18 @@
 -- test, 4, the ranges of version, threads and locations (5), 3 again for a length not that version's and
 -- count's, and 8 for line numbers out of order." P8, of kind 3: 10, "checked after 7".
 --   kind_rank         where a kind stands in the order of kinds
---   misplaced        4
+--   misplaced         4
 --   header_out, instruction_out, passed_out, step_out
---                    5: something that a record of that kind names is out of range
---   mislisted        3, of kind 1: the number of line bytes is not that version's and count's
+--                     5: something that a record of that kind names is out of range
+--   mislisted         3, of kind 1: the number of line bytes is not that version's and count's
 --   instruction_left, step_left
---                    8: a field left over that is not used
---   disordered       6
---   unset            10: a store of a register, or a compare, whose register no earlier instruction sets
+--                     8: a field left over that is not used
+--   disordered        6
+--   unset             10: a store of a register, or a compare, whose register no earlier instruction sets
 --   uses_location, uses_register, uses_word
---                    which fields an operation uses
+--                     which fields an operation uses
 --   needs_register, sets_register
---                    an operation needs a word in its register; it sets its register
+--                     an operation needs a word in its register; it sets its register
 --   no_instruction    what stands in an array where the case has nothing
 --   count_at p t      how many instructions thread t of the program p has
 --   instruction_at p t i   its instruction i
@@ -23,7 +23,7 @@
 --   set_before p t r n   one of the first n instructions of thread t does
 --   lines_of p        how many lines the program p has, each with its queue
 --   Limits, limits_of p
---                    what a step may name, and what a step of the program p may
+--                     what a step may name, and what a step of the program p may
 --   fault_of d r      0, or the number of the first fault of record r behind the draft d
 -- Assumes nothing.
 use Rattle.std.specs.Prelude.{ℕ, zero, suc, ◌+◌, ◌*◌, Bool, false, not, get_or, eqb, leb, ltb}

@@ -5,7 +5,7 @@
 --   line_table h, line_count h   on which line each location lies, and how many lines there are, by that record
 --   with_header   the case with what the program's record says: its version, and with_sizes
 --   with_sizes, with_first, with_instruction, with_want, with_passed, with_step
---                a part of the case with what one record says
+--                 a part of the case with what one record says
 --   with_program, with_ask, with_run, with_version   a case with another such part, or another version
 --   run_with ks   a run of the steps ks, as a case holds it
 --   blank_draft   the draft before any record

@@ -2,10 +2,10 @@
 -- program's record has one line byte for each location.
 --   own_version, line_version   the versions; last_version: there is none behind it
 --   listed_of version n    how many line bytes a record of that version has for n locations
---   table f n             a number for each location that there may be: f l for each l below n, 0 behind
+--   table f n              a number for each location that there may be: f l for each l below n, 0 behind
 --   own_lines n            a line each for n locations
 --   new_after next x       the next new line number, once x has been seen
---   unordered next xs     a line number of xs is out of order, where the next new one is `next`
+--   unordered next xs      a line number of xs is out of order, where the next new one is `next`
 --   lines_in next xs       how many lines there are, once xs has been seen too
 -- Assumes nothing.
 use Rattle.std.specs.Prelude.{ℕ, zero, suc, ◌+◌, List, [], ◌∷◌, Bool, false, replicate, set, eqb, ltb}

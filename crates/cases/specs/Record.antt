@@ -2,7 +2,7 @@
 --   kind_of r           the record's kind, 1 to 6
 --   payload_of k        how long the payload of kind k is at least; 0: there is no such kind
 --   spare_of k          how much longer it may be: a line byte for each location, of kind 1
---   mislong k n        a payload of n bytes is shorter or longer than one of kind k may be
+--   mislong k n         a payload of n bytes is shorter or longer than one of kind k may be
 --   row_list x, as_row xs   a byte for each location, one by one, and such a list as these bytes
 --   line_bytes h        the line bytes of a program's record
 --   record_bytes r      the record's bytes: "a two-byte payload length, a two-byte kind, the payload"

@@ -2,10 +2,10 @@
 -- in one fixed order: the program; the first content of each location; the instructions of each thread; the
 -- want of each location; the passed count of each thread; the steps. A seat holds a record or is empty.
 --   from_firsts, from_code, from_wants, from_passed, from_steps   where the seats of each kind begin
---   seats          how many there are
+--   seats           how many there are
 --   listed_lines c  the lines that the program's record lists
 --   header_seat, first_seat, instruction_seat, want_seat, passed_seat, step_seat
---                  what stands at a seat of that kind, counted from the first of its kind
+--                   what stands at a seat of that kind, counted from the first of its kind
 --   seat_of c k     what stands at seat k of the case's file
 --   seat_bytes x    a seat's bytes: none where it is empty
 --   bytes_at c k    those of seat k

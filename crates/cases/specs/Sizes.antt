@@ -6,7 +6,7 @@
 --   step_size        a step's record, head and payload
 --   short_record     the longest record but the program's: an instruction's
 --   longest_record   the longest record: the program's, with a line byte for each location
---   longest         the longest file, in bytes: every seat of a file filled (Seats)
+--   longest          the longest file, in bytes: every seat of a file filled (Seats)
 -- Assumes nothing.
 use Rattle.std.specs.Prelude.{ℕ, ◌+◌, ◌*◌}
 

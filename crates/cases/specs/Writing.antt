@@ -1,7 +1,7 @@
 -- Document 01, "Refusal numbers": writing, and 32, "a case in memory that no byte string reads as".
 --   wrote_no, wrote_length   the number that an answer stands for, and the length
 --   same_list, same_flag, same_instruction, same_step, same_sizes, same_program, same_ask, same_run, same_case
---                    the two are the same in every field; same_list by a test of two elements
+--                     the two are the same in every field; same_list by a test of two elements
 --   reads_back c      the case's file reads as the case: 32 where it does not
 --   wrote_of c out    what writing the case into the lent bytes `out` answers
 --   written_of c out  what they hold afterwards

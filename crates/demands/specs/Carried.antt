@@ -1,7 +1,7 @@
 -- Demand 3, "any of those threads can be the one", of a program without operation 9: the run in which a thread
 -- comes last, written out. Every other thread in turn, then that one; each instruction is carried through, from
 -- its issue to the memory, before the next.
---   carried p t x         the steps that carry instruction x of thread t through
+--   carried p t x          the steps that carry instruction x of thread t through
 --   carried_from p t i n   those of the n instructions of thread t from the i-th on
 --   carried_all p t        those of all its instructions
 --   others_from p t u n    those of the n threads from u on, without t

@@ -1,16 +1,16 @@
 -- Document 02, P3, in words to quote: one thread's stores to one line persist in program order. About the entries
 -- of a line's queue, each with the thread that brings it, and not about words: two writers of one row can mix
 -- theirs.
---   Arrival                 an entry of a queue, and the thread that brings it
+--   Arrival                  an entry of a queue, and the thread that brings it
 --   brought_by t hs          the entries hs, brought by thread t
 --   entries_of xs            the entries of the arrivals xs
---   arrives p s k q         what the step k, taken in the state s, brings into queue q
+--   arrives p s k q          what the step k, taken in the state s, brings into queue q
 --   entered_from p s ks q    what the run ks from the state s brings there, in order
 --   entered_of p ks q        the same from the start
---   persists ks q           how many of the steps ks persist an entry of queue q
+--   persists ks q            how many of the steps ks persist an entry of queue q
 --   writes_by t xs           the writes among the arrivals xs that thread t brings
 --   write_to p s t q x       the write to line q that instruction x of thread t makes, issued in the state s
---   issues p s k t q        the write to line q that the step k issues of thread t in the state s
+--   issues p s k t q         the write to line q that the step k issues of thread t in the state s
 --   issued_from p s ks t q   those of the run ks from the state s, in order: a thread issues in program order
 --   issued_by p ks t q       the same from the start
 -- Assumes nothing.

@@ -3,15 +3,15 @@
 -- of its own. It asks for nothing and has no steps.
 --   case_of         a case by its program and its run; thread_of, idle: of its code
 --   storing, storing_register, loading, comparing, fencing   instructions
---   example        the case
---   blocked        a case whose run stops at an mfence, with a store in its way
---   rivals         two threads that would take location 0 by compare and swap
---   copied         a thread that stores 7 to location 0, loads it and stores that to location 1; copied_front,
---                  copied_run: a run up to that second store, and one in which it persists
---   careless       a case in memory that P8 refuses: a store of a register that nothing sets, to a location that
---                  holds 5 at first; careless_run: a run in which it persists
---   unmet          a case without an instruction that asks for a 5 where its only location holds 0
---   threadless     a case in memory that no byte string reads as: it has no thread
+--   example         the case
+--   blocked         a case whose run stops at an mfence, with a store in its way
+--   rivals          two threads that would take location 0 by compare and swap
+--   copied          a thread that stores 7 to location 0, loads it and stores that to location 1; copied_front,
+--                   copied_run: a run up to that second store, and one in which it persists
+--   careless        a case in memory that P8 refuses: a store of a register that nothing sets, to a location that
+--                   holds 5 at first; careless_run: a run in which it persists
+--   unmet           a case without an instruction that asks for a 5 where its only location holds 0
+--   threadless      a case in memory that no byte string reads as: it has no thread
 --   step_first      bytes whose first record is a step
 --   program_first   bytes whose first record is a program
 -- Assumes nothing.

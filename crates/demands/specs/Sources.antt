@@ -1,14 +1,14 @@
 -- Document 02, P8, "No stores from an unset register": what it buys. Where the words come from that a run stores,
 -- compares and leaves in memory.
---   FirstContent p w       w is the first content of a location of the program p
---   StandsFor p l w        w is the word of an operation 1, 4 or 9 of the program on location l
---   StandsIn p w           the same of any location
---   OfProgram p w          w is a first content or stands in the program
---   StoresRegister p l     an operation 2 of the program stores to location l
---   OfLocation p l w       what location l can hold
+--   FirstContent p w        w is the first content of a location of the program p
+--   StandsFor p l w         w is the word of an operation 1, 4 or 9 of the program on location l
+--   StandsIn p w            the same of any location
+--   OfProgram p w           w is a first content or stands in the program
+--   StoresRegister p l      an operation 2 of the program stores to location l
+--   OfLocation p l w        what location l can hold
 --   set_at p t r i          instruction i of thread t sets register r
 --   took_from p s ks t i    the word that the register of instruction i of thread t takes as the run ks from the
---                          state s issues it
+--                           state s issues it
 --   took_of p ks t i        the same from the start
 -- Assumes nothing.
 use Rattle.std.specs.Prelude.{ℕ, ◌<◌, ◌≡◌, ◌⊎◌, Bool, true, List, get_or}

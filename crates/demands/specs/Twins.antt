@@ -1,6 +1,6 @@
 -- Document 02, P3: "Version 1 means a line each." A case of version 1 has a twin of version 2 whose record lists the
 -- lines 0, 1, 2, ..
---   twin_of c      the same case of version 2
+--   twin_of c     the same case of version 2
 --   Alike c d     the cases c and d have the same legal runs, the same walk, the same answers: of the judge, and of the
 --                 question to their files, with what the lent bytes hold afterwards
 -- Assumes nothing.

@@ -1,9 +1,9 @@
 -- Demand 3's words about writes: "the last write, in program order, of one of the threads that write it". Which
 -- instruction that is, the program says; the word that it writes, the run: no queue and no buffer is looked at.
 -- Document 02, P5: "the last write that some thread really made there": whether a compare writes, the run says too.
---   writes x l             the instruction x writes location l, a compare where it succeeds
+--   writes x l              the instruction x writes location l, a compare where it succeeds
 --   writes_at p t l i       instruction i of thread t does
---   really p s t x         x makes its write, as thread t issues it in the state s; makes p s t x l: to location l
+--   really p s t x          x makes its write, as thread t issues it in the state s; makes p s t x l: to location l
 --   fixed_by s t x          the word that it fixes as thread t issues it in the state s
 --   issues_at s k t i       the step k, taken in the state s, issues instruction i of thread t
 --   at_issue p f d s ks t i   what f says of the state in which the run ks from s issues instruction i of thread t
@@ -11,13 +11,13 @@
 --   fixed_of p ks t i       the same from the start
 --   made_from p s ks t l i  that instruction really makes a write to location l in the run ks from the state s
 --   made_of p ks t l i      the same from the start
---   Writer p t l           thread t writes location l: one of its instructions does
---   LastOf m n i           i is the last below n of which m is true
---   LastWrite p t l i      instruction i of thread t is its last, in program order, that writes location l
---   LastMade p ks t l i    instruction i of thread t is its last, in program order, that really made a write there
---   Unwritten p l          no instruction of any thread writes location l
---   NoneMade p ks l        none really made a write there in the run ks
---   Alone p t l            no instruction of another thread than t writes location l
+--   Writer p t l            thread t writes location l: one of its instructions does
+--   LastOf m n i            i is the last below n of which m is true
+--   LastWrite p t l i       instruction i of thread t is its last, in program order, that writes location l
+--   LastMade p ks t l i     instruction i of thread t is its last, in program order, that really made a write there
+--   Unwritten p l           no instruction of any thread writes location l
+--   NoneMade p ks l         none really made a write there in the run ks
+--   Alone p t l             no instruction of another thread than t writes location l
 -- Assumes nothing.
 use Rattle.std.specs.Prelude.{ℕ, ◌<◌, ◌≡◌, ◌≢◌, Bool, true, false, List, [], ◌∷◌, eqb}
 use Rattle.cases.specs.declared.case.Instruction.{Instruction}

@@ -6,7 +6,7 @@
 --   judge_packed s             what the judge's call gets for the bytes s
 --   place_packed b             the place of an entry, as one number
 --   unpacked_which, unpacked_one, unpacked_position n   of that number: 1 for a buffer, 2 for a queue, 0 for none; which
---                             one; the position
+--                              one; the position
 --   blocker_packed s           what the call for the judge's blocker gets for the bytes s
 --   question_packed s room b   what the question's call gets for the bytes s, `room` lent bytes, a budget b
 --   remember_packed s room words b   what the call of the engine that remembers gets, with `words` lent words

@@ -2,7 +2,7 @@
 // signal interrupts counts as failed; no program here catches one.
 #![tactic(auto)]
 
-ghost use Rattle.std.specs.Prelude.{◌≡◌, length};
+ghost use Rattle.std.specs.Prelude.{◌≡◌, length, replicate};
 ghost use Rattle.input.specs.Filled.{Within};
 
 use std::io;
@@ -19,9 +19,10 @@ pub enum Filled {
     Failed,
 }
 
-// A function of its own, so that a proof elsewhere knows its length without its bytes.
+// All zeros. A function of its own, so that a proof elsewhere knows its length without its bytes.
 pub fn large_buffer() -> [u8; LARGE]
-    ensures { 65536 ≡ length result }
+    ensures long { 65536 ≡ length result }
+    ensures zeros { result ≡ replicate 65536 0 }
 {
     [0; LARGE]
 }

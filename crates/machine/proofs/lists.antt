@@ -1,7 +1,7 @@
 -- Over lists and numbers of any kind; other crates can name these too.
--- part: a part of a list; its drop, take, get_d and length; lt_or_ge
+-- part: a part of a list; its drop, take, get_or and length; lt_or_ge
 pub mod PartLaws
--- put, part_put, shift, length_without: a list put into another, one left out; get_d behind it
+-- put, part_put, shift, length_without: a list put into another, one left out; get_or behind it
 pub mod PutLaws
 -- any, none_any: a test is true of one number, or of one on a list; AskedSoFar, AnySoFar
 pub mod AnyLaws

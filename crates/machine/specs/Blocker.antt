@@ -1,7 +1,7 @@
 -- Document 02, P4, "Name the blocker": "the place of the first entry that stands in the way: buffer or queue, which
 -- one, and the position in it".
 --   blocker_which, blocker_number, blocker_position   of a place: 1 for a buffer, 2 for a queue, 0 for no entry; which
---                           one; the position in it
+--                            one; the position in it
 --   marker_place f           the place of a marker that was looked for
 --   entry_line p e           the line of the location that the entry e names; 0 for an sfence
 --   own_buffer x k, taken x k   the buffer of the step's thread; the entry that the move k would take

@@ -1,11 +1,11 @@
 -- Request P10, "Flush-opts as early as can be": "a legal move of a flush-opt or a legal persist of a marker is always
 -- taken before any other step". Such steps are called eager.
---   is_flush_opt e          the entry e is a flush-opt
---   marks_first q          the oldest entry of the queue q is a marker
---   is_eager s k           in the state s the step k moves a flush-opt or persists a marker
---   has_eager p s          an eager step is legal in s
---   put_off                the number of the rule that is added: it is no rule of 01's, and nobody is told it
---   eager_rule p s k       the rule that the step k breaks, where eager steps come before all others
+--   is_flush_opt e        the entry e is a flush-opt
+--   marks_first q         the oldest entry of the queue q is a marker
+--   is_eager s k          in the state s the step k moves a flush-opt or persists a marker
+--   has_eager p s         an eager step is legal in s
+--   put_off               the number of the rule that is added: it is no rule of 01's, and nobody is told it
+--   eager_rule p s k      the rule that the step k breaks, where eager steps come before all others
 --   eager p               the machine, for the program p, with these rules and nothing else changed
 --   those f xs            those on the list xs of which f is true; or_else xs ys: ys where xs is empty
 --   SameLeft s u          the states s and u hold the same in memory and in registers, with as many issued

@@ -1,8 +1,8 @@
 -- Document 01, refusal 33: "a machine state in memory that doesn't fit its case". The test is the one truth;
 -- the record of facts is what proofs use of it (`fits_exactly` in proofs/Promises.antt ties the two).
---   sum_to n f        the sum of f below n
---   any_from i n f    f is true of one of the n numbers from i on
---   any_of f xs       f is true of one on the list xs
+--   sum_to n f       the sum of f below n
+--   any_from i n f   f is true of one of the n numbers from i on
+--   any_of f xs      f is true of one on the list xs
 --   AllOf P xs       P holds of each on it
 --   due p s          all entries in store buffers and all unissued instructions
 --   together p s     and all entries in queues; instructions_of p: how many instructions the program has

@@ -1,14 +1,14 @@
 -- Document 02, P4, in words to quote: which entries are in the way of a step that breaks a rule, which of two places
 -- comes first, and where an entry stands after later steps. The blocker itself (Blocker) does not use this page.
---   StandsAt xs i x        x stands at position i of the list xs
---   WaitsInWay p s k i w   the entry w, at position i of the own buffer, is in the way of the step k
---   QueuedInWay p s k q h  the entry h of queue q is
---   InTheWay p s k b       the entry at the place b is
---   Names r                the rule r names an entry
---   Before b d             of two places of the same rule, b comes first
---   moved_by, persisted_by   the same as left_by, of an entry of a buffer, and of a queue
+--   StandsAt xs i x         x stands at position i of the list xs
+--   WaitsInWay p s k i w    the entry w, at position i of the own buffer, is in the way of the step k
+--   QueuedInWay p s k q h   the entry h of queue q is
+--   InTheWay p s k b        the entry at the place b is
+--   Names r                 the rule r names an entry
+--   Before b d              of two places of the same rule, b comes first
+--   moved_by, persisted_by  the same as left_by, of an entry of a buffer, and of a queue
 --   left_by k b             where the entry at the place b stands after the legal step k; no entry, where k takes it out
---                          of its buffer or queue: what leaves a buffer may wait in a queue then
+--                           of its buffer or queue: what leaves a buffer may wait in a queue then
 --   left_at ks b            the same after the legal steps ks
 -- Assumes nothing.
 use Rattle.std.specs.Prelude.{ℕ, zero, suc, ◌-◌, ◌<◌, ◌≡◌, ◌⊎◌, true, List, [], ◌∷◌, eqb, ltb}

@@ -4,14 +4,14 @@
 --   swaps p s t x         it writes at once, in the state s: an exchange, or a compare that succeeds
 --   exchanges p s t q x   what it puts at the end of queue q then
 --   enters p t q e        what the entry e of thread t puts at the end of queue q as it moves
---   taken_by p s t x       the word that its register takes, where it sets one
+--   taken_by p s t x      the word that its register takes, where it sets one
 -- And as words on their way to a location, whichever queue they go through:
---   only_if b w            the word w, or none
---   writes_of l q          the words of the writes of location l in the queue q, oldest first
---   store_of l e           the word that the entry e brings to location l
---   swap_of p s t l x      the word that instruction x of thread t puts straight on its way to location l
---   on_way p s l           the words on their way to location l, oldest first
---   last_or ws w           the last of the words ws, else w
+--   only_if b w           the word w, or none
+--   writes_of l q         the words of the writes of location l in the queue q, oldest first
+--   store_of l e          the word that the entry e brings to location l
+--   swap_of p s t l x     the word that instruction x of thread t puts straight on its way to location l
+--   on_way p s l          the words on their way to location l, oldest first
+--   last_or ws w          the last of the words ws, else w
 -- Assumes nothing.
 use Rattle.std.specs.Prelude.{ℕ, Bool, List, [], ◌∷◌, ◌++◌, eqb}
 use Rattle.cases.specs.declared.case.Instruction.{Instruction}

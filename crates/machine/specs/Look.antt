@@ -6,7 +6,7 @@
 --   load_of p s t l           what a load takes
 --   marker_of marks lengths t the first marker of thread t, by queue and then by position
 --   is_at, found_queue, found_position   of what it answers: whether there is one, and where; 0 and 0 where not
---   bars p q e               the entry e keeps a flush-opt of line q behind it
+--   bars p q e                the entry e keeps a flush-opt of line q behind it
 --   first_bar p q b           the position of the first entry of b that does; how many there are where none does
 -- Assumes nothing.
 use Rattle.std.specs.Prelude.{ℕ, zero, suc, Bool, true, false, List, [], ◌∷◌, eqb}

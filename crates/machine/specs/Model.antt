@@ -9,8 +9,8 @@
 --   CannotGoOn m u        no step is legal in u
 --   FinishedRun m ks u    a legal run that cannot go on
 --   allowed rule ks       those of some steps that break no rule
---   legal_steps m s        the candidates that are legal in s
---   full_length m          "The sum at the start is the program's full length"
+--   legal_steps m s       the candidates that are legal in s
+--   full_length m         "The sum at the start is the program's full length"
 --   spent m s ks          what the steps ks use up together
 --   Listed, Ascending     how the theorems say "on the list" and "in that order, once"
 --   Lawful m Fit rank     the laws of such a machine; of states that it reaches Fit may be taken for granted

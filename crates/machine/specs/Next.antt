@@ -4,7 +4,7 @@
 --   steps_from step i n   the steps that `step` says of the n numbers from i on
 --   moves_of t        the moves of thread t, at every position
 --   moves_from t n    those of n threads from t on
---   candidates p     every step that such a program can have, in that order
+--   candidates p      every step that such a program can have, in that order
 --   rank_of           a step's rank in that order
 -- Assumes nothing.
 use Rattle.std.specs.Prelude.{ℕ, zero, suc, ◌+◌, ◌*◌, List, [], ◌∷◌, ◌++◌}

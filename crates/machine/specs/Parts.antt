@@ -1,6 +1,6 @@
 -- The parts of a state that rules look at, as one thing: so none is taken for another.
---   Parts             store buffers with how many wait in each, how many each thread has issued, the queues'
---                     marks with how many each holds
+--   Parts              store buffers with how many wait in each, how many each thread has issued, the queues'
+--                      marks with how many each holds
 --   lent, parts_of s   those that a function is lent; those of the state s
 -- Assumes nothing.
 use Rattle.std.specs.Prelude.{ℕ, List}

@@ -1,21 +1,21 @@
 -- Document 01, "The machine's steps": for each step the rule it breaks, 0 where it is legal, and what it does.
 -- A rule looks at the parts of a state that rules look at (Parts) and at no other; what a legal step does is
 -- said apart.
---   enqueue s q h, await     the state with one more at a queue's end, at a buffer's end
---   is_barrier op             exchange, compare and mfence
---   operation_rule            the rule against issuing an operation: 22, 23
+--   enqueue s q h, await       the state with one more at a queue's end, at a buffer's end
+--   is_barrier op              exchange, compare and mfence
+--   operation_rule             the rule against issuing an operation: 22, 23
 --   issue_rule, issue_of       issue: 21, 22, 23
---   matches p s t x          the word that the compare x of thread t reads is the one in its register: it succeeds
---   fails p s t x            x is a compare, and does not
+--   matches p s t x            the word that the compare x of thread t reads is the one in its register: it succeeds
+--   fails p s t x              x is a compare, and does not
 --   fetched, exchanged, compared   the register takes the word read; what an exchange does; what a compare does
---   entry_at b i              the entry at position i of the buffer b
+--   entry_at b i               the entry at position i of the buffer b
 --   move_rule, move_of         move: 24, 25, 26, then 27 or 28
 --   effect_rule, effect_of     what an entry does as it takes effect: 27, 28. It is already out of its buffer, so
---                            that a machine without buffers can use these two.
+--                              that a machine without buffers can use these two.
 --   persist_rule, persist_of   persist: 29; persist_first: of the entries of a queue; settled: what one entry does
 --   rule_in, rule_of p s k     a step's rule by its code, over the parts that rules look at, in a state
---   next_of p s k             what a legal step does, by its code
---   start_of p                where a run starts
+--   next_of p s k              what a legal step does, by its code
+--   start_of p                 where a run starts
 -- Assumes nothing.
 use Rattle.std.specs.Prelude.{ℕ, ◌+◌, Bool, not, List, [], ◌∷◌, ◌++◌, get_or, take, replicate, eqb, leb, ltb}
 use Rattle.cases.specs.declared.case.Instruction.{Instruction}

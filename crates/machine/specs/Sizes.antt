@@ -1,6 +1,6 @@
 -- The sizes that follow from document 01's "Sizes" and from refusal 33. src/sizes.rt has the same numbers for
 -- the code.
---   room            the most entries of a queue: every instruction of every thread
+--   room             the most entries of a queue: every instruction of every thread
 --   all_slots        all queues' slots, one queue's behind the other's
 --   all_registers    all threads' registers, one thread's behind the other's
 --   most_candidates  the steps that a state can have next

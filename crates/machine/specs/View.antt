@@ -1,15 +1,15 @@
 -- The lens through which the rules speak: a state's parts as lists. Queue q is the first so many of the slots
 -- from q * room on, buffer t the first so many of the entries from t * most_instructions on; what stands behind
 -- them is not looked at and not changed, whatever it is.
---   part base n xs          the first n of xs from base on
---   put blank base n q xs   xs with q from base on; of the n that stood there, those given up are blank
---   shift, close_gap         one taken out of a row: those behind it each one down
---   mark_of t                the mark of a marker of thread t
+--   part base n xs            the first n of xs from base on
+--   put blank base n q xs     xs with q from base on; of the n that stood there, those given up are blank
+--   shift, close_gap          one taken out of a row: those behind it each one down
+--   mark_of t                 the mark of a marker of thread t
 --   write_slot, marker_slot   a slot of a queue
 --   slots, words_of, marks_of words and marks as slots, and back
---   line_of p l              the cache line that location l lies on in the program p, and its queue's number
---   queue, with_queue        the entries of a line's queue, oldest first; the state with others there
---   buffer, with_buffer      the entries of a store buffer, oldest first; the state with others there
+--   line_of p l               the cache line that location l lies on in the program p, and its queue's number
+--   queue, with_queue         the entries of a line's queue, oldest first; the state with others there
+--   buffer, with_buffer       the entries of a store buffer, oldest first; the state with others there
 --   queue_len, buffer_len     how many
 --   queue_in, marks_in, buffer_in, register_in   the same over a state's arrays, where only those are lent
 --   word_of, with_word, with_register, issued_of, with_issued   persistent words, registers, issued counts

@@ -1,14 +1,14 @@
 -- Document 01, "Work left and the walk".
---   weigh f xs          what f says of each on the list xs, summed
+--   weigh f xs           what f says of each on the list xs, summed
 --   code_weight, entry_weight   what an instruction weighs that is not issued, and an entry that waits
 --   thread_work p s t    the work left in thread t
---   work p s            the work left
---   Unfinished p s      there is something to do: an instruction is unissued or an entry waits
+--   work p s             the work left
+--   Unfinished p s       there is something to do: an instruction is unissued or an entry waits
 --   program_weight p t   thread t's part of the full length, from the program alone
---   Uncompared p        operation 9 does not occur in the program p
+--   Uncompared p         operation 9 does not occur in the program p
 --   fails_at p s k       the step k issues a compare that fails in the state s
 --   cost_if failed       what a step costs that is a failed compare, or another
---   cost p s k          what a legal step uses up of the work left
+--   cost p s k           what a legal step uses up of the work left
 --   failures_from p s ks how many compares fail in the run ks from the state s; failures_of p ks: from the start
 -- Assumes nothing.
 use Rattle.std.specs.Prelude.{ℕ, ◌+◌, ◌*◌, ◌<◌, ◌⊎◌, ◌≢◌, Bool, List, [], ◌∷◌, eqb}

@@ -7,7 +7,7 @@
 --                       left
 --   opened rs n at      bytes, read: the number and the offset
 --   row_number, row_offset, row_program, row_ask   what reading the records' bytes answers, and what it hands out
---   row_end rs           the state behind the run, as it is judged
+--   row_end rs          the state behind the run, as it is judged
 --   said r              what the layers' definitions say of the row's bytes
 --   due r               what the row says of them
 --   Fact r              what it tells of the functions that a host or a program calls

@@ -3,7 +3,7 @@
 --   bars_at c q x base i   so does entry i of those from lane `base` on
 --   operation_barred, issue_barred   an issue breaks a rule: by its operation; of thread t
 --   head_barred, pass_barred, entry_barred, move_barred   a move does: of the first entry, of one behind it, of either,
---                       the row starting at a given lane; of thread t
+--                        the row starting at a given lane; of thread t
 --   persist_barred       a persist does
 --   free_from barred step i n   of the n steps from `step i` on those that are not barred
 --   free_moves c x t n   the moves of n threads from t on that are not barred

@@ -2,12 +2,12 @@
 -- its lanes. What stands behind a queue's or a buffer's entries is no part of it.
 --   join_to n f       what f says of each number below n, one behind the other
 --   single, each n f the same where f says one number
---   spread f xs      what f says of each on the list xs, one behind the other
+--   spread f xs       what f says of each on the list xs, one behind the other
 --   entry_lanes, waiting_lanes, slot_lanes   an entry of a buffer, one that waits, one of a queue: two lanes, its tag and
---                    its word
+--                     its word
 --   buffer_lanes s t, queue_lanes s q   those of a buffer, of a queue, oldest first
 --   lanes_of p s      the lanes of the state s of the program p
---   Alike p s u      the states s and u hold the same, of the program's threads, lines and locations
+--   Alike p s u       the states s and u hold the same, of the program's threads, lines and locations
 -- Assumes nothing.
 use Rattle.std.specs.Prelude.{ℕ, zero, suc, ◌+◌, ◌*◌, ◌<◌, ◌≡◌, List, [], ◌∷◌, ◌++◌, get_or}
 use Rattle.cases.specs.declared.case.Program.{Program}

@@ -1,11 +1,11 @@
 -- How the code keeps a program: as one list of numbers, its listing, which can be lent.
 --   instruction_numbers   an instruction's four numbers
---   listing_of p     the listing of the program p: threads, lines and locations; the instructions of each thread;
+--   listing_of p    the listing of the program p: threads, lines and locations; the instructions of each thread;
 --                   the line of each location; four numbers for each instruction
 --   threads_in, lines_in, locations_in   of a listing: how many
---   count_in c t     how many instructions thread t has
---   line_in c l      the line of location l; 0 where there is no such location
---   code_at t i      where instruction i of thread t stands: its operation, location, register and word
+--   count_in c t    how many instructions thread t has
+--   line_in c l     the line of location l; 0 where there is no such location
+--   code_at t i     where instruction i of thread t stands: its operation, location, register and word
 --   ListingFits c   its numbers are no greater than those of a program that the machine can run
 -- Assumes nothing.
 use Rattle.std.specs.Prelude.{ℕ, ◌+◌, ◌*◌, ◌<◌, ◌≤◌, List, [], ◌∷◌, ◌++◌, get_or, leb}

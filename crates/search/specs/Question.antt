@@ -1,9 +1,9 @@
 -- Document 01, "Work left and the walk" and "Refusal numbers": the question.
---   reaches a s          a crash in the state s leaves what is asked for, with what is asked for issued
+--   reaches a s           a crash in the state s leaves what is asked for, with what is asked for issued
 --   misses, misses_at, lacks_at   a location holds another word than is wanted; a thread has issued too few
 --   first_of test vs      the first of some runs whose end passes a test, or none (First)
---   decided test b vs    what a budget b says of the runs vs (Decided)
---   FirstThat            the run v is the first of vs that passes, and `before` stands before it
+--   decided test b vs     what a budget b says of the runs vs (Decided)
+--   FirstThat             the run v is the first of vs that passes, and `before` stands before it
 --   ask_of m test b       what a budget b says of the walk of a model
 --   outcome_no, outcome_place   01's number of an answer, and its place
 --   told_of d             the answer that a caller gets for d

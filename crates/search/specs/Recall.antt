@@ -1,11 +1,11 @@
 -- How the code goes through the distinct states; Remember says what it comes to, and doesn't use this page.
 --   met_by key met vs         the keys that are met after the runs vs, the newest first
 --   starting_new, remembering m key n met s   the walk that never goes below a state twice: what it lists from the
---                            state s on, where met are the keys met before
+--                             state s on, where met are the keys met before
 --   key_lanes c x             the key of lanes x as the code's array holds them: those in use
 --   new_from c depth met x    what it lists over lanes, from x on, at a depth
 --   sought_new .. depth left met x   what is sought from the lanes x on, at a depth, where `left` more states may be met
---   WithinLimit limit w      no more is left of the limit than it is
+--   WithinLimit limit w       no more is left of the limit than it is
 --   states_walked limit w     how many states were gone through, where nothing was found and the limit not used up; else 0
 --   MetAfter r memory limit met   where nothing was found and the limit not used up, the lent words keep the keys met
 --   Meets r memory last limit left key   what the code's `meet` of a key tells, and leaves in the lent words

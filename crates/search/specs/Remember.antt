@@ -1,9 +1,9 @@
 -- Request P7, "A walk that remembers": the distinct states "in the order of the plain walk's first meeting", and
 -- demand 2's three answers "read over them".
 --   eq_lanes x y            two lists of numbers are equal
---   among x met            x is one of met
---   firsts key met vs      those of the runs vs that end in a state not met before: its key is neither among met nor the
---                          key of an earlier run's end
+--   among x met             x is one of met
+--   firsts key met vs       those of the runs vs that end in a state not met before: its key is neither among met nor the
+--                           key of an earlier run's end
 --   distinct_of m key       of a model: its distinct states, each at the end of the walk's first run that leads there
 --   recall_of m key test n  what the first n of them say
 --   states_of d n           how many distinct states were gone through, where that is all n of them; else 0

@@ -3,11 +3,11 @@
 --   rows_in c         how many rows
 --   queue_row c q     the row of line q's queue; that of thread t's buffer is t
 --   row_len_at, word_at, register_at   where a row's length, a location's word, a register of a thread stand; how many
---                    thread t has issued stands at t
+--                     thread t has issued stands at t
 --   pool_at c         where the first row starts
 --   row_len c x r     how many entries row r has
 --   row_start c x r   where it starts; pool_end c x: where the last one ends
---   FewEntries c x   all rows together have no more entries than there is room for; RoomForOne c x: and one more
+--   FewEntries c x    all rows together have no more entries than there is room for; RoomForOne c x: and one more
 --   newest_lane x base tag other n   of n entries from base on, the word of the newest with that tag, else `other`
 --   queued_lane, loaded_lane   what stands for a location where no buffer is looked at; what a load takes
 --   marked_among, marked_from, marked_lanes   a queue holds a marker of the thread: n entries, k rows, all queues

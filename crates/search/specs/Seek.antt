@@ -1,6 +1,6 @@
 -- How the code goes through the walk, counting the budget down; Question says what it comes to, and doesn't use
 -- this page.
---   seek test b vs      the first of the runs vs that passes the test, at a budget b
+--   seek test b vs       the first of the runs vs that passes the test, at a budget b
 --   walked_of d x        what the walk at depth d answers
 --   walked_no, walked_place, walked_rest   of that answer: 01's number, its place, what is left of the budget
 --   walked_outcome w     what a caller gets for that answer

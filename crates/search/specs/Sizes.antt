@@ -1,6 +1,6 @@
 -- The sizes of the search's own state, the lanes; src/sizes.rt has the same numbers for the code.
 --   most_lanes       the most lanes of a state: all that a program's threads and locations have, and an entry for
---                   each instruction
+--                    each instruction
 --   counts_at, lines_at, codes_at   where the counts, the lines and the instructions stand in a listing
 --   all_listing      the numbers of a listing
 --   flush_tag, flush_opt_tag, sfence_tag   the least tag of each kind of entry behind the stores

@@ -5,13 +5,13 @@
 --   place_of limit j       where record j stands, behind `limit` heads
 --   link_of, key_of m limit j   of record j: its link, its lanes
 --   keys_in m limit n      the lanes of the first n records, the newest first
---   half, mixer           2 ^ 32; what mixes a lane in
---   folded h              both halves of a number of 64 bits, added
---   mixed h x             the number h with a lane more mixed in
+--   half, mixer            2 ^ 32; what mixes a lane in
+--   folded h               both halves of a number of 64 bits, added
+--   mixed h x              the number h with a lane more mixed in
 --   mix_from a b c d xs    what the lanes xs mix to, each into the first of four numbers, which goes behind the others
 --   bucket_of limit key    the bucket of a key
---   On m limit f x j      record j is met by following at most f links from x
---   Chained m limit n     n records stand in m, each on the chain of its bucket
+--   On m limit f x j       record j is met by following at most f links from x
+--   Chained m limit n      n records stand in m, each on the chain of its bucket
 -- Assumes nothing.
 use Rattle.std.specs.Prelude.{ℕ, zero, suc, ◌+◌, ◌*◌, ◌-◌, ◌/◌, ◌%◌, ◌<◌, ◌≤◌, ◌≡◌, ◌⊎◌, List, [], ◌∷◌, length, get_or}
 use Rattle.machine.specs.View.{part}

@@ -1,26 +1,26 @@
 -- How the code takes a legal step over lanes, in place.
---   inserted x at end tag word   an entry more before lane `at`; what stands from there to `end` goes two further
---   carried x at to tag word     the entry at lane `at` goes, as (tag, word), to just before lane `to`; what stands
---                                between comes two nearer
+--   inserted x at end tag word     an entry more before lane `at`; what stands from there to `end` goes two further
+--   carried x at to tag word       the entry at lane `at` goes, as (tag, word), to just before lane `to`; what stands
+--                                  between comes two nearer
 --   counted, discounted   a lane's number one more, one less
---   row_joined c x r tag word     row r with an entry more at its end
---   row_left c x r at             without its entry at lane `at`
---   row_carried c x r at q tag    the entry at lane `at` of row r goes to the end of line q's queue, with another tag
+--   row_joined c x r tag word      row r with an entry more at its end
+--   row_left c x r at              without its entry at lane `at`
+--   row_carried c x r at q tag     the entry at lane `at` of row r goes to the end of line q's queue, with another tag
 --   entry_tag, entry_word          the entry that an instruction puts into its thread's buffer
 --   awaited_lanes, took_lanes, fetched_lanes, exchanged_lanes, compared_lanes   what an instruction does: it waits; a load;
---                                the word read goes into the register; an exchange; a compare
+--                                  the word read goes into the register; an exchange; a compare
 --   performed_lanes, issue_lanes   by its operation; an issue
 --   moved_lanes, move_lanes         a move: by the entry's tag; of thread t, position i
 --   settled_lanes, persist_lanes    a persist: what one entry does; of line q
---   step_lanes c x k              a step by its code
---   lanes_machine c               the machine over lanes
+--   step_lanes c x k               a step by its code
+--   lanes_machine c                the machine over lanes
 --   misses_lane, reaches_lanes     a location holds another word than is wanted; none does, and each thread has issued
---                                as many as it must have
---   padded x                     lanes as the code's array holds them: zeros behind
---   CodeHere c x t at            at `at` of the listing stand numbers that an instruction of thread t can have, and
---                                there is room for an entry
---   Takes c x k                  what the code asks of a step: an issue of an instruction that is left, with room for
---                                an entry; a move of an entry that is there; a persist of a queue that has one
+--                                  as many as it must have
+--   padded x                       lanes as the code's array holds them: zeros behind
+--   CodeHere c x t at              at `at` of the listing stand numbers that an instruction of thread t can have, and
+--                                  there is room for an entry
+--   Takes c x k                    what the code asks of a step: an issue of an instruction that is left, with room for
+--                                  an entry; a move of an entry that is there; a persist of a queue that has one
 -- Assumes nothing.
 use Rattle.std.specs.Prelude.{ℕ, ◌+◌, ◌*◌, ◌-◌, ◌<◌, ◌≤◌, ◌≡◌, ◌⊎◌, Bool, false, not, List, [], ◌∷◌, ◌++◌, length, get_or, set, replicate, eqb, leb, ltb}
 use Rattle.std.proofs.lemmas.List.Edits.{sets}

@@ -7,9 +7,9 @@
 --   Walkable        a machine whose next steps stand in order and lower the work left
 --   Before, InOrder how the theorems say "in the stated order, once"
 --   thinned m f     of a model: the steps that f lists are next
---   machine_of m     of a model: its legal steps are next
+--   machine_of m    of a model: its legal steps are next
 --   Sublist, Thinned   how the theorems say "some of the legal steps, in their order"
---   walk_of m s      the walk of a model from the state s; walk_from m: from its start
+--   walk_of m s     the walk of a model from the state s; walk_from m: from its start
 -- Assumes nothing.
 use Rattle.std.specs.Prelude.{ℕ, zero, suc, ◌<◌, ◌≡◌, ◌⊎◌, List, [], ◌∷◌, ◌++◌, map}
 use Rattle.machine.specs.Model.{Model, legal_steps, Listed, Ascending}

@@ -22,7 +22,7 @@ use Rattle.cases.specs.Seats.{want_seat, passed_seat, step_seat}
 use Rattle.cases.specs.Seats.{seats, seat_of, seat_bytes, bytes_at, encode_of}
 use Rattle.cases.specs.Ranges.{HasOwnLines, RegistersSet}
 use Rattle.cases.proofs.ChoiceLaws.{refuse_none}
-use Rattle.cases.proofs.ArrayLaws.{get_d_blank}
+use Rattle.cases.proofs.ArrayLaws.{get_or_blank}
 use Rattle.cases.proofs.seats.EachLaws.{each_more, each_none}
 use Rattle.cases.proofs.seats.SeatLaws.{seat_cases, seat_header}
 use Rattle.cases.proofs.draft.RecordFitLaws.{RecordFits, SeatFits}
@@ -79,10 +79,10 @@ module _ (h : Header) (fit : Opening h) where
   begun_blank j low =
       seat_cases (λ (x : Seat). x ≡ Empty) begun.case j
       (λ e. absurd (omega arith))
-      (λ l e m. rw (get_d_blank {A = ℕ} most_locations l 0))
-      (λ m e n. rw (get_d_blank {A = ℕ} most_threads (m / most_instructions) 0, leb-zero (m % most_instructions)))
-      (λ l e m. rw (get_d_blank most_locations l false))
-      (λ t e m. rw (get_d_blank {A = ℕ} most_threads t 0))
+      (λ l e m. rw (get_or_blank {A = ℕ} most_locations l 0))
+      (λ m e n. rw (get_or_blank {A = ℕ} most_threads (m / most_instructions) 0, leb-zero (m % most_instructions)))
+      (λ l e m. rw (get_or_blank most_locations l false))
+      (λ t e m. rw (get_or_blank {A = ℕ} most_threads t 0))
       (λ k e. rw (leb-zero k))
 
   begun_fits : (j : ℕ) → SeatFits begun.case.program (seat_of begun.case j)
@@ -113,10 +113,10 @@ module _ (h : Header) (fit : Opening h) where
             few_threads = low.1;
             few_locations = low.3;
             few_lines = header_few_lines h fit;
-            few_instructions = λ u. omega (arith, get_d_blank {A = ℕ} most_threads u 0);
+            few_instructions = λ u. omega (arith, get_or_blank {A = ℕ} most_threads u 0);
           };
           on_lines = header_on_lines h fit;
-          registers = λ u i k. absurd (omega (arith, get_d_blank {A = ℕ} most_threads u 0));
+          registers = λ u i k. absurd (omega (arith, get_or_blank {A = ℕ} most_threads u 0));
           own = header_own h;
           some_threads = low.0;
           some_locations = low.2;

@@ -11,7 +11,7 @@ use native.Mathlib.Numerals.{add-one}
 use native.Mathlib.Omega.{arith}
 use Rattle.cases.specs.Sizes.{most_locations}
 use Rattle.cases.specs.Lines.{table, own_lines}
-use Rattle.cases.proofs.ArrayLaws.{get_d_blank}
+use Rattle.cases.proofs.ArrayLaws.{get_or_blank}
 
 -- table: how long it is; what stands below n, and behind
 module _ (f : ℕ → ℕ) where
@@ -34,7 +34,7 @@ module _ (f : ℕ → ℕ) where
 
   pub table_behind : (n l : ℕ) → n ≤ l → get_or (table f n) l 0 ≡ 0
   unfolding table
-  table_behind zero l h = get_d_blank {A = ℕ} most_locations l 0
+  table_behind zero l h = get_or_blank {A = ℕ} most_locations l 0
   table_behind (suc n) l h =
       get_or-set_other (table f n) n l (f n) 0 (λ e. omega arith) ∙ table_behind n l (omega arith)
 
@@ -77,7 +77,7 @@ pub table_blank : (xs : List ℕ) → length xs ≡ most_locations → ((l : ℕ
     → xs ≡ replicate most_locations 0
 table_blank xs long none =
     ext_get_or 0 xs (replicate most_locations 0) (long ∙ sym (length-replicate {A = ℕ} most_locations 0))
-    (λ i h. none i ∙ sym (get_d_blank {A = ℕ} most_locations i 0))
+    (λ i h. none i ∙ sym (get_or_blank {A = ℕ} most_locations i 0))
 
 -- a line each: none yet; one more; every location lies on a line that there is
 pub own_start : replicate most_locations 0 ≡ own_lines 0

@@ -16,7 +16,7 @@ use Rattle.machine.specs.View.{Slot, words_of, marks_of, put, queue_len, with_qu
 use Rattle.machine.specs.View.{with_buffer, with_word, with_register, with_issued}
 use Rattle.machine.specs.Behind.{BlankFrom, BlankBehind}
 use Rattle.machine.specs.Fit.{Sized}
-use Rattle.machine.proofs.lists.PartLaws.{part_apart, get_d_part}
+use Rattle.machine.proofs.lists.PartLaws.{part_apart, get_or_part}
 use Rattle.machine.proofs.lists.PutLaws.{part_put_other}
 use Rattle.machine.proofs.view.SlotLaws.{length_words, length_marks}
 use Rattle.machine.proofs.view.QueueLaws.{queue_len_same, queue_len_other}
@@ -24,8 +24,8 @@ use Rattle.machine.proofs.view.BufferLaws.{buffer_len_same, buffer_len_other}
 
 -- A row of a list: what is put there leaves blanks behind it; what is put apart from it leaves it alone
 module _ {A : Type 0} (blank : A) where
-  get_d_behind : (xs ys : List A) (n i : ℕ) → length xs ≡ n → get_or (xs ++ ys) (n + i) blank ≡ get_or ys i blank
-  get_d_behind xs ys n i e = rw (sym e) (get_or-append-add xs ys i blank)
+  get_or_behind : (xs ys : List A) (n i : ℕ) → length xs ≡ n → get_or (xs ++ ys) (n + i) blank ≡ get_or ys i blank
+  get_or_behind xs ys n i e = rw (sym e) (get_or-append-add xs ys i blank)
 
   -- blanks, and behind them what is blank there
   blank_filled : (n i : ℕ) (rest : List A) → ((j : ℕ) → i ≡ n + j → get_or rest j blank ≡ blank)
@@ -47,10 +47,10 @@ module _ {A : Type 0} (blank : A) where
       = sets-eq (q ++ pad) xs base (omega arith) in
       let position : i ≡ length q + (i - length q) = omega arith in
       rw (split, append_assoc (take base xs))
-      (get_d_behind (take base xs) ((q ++ pad) ++ rest) base i (length-take-le base xs (omega arith))
+      (get_or_behind (take base xs) ((q ++ pad) ++ rest) base i (length-take-le base xs (omega arith))
       ∙ ap (λ x. get_or x i blank) (append_assoc q pad rest)
       ∙ ap (λ x. get_or (q ++ (pad ++ rest)) x blank) position
-      ∙ get_d_behind q (pad ++ rest) (length q) (i - length q) refl
+      ∙ get_or_behind q (pad ++ rest) (length q) (i - length q) refl
       ∙ blank_filled gap (i - length q) rest (beyond (base + length (q ++ pad)) (omega arith)))
     where
       beyond : (at : ℕ) → at ≡ base + (length q + (n - length q))
@@ -64,9 +64,9 @@ module _ {A : Type 0} (blank : A) where
       → BlankFrom blank b k m xs
       → BlankFrom blank b k m (put blank base n q xs)
   put_blank_other base n q xs b k m h r w old i a c =
-      sym (get_d_part b m i (put blank base n q xs) blank c)
+      sym (get_or_part b m i (put blank base n q xs) blank c)
       ∙ ap (λ x. get_or x i blank) (part_put_other blank base n q xs b m m h r w)
-      ∙ get_d_part b m i xs blank c
+      ∙ get_or_part b m i xs blank c
       ∙ old i a c
 
 -- A queue put, a buffer put

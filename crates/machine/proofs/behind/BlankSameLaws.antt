@@ -15,7 +15,7 @@ use Rattle.machine.specs.View.{Slot, words_of, marks_of, part, marks_in, queue_i
 use Rattle.machine.specs.View.{blank_waiting, buffer_in, buffer_len}
 use Rattle.machine.specs.Behind.{BlankFrom, BlankBehind, SameEntries}
 use Rattle.machine.specs.Fit.{Sized}
-use Rattle.machine.proofs.lists.PartLaws.{lt_or_ge, get_d_part}
+use Rattle.machine.proofs.lists.PartLaws.{lt_or_ge, get_or_part}
 use Rattle.machine.proofs.view.SlotLaws.{words_slots, marks_slots}
 
 module _ {A : Type 0} (blank : A) where
@@ -28,7 +28,7 @@ module _ {A : Type 0} (blank : A) where
     where
       go : (i < n) ⊎ (n ≤ i) → get_or xs (base + i) blank ≡ get_or ys (base + i) blank
       go (inl k) =
-          sym (get_d_part base n i xs blank k) ∙ ap (λ x. get_or x i blank) e ∙ get_d_part base n i ys blank k
+          sym (get_or_part base n i xs blank k) ∙ ap (λ x. get_or x i blank) e ∙ get_or_part base n i ys blank k
       go (inr k) = f i k h ∙ sym (g i k h)
 
   -- k rows as wide as w, one behind the other

@@ -14,7 +14,7 @@ use Rattle.cases.specs.declared.case.Program.{Program}
 use Rattle.cases.specs.Choice.{pick}
 use Rattle.cases.specs.Sizes.{most_instructions, all_code}
 use Rattle.cases.specs.Checks.{lines_of, instruction_at}
-use Rattle.cases.proofs.ArrayLaws.{get_d_blank}
+use Rattle.cases.proofs.ArrayLaws.{get_or_blank}
 use Rattle.cases.proofs.Promises.{thread_low}
 use Rattle.cases.specs.Operations.{exchange, compare, first_operation, last_operation}
 use Rattle.machine.specs.declared.cells.State.{State}
@@ -52,9 +52,9 @@ pub start_blank : (p : Program) → BlankBehind (start_of p)
 unfolding start_of
 start_blank p =
     record {
-      words_blank = λ q h i a b. get_d_blank {A = ℕ} all_slots (q * room + i) 0;
-      marks_blank = λ q h i a b. get_d_blank {A = ℕ} all_slots (q * room + i) 0;
-      entries_blank = λ t h i a b. get_d_blank all_code (t * most_instructions + i) blank_waiting;
+      words_blank = λ q h i a b. get_or_blank {A = ℕ} all_slots (q * room + i) 0;
+      marks_blank = λ q h i a b. get_or_blank {A = ℕ} all_slots (q * room + i) 0;
+      entries_blank = λ t h i a b. get_or_blank all_code (t * most_instructions + i) blank_waiting;
     }
 
 -- one more at a queue's end, at a buffer's end

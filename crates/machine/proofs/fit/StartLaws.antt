@@ -8,7 +8,7 @@ use native.Mathlib.Nat.{add-zero}
 use lib.ListN.{get_or, length-replicate}
 use Rattle.cases.specs.declared.case.Program.{Program}
 use Rattle.cases.specs.Sizes.{most_threads, most_instructions, most_locations, all_code}
-use Rattle.cases.proofs.ArrayLaws.{get_d_blank}
+use Rattle.cases.proofs.ArrayLaws.{get_or_blank}
 use Rattle.cases.specs.Checks.{count_at}
 use Rattle.machine.specs.Sizes.{room, all_slots, all_registers, most_work}
 use Rattle.machine.specs.View.{part, slots, marks_in, queue, queue_in, queue_len, buffer, buffer_in}
@@ -28,11 +28,11 @@ use Rattle.machine.proofs.work.WeighLaws.{weigh_most, weight_most}
 module _ (p : Program) where
   no_queue : (q : ℕ) → queue_len (start_of p) q ≡ 0
   unfolding start_of
-  no_queue q = get_d_blank {A = ℕ} most_locations q 0
+  no_queue q = get_or_blank {A = ℕ} most_locations q 0
 
   no_buffer : (t : ℕ) → buffer_len (start_of p) t ≡ 0
   unfolding start_of
-  no_buffer t = get_d_blank {A = ℕ} most_threads t 0
+  no_buffer t = get_or_blank {A = ℕ} most_threads t 0
 
   no_words : (q : ℕ) → part (q * room) (queue_len (start_of p) q) (start_of p).held ≡ []
   no_words q = part_none _ _ _ (no_queue q)
@@ -51,7 +51,7 @@ module _ (p : Program) where
 
   pub start_issued : (t : ℕ) → issued_of (start_of p) t ≡ 0
   unfolding start_of
-  start_issued t = get_d_blank {A = ℕ} most_threads t 0
+  start_issued t = get_or_blank {A = ℕ} most_threads t 0
 
   pub start_word : (l : ℕ) → word_of (start_of p) l ≡ get_or p.first l 0
   unfolding start_of

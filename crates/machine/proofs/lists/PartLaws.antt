@@ -48,10 +48,10 @@ module _ {ℓ} {A : Type ℓ} where
   unfolding part
   take_part k base n xs h = take-take k n (drop base xs) h
 
-  pub get_d_part : (base n i : ℕ) (xs : List A) (d : A) → i < n
+  pub get_or_part : (base n i : ℕ) (xs : List A) (d : A) → i < n
       → get_or (part base n xs) i d ≡ get_or xs (base + i) d
   unfolding part
-  get_d_part base n i xs d h = rw (get_or-take n (drop base xs) i d h, get_or-drop)
+  get_or_part base n i xs d h = rw (get_or-take n (drop base xs) i d h, get_or-drop)
 
   -- a turn of a loop that goes through a part; its end
   pub part_next : (base n i : ℕ) (xs : List A) (d : A) → i < n → base + n ≤ length xs

@@ -22,11 +22,11 @@ module _ {ℓ} {A : Type ℓ} where
       ∙ rw (k, append_assoc, ← drop-drop n base xs, take-append-drop n (drop base xs))
       (take-append-drop base xs)
 
-  pub get_d_sets_after : (xs : List A) (i : ℕ) (vs : List A) (j : ℕ) (d : A) → i + length vs ≤ j
+  pub get_or_sets_after : (xs : List A) (i : ℕ) (vs : List A) (j : ℕ) (d : A) → i + length vs ≤ j
       → get_or (sets xs i vs) j d ≡ get_or xs j d
-  get_d_sets_after xs i [] j d h = refl
-  get_d_sets_after xs i (v ∷ vs) j d h =
-      get_d_sets_after (set xs i v) (suc i) vs j d (omega arith) ∙ get_or-set_other xs i j v d (λ e. omega arith)
+  get_or_sets_after xs i [] j d h = refl
+  get_or_sets_after xs i (v ∷ vs) j d h =
+      get_or_sets_after (set xs i v) (suc i) vs j d (omega arith) ∙ get_or-set_other xs i j v d (λ e. omega arith)
 
   take_sets : (k : ℕ) (xs : List A) (i : ℕ) (vs : List A) → k ≤ i → take k (sets xs i vs) ≡ take k xs
   take_sets k xs i [] h = refl
@@ -141,7 +141,7 @@ module _ {ℓ} {A : Type ℓ} where
       let w : from + n ≡ i - 1 = omega arith in
       let v : (from + 1) + n ≡ i = omega arith in
       rw (
-        get_d_sets_after xs from (part (from + 1) n xs) i d (rw l (omega arith)),
+        get_or_sets_after xs from (part (from + 1) n xs) i d (rw l (omega arith)),
         e,
         part_more (from + 1) n xs d (omega arith),
         sets_append xs from (part (from + 1) n xs),

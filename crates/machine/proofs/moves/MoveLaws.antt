@@ -30,7 +30,7 @@ use Rattle.machine.specs.Rules.{entry_at, effect_rule, effect_of, pass_rule, mov
 use Rattle.machine.specs.Rules.{settled, persist_of}
 use Rattle.cases.specs.Ranges.{ProgramFits}
 use Rattle.machine.specs.Fit.{Named, Roomy}
-use Rattle.machine.proofs.lists.PartLaws.{get_d_part}
+use Rattle.machine.proofs.lists.PartLaws.{get_or_part}
 use Rattle.machine.proofs.view.LineOfLaws.{line_low}
 use Rattle.machine.proofs.rules.LentLaws.{effect_lent}
 use Rattle.machine.proofs.view.SlotLaws.{slots_next}
@@ -82,7 +82,7 @@ roomy_buffer s t b u e r = rw e r
 module _ (b : List Waiting) (waiting : List ℕ) (t i : ℕ) (h : i < get_or waiting t 0) where
   pub move_entry_is : entry_at (buffer_in b waiting t) i ≡ (get_or b (t * most_instructions + i) blank_waiting).entry
   unfolding buffer_in
-  move_entry_is = ap (λ w. w.entry) (get_d_part (t * most_instructions) (get_or waiting t 0) i b blank_waiting h)
+  move_entry_is = ap (λ w. w.entry) (get_or_part (t * most_instructions) (get_or waiting t 0) i b blank_waiting h)
 
   pub move_entry_named : (n : ℕ) → Named n (entry_at (buffer_in b waiting t) i)
       → Named n (get_or b (t * most_instructions + i) blank_waiting).entry

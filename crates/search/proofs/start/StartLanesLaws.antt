@@ -16,7 +16,7 @@ use Rattle.cases.specs.declared.case.Program.{Program}
 use Rattle.cases.specs.Choice.{pick}
 use Rattle.cases.specs.Ranges.{ProgramFits}
 use Rattle.cases.specs.Sizes.{most_threads, most_locations, most_registers}
-use Rattle.cases.proofs.ArrayLaws.{get_d_blank}
+use Rattle.cases.proofs.ArrayLaws.{get_or_blank}
 use Rattle.cases.proofs.ChoiceLaws.{pick_true, pick_false}
 use Rattle.machine.specs.Sizes.{all_registers}
 use Rattle.machine.specs.Rules.{start_of}
@@ -133,8 +133,8 @@ module _ (p : Program) where
   no_entries r = go (ltb r p.threads)
     where
       go : (b : Bool) → 0 ≡ pick b (buffer_len (start_of p) r) (queue_len (start_of p) (r - p.threads))
-      go true = sym (get_d_blank {A = ℕ} most_threads r 0)
-      go false = sym (get_d_blank {A = ℕ} most_locations (r - p.threads) 0)
+      go true = sym (get_or_blank {A = ℕ} most_threads r 0)
+      go false = sym (get_or_blank {A = ℕ} most_locations (r - p.threads) 0)
 
   no_rows : (r : ℕ) → [] ≡ split p.threads (buffer_lanes (start_of p)) (queue_lanes (start_of p)) r
   unfolding split pick buffer_lanes queue_lanes spread
@@ -146,7 +146,7 @@ module _ (p : Program) where
 
   no_register : (i : ℕ) → 0 ≡ register_lane (start_of p) i
   unfolding start_of register_lane
-  no_register i = sym (get_d_blank {A = ℕ} all_registers i 0)
+  no_register i = sym (get_or_blank {A = ℕ} all_registers i 0)
 
   -- all words put: the start's lanes
   begun_all : (l : ℕ) → p.locations ≤ l → lay (listing_of p) (begun p l) ≡ lanes_of p (start_of p)

@@ -12,7 +12,7 @@ use lib.Seq.{sets, length-sets, length-take-le, get_or-set_same, get_or-set_othe
 use Rattle.cases.proofs.ArrayLaws.{sets_append}
 use Rattle.search.specs.Sizes.{most_lanes, record_words}
 use Rattle.search.specs.Table.{place_of}
-use Rattle.search.proofs.taken.InPlaceLaws.{get_d_sets_before}
+use Rattle.search.proofs.taken.InPlaceLaws.{get_or_sets_before}
 
 -- sets: one more of a front; the values, where they stand
 sets_next : (m key : List ℕ) (at i : ℕ) → i < length key
@@ -21,18 +21,18 @@ sets_next m key at i h =
     sym (rw (add-one i, take-suc key i 0 h)
     (sets_append m at (take i key) (get_or key i 0 ∷ []) ∙ rw (length-take-le i key (omega arith))))
 
-get_d_sets_within : (vs m : List ℕ) (at i : ℕ) → at + length vs ≤ length m → i < length vs
+get_or_sets_within : (vs m : List ℕ) (at i : ℕ) → at + length vs ≤ length m → i < length vs
     → get_or (sets m at vs) (at + i) 0 ≡ get_or vs i 0
-get_d_sets_within [] m at i h k = absurd (omega arith)
-get_d_sets_within (v ∷ vs) m at zero h k =
+get_or_sets_within [] m at i h k = absurd (omega arith)
+get_or_sets_within (v ∷ vs) m at zero h k =
     ap (λ y. get_or (sets (set m at v) (suc at) vs) y 0) (add-zero at)
-    ∙ get_d_sets_before (set m at v) (suc at) vs at (omega arith)
+    ∙ get_or_sets_before (set m at v) (suc at) vs at (omega arith)
     ∙ get_or-set_same m at v 0 (omega arith)
-get_d_sets_within (v ∷ vs) m at (suc i) h k =
+get_or_sets_within (v ∷ vs) m at (suc i) h k =
     let n : length (set m at v) ≡ length m = length-set m at v in
     let e : at + suc i ≡ suc at + i = omega arith in
     ap (λ y. get_or (sets (set m at v) (suc at) vs) y 0) e
-    ∙ get_d_sets_within vs (set m at v) (suc at) i (omega arith) (omega arith)
+    ∙ get_or_sets_within vs (set m at v) (suc at) i (omega arith) (omega arith)
 
 -- a loop has copied the first i of n lanes
 pub record CopiedSoFar (before key : List ℕ) (at n : ℕ) (m : List ℕ) (i : ℕ) : Type 0 where
@@ -104,7 +104,7 @@ module _ (m key : List ℕ) (limit count b n : ℕ) (long : limit + limit * reco
   -- what stands before the lanes
   before_lanes : (i : ℕ) → i < at + 2 → i ≢ b → get_or (set laned b (count + 1)) i 0 ≡ get_or sized i 0
   before_lanes i h e =
-      get_or-set_other laned b i (count + 1) 0 e ∙ get_d_sets_before sized (at + 2) (take n key) i h
+      get_or-set_other laned b i (count + 1) 0 e ∙ get_or_sets_before sized (at + 2) (take n key) i h
 
   pub written : Written m (set laned b (count + 1)) limit count b (take n key)
   written =
@@ -124,7 +124,7 @@ module _ (m key : List ℕ) (limit count b n : ℕ) (long : limit + limit * reco
             ∙ sym kept;
         lanes =
             λ i h. get_or-set_other laned b (at + 2 + i) (count + 1) 0 (λ e. omega arith)
-            ∙ get_d_sets_within (take n key) sized (at + 2) i (omega arith) h;
+            ∙ get_or_sets_within (take n key) sized (at + 2) i (omega arith) h;
         head = get_or-set_same laned b (count + 1) 0 (omega arith) ∙ add-one count;
         others =
             λ i e h. before_lanes i (omega arith) e

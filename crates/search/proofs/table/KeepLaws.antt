@@ -11,7 +11,7 @@ use lib.Dec.{eqb}
 use lib.ListN.{length, get_or, set, take, length-set}
 use lib.Seq.{ext_get_or, length-take-le, sets, length-sets}
 use Rattle.machine.specs.View.{part}
-use Rattle.machine.proofs.lists.PartLaws.{length_part, get_d_part}
+use Rattle.machine.proofs.lists.PartLaws.{length_part, get_or_part}
 use Rattle.search.specs.Sizes.{most_lanes}
 use Rattle.search.specs.Table.{key_at, place_of, link_of, key_of, keys_in, bucket_of, On, Chained}
 use Rattle.search.proofs.table.CopyLaws.{Written, written}
@@ -23,14 +23,14 @@ part_is : (base n : ℕ) (xs ys : List ℕ) → base + n ≤ length xs → lengt
 part_is base n xs ys h k e =
     let w = length_part base n xs h in
     ext_get_or 0 (part base n xs) ys (w ∙ sym k)
-    (λ i l. let q : i < n = subst (λ y. i < y) w l in get_d_part base n i xs 0 q ∙ e i q)
+    (λ i l. let q : i < n = subst (λ y. i < y) w l in get_or_part base n i xs 0 q ∙ e i q)
 
 part_agrees : (base n : ℕ) (xs ys : List ℕ) → base + n ≤ length xs → base + n ≤ length ys
     → ((i : ℕ) → i < n → get_or xs (base + i) 0 ≡ get_or ys (base + i) 0)
     → part base n xs ≡ part base n ys
 part_agrees base n xs ys h k e =
     part_is base n xs (part base n ys) h (length_part base n ys k)
-    (λ i q. e i q ∙ sym (get_d_part base n i ys 0 q))
+    (λ i q. e i q ∙ sym (get_or_part base n i ys 0 q))
 
 -- of two numbers: they are the same, or they are not
 same_or : (i b : ℕ) → (i ≡ b) ⊎ (i ≢ b)

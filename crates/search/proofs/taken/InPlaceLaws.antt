@@ -10,14 +10,14 @@ use lib.Seq.{sets, set_comm, set_out, get_or-set_other, drop-cons, take-nil}
 use Rattle.cases.proofs.ArrayLaws.{sets_append}
 use Rattle.machine.specs.View.{part}
 use Rattle.machine.proofs.lists.PartLaws.{lt_or_ge, length_part, part_more, part_none}
-use Rattle.machine.proofs.lists.PutLaws.{get_d_sets_after}
+use Rattle.machine.proofs.lists.PutLaws.{get_or_sets_after}
 use Rattle.search.specs.Taken.{inserted, carried}
 
 -- what stands before values put into a list stays, and can be written before or after them
-pub get_d_sets_before : (xs : List ℕ) (i : ℕ) (vs : List ℕ) (j : ℕ) → j < i → get_or (sets xs i vs) j 0 ≡ get_or xs j 0
-get_d_sets_before xs i [] j h = refl
-get_d_sets_before xs i (v ∷ vs) j h =
-    get_d_sets_before (set xs i v) (suc i) vs j (omega arith) ∙ get_or-set_other xs i j v 0 (λ e. omega arith)
+pub get_or_sets_before : (xs : List ℕ) (i : ℕ) (vs : List ℕ) (j : ℕ) → j < i → get_or (sets xs i vs) j 0 ≡ get_or xs j 0
+get_or_sets_before xs i [] j h = refl
+get_or_sets_before xs i (v ∷ vs) j h =
+    get_or_sets_before (set xs i v) (suc i) vs j (omega arith) ∙ get_or-set_other xs i j v 0 (λ e. omega arith)
 
 set_sets : (xs : List ℕ) (i : ℕ) (vs : List ℕ) (j v : ℕ) → j < i
     → set (sets xs i vs) j v ≡ sets (set xs j v) i vs
@@ -74,7 +74,7 @@ module _ {at end : ℕ} {before row : List ℕ} {i : ℕ} (o : Opening at end be
               e,
               g,
               k,
-              get_d_sets_before before (suc (i + 1)) (part i (end - i) before) (i - 1) (omega arith),
+              get_or_sets_before before (suc (i + 1)) (part i (end - i) before) (i - 1) (omega arith),
               sets_part_cons before (i + 1) (i - 1) (end - i) (omega arith),
               f,
             )
@@ -128,7 +128,7 @@ module _ {at to n : ℕ} {before row : List ℕ} {i : ℕ} (o : Carrying at to n
         moved =
             rw (
               o.moved,
-              get_d_sets_after before at (part (at + 2) m before) i 0 (rw l (omega arith)),
+              get_or_sets_after before at (part (at + 2) m before) i 0 (rw l (omega arith)),
               e,
               part_more (at + 2) m before 0 (omega arith),
               sets_append before at (part (at + 2) m before),
@@ -154,10 +154,10 @@ module _ {at to n : ℕ} {before row : List ℕ} {i : ℕ} (o : Carrying at to n
 pub inserted_before : (x : List ℕ) (at end tag word i : ℕ) → i < at
     → get_or (inserted x at end tag word) i 0 ≡ get_or x i 0
 unfolding inserted
-inserted_before x at end tag word i h = get_d_sets_before x at (tag ∷ word ∷ part at (end - at) x) i h
+inserted_before x at end tag word i h = get_or_sets_before x at (tag ∷ word ∷ part at (end - at) x) i h
 
 pub carried_before : (x : List ℕ) (at to tag word i : ℕ) → i < at
     → get_or (carried x at to tag word) i 0 ≡ get_or x i 0
 unfolding carried
 carried_before x at to tag word i h =
-    get_d_sets_before x at (part (at + 2) (to - (at + 2)) x ++ (tag ∷ word ∷ [])) i h
+    get_or_sets_before x at (part (at + 2) (to - (at + 2)) x ++ (tag ∷ word ∷ [])) i h

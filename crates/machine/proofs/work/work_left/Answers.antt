@@ -18,17 +18,7 @@ returns-then-is_misfit c = search choices
 
 pub work_in-requires : goal.work_in-requires
 work_in-requires c =
-    let sized : Sized c.args.s =
-    record {
-      words_long = search rules;
-      held_long = search rules;
-      marks_long = search rules;
-      lengths_long = search rules;
-      buffers_long = search unmapped;
-      waiting_long = search rules;
-      registers_long = search rules;
-      issued_long = search rules;
-    } in
+    let sized : Sized c.args.s = search (rules, unmapped) in
     readable_fits _ (told_true _ _ c.reads_back.ensures c.if-not-reads_back.false) _
     sized (told _ _ _ c.is_misfit.ensures c.if-is_misfit.false)
 
