@@ -1,4 +1,5 @@
--- `unread` meets its contract: the offset of a reading is within the input, and what is lent back lies there. Assumes nothing.
+-- `unread` meets its contract: the offset of a reading is within the input, and what is lent back lies there.
+-- Assumes nothing.
 use Rattle.std.proofs.Common.{rules}
 use Rattle.cases.proofs.reader.UnreadLaws.{unread_within, unread_is, unread_there}
 use Rattle.cases.proofs.reader.unread.Goals as goal

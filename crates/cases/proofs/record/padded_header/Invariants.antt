@@ -7,7 +7,8 @@ use Rattle.cases.proofs.record.padded_header.Given as goal
 
 abbrev pub invariant-loop-i : goal.invariant-loop-i
 invariant-loop-i l =
-    (l.i ≤ l.n) × (l.n ≤ most_locations) × (length l.line ≡ most_locations) × (length l.initial.bytes ≡ longest_record)
+    (l.i ≤ l.n) × (l.n ≤ most_locations) × (length l.line ≡ most_locations)
+    × (length l.initial.bytes ≡ longest_record)
     × (l.bytes ≡ paste l.initial.bytes 8 l.line l.i)
 
 abbrev pub decreases-loop-i : goal.decreases-loop-i

@@ -10,7 +10,8 @@ loop-i-init c = (omega arith, search rules, paste-zero (replicate longest_record
 pub loop-i-preserved : goal.loop-i-preserved
 loop-i-preserved c =
     let l = c.loop-i in
-    (omega arith, l.invariant.1, widened_next (replicate longest_record 0) _ _ l.i l.invariant.2 (omega arith) (omega arith))
+    let next = widened_next (replicate longest_record 0) _ _ l.i l.invariant.2 (omega arith) (omega arith) in
+    (omega arith, l.invariant.1, next)
 
 pub returns : goal.returns
 returns c =

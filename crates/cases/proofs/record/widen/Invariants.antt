@@ -7,7 +7,8 @@ use Rattle.cases.proofs.record.widen.Given as goal
 
 abbrev pub invariant-loop-i : goal.invariant-loop-i
 invariant-loop-i l =
-    (l.i ≤ short_record) × (length l.front ≡ short_record) × (l.bytes ≡ paste (replicate longest_record 0) 0 l.front l.i)
+    (l.i ≤ short_record) × (length l.front ≡ short_record)
+    × (l.bytes ≡ paste (replicate longest_record 0) 0 l.front l.i)
 
 abbrev pub decreases-loop-i : goal.decreases-loop-i
 decreases-loop-i l = short_record - l.i

@@ -1,5 +1,6 @@
 use Rattle.std.proofs.Common.{sym, ◌∙◌, arith}
-use Rattle.cases.proofs.seats.EncodeLaws.{encoded_start, encoded_length, encoded_fits, encoded_next, encoded_none, encoded_end}
+use Rattle.cases.proofs.seats.EncodeLaws.{encoded_start, encoded_length, encoded_fits}
+use Rattle.cases.proofs.seats.EncodeLaws.{encoded_next, encoded_none, encoded_end}
 use Rattle.cases.proofs.seats.encode.Goals as goal
 use Rattle.cases.proofs.seats.encode.Goals.{in-Holds, in_default}
 
@@ -17,7 +18,8 @@ loop-k-preserved c =
       omega arith,
       elim c.match-x.branch [
         | in-Holds w ↦
-            encoded_next put (seat ∙ w.in-Holds.is) (w.at-is ∙ w.put_record-at.ensures.0) (w.out-is ∙ w.put_record-at.ensures.1)
+            encoded_next put (seat ∙ w.in-Holds.is) (w.at-is ∙ w.put_record-at.ensures.0)
+            (w.out-is ∙ w.put_record-at.ensures.1)
         | in_default w ↦ rw (w.out-is, w.at-is) (encoded_none put (seat ∙ w.in_default.is))
       ],
     )

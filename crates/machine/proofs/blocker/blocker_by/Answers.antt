@@ -35,7 +35,8 @@ returns-then-broken-eq27 c = rw (← c.entry_line.ensures) (search choices)
 
 pub returns-then-broken-eq28 : goal.returns-then-broken-eq28
 unfolding blocker_by
-returns-then-broken-eq28 c = rw (c.marker_place-then-broken-eq28.ensures, c.marker-then-broken-eq28.ensures) (search choices depth 9)
+returns-then-broken-eq28 c =
+    rw (c.marker_place-then-broken-eq28.ensures, c.marker-then-broken-eq28.ensures) (search choices depth 9)
 
 pub returns : goal.returns
 unfolding blocker_by

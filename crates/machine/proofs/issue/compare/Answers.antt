@@ -5,6 +5,11 @@ use Rattle.machine.specs.View.{with_register}
 use Rattle.machine.specs.Rules.{fetched}
 use Rattle.machine.proofs.steps.IssueLaws.{compare_some, compare_none}
 use Rattle.machine.proofs.issue.compare.Goals as goal
+use Rattle.machine.proofs.issue.compare.Goals.{Start}
+
+-- as many registers as their array is long
+sized : (c : Start) → length c.args.s.registers ≡ all_registers
+sized c = search rules
 
 pub enqueue-requires : goal.enqueue-requires
 unfolding fetched with_register
@@ -12,12 +17,12 @@ enqueue-requires c = rw (c.fetch-u.ensures, c.line_of.ensures) (search rules)
 
 pub returns-then-u-at : goal.returns-then-u-at
 returns-then-u-at c =
-    let sized : length c.args.s.registers ≡ all_registers = search rules in
-    compare_some c.args.p c.args.s _ c.args.x sized c.requires.0 c.requires.2 _ c.fetch-u.ensures
+    let long = sized (goal.at.returns-then-u-at c).Start in
+    compare_some c.args.p c.args.s _ c.args.x long c.requires.0 c.requires.2 _ c.fetch-u.ensures
     c.if-u-at.true _ _ c.line_of.ensures c.enqueue.ensures
 
 pub returns : goal.returns
 returns c =
-    let sized : length c.args.s.registers ≡ all_registers = search rules in
-    compare_none c.args.p c.args.s _ c.args.x sized c.requires.0 c.requires.2 _ c.fetch-u.ensures
+    let long = sized (goal.at.returns c).Start in
+    compare_none c.args.p c.args.s _ c.args.x long c.requires.0 c.requires.2 _ c.fetch-u.ensures
     c.if-u-at.false

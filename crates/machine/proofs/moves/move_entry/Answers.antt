@@ -5,16 +5,21 @@ use Rattle.cases.proofs.ArrayLaws.{unmapped}
 use Rattle.machine.proofs.change.ChangeLaws.{take_out_is}
 use Rattle.machine.proofs.moves.MoveLaws.{move_entry_named, roomy_buffer, move_taken}
 use Rattle.machine.proofs.moves.move_entry.Goals as goal
+use Rattle.machine.proofs.moves.move_entry.Goals.{Start}
+
+-- as many entries as their array is long
+sized : (c : Start) → length c.args.s.buffers ≡ all_code
+sized c = search unmapped
 
 pub take_effect-requires : goal.take_effect-requires
 take_effect-requires c =
-    let sized : length c.args.s.buffers ≡ all_code = search unmapped in
     let named = move_entry_named _ _ _ _ c.requires.2 _ c.requires.4 in
-    let left = take_out_is _ _ sized c.requires.1 _ _ c.requires.2 c.requires.3 c.close_entries-closed.ensures in
+    let long = sized (goal.at.take_effect-requires c).Start in
+    let left = take_out_is _ _ long c.requires.1 _ _ c.requires.2 c.requires.3 c.close_entries-closed.ensures in
     (c.requires.0, c.requires.1, named, roomy_buffer _ _ _ _ left c.requires.5)
 
 pub returns : goal.returns
 returns c =
-    move_taken _ _ _ _ _ _ c.requires.2
-    (take_out_is _ _ c.well_formed.1.0.1.1.1.1.1.1.0.1.0.1 c.requires.1 _ _ c.requires.2 c.requires.3 c.close_entries-closed.ensures)
-    c.take_effect.ensures
+    let long = sized (goal.at.returns c).Start in
+    let left = take_out_is _ _ long c.requires.1 _ _ c.requires.2 c.requires.3 c.close_entries-closed.ensures in
+    move_taken _ _ _ _ _ _ c.requires.2 left c.take_effect.ensures

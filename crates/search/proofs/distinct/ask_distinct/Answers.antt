@@ -36,6 +36,6 @@ states-requires c =
 pub returns : goal.returns
 returns c =
     let g = c.requires in
-    remember_told _ g.0 _ _ c.start_of-s.ensures _ c.work_in.ensures _ _ _ c.if-run-work_in.false _ c.covers-limit.ensures
-    _ _ c.meet_all-w.ensures _ c.told.ensures _ c.states.ensures _ _
+    remember_told _ g.0 _ _ c.start_of-s.ensures _ c.work_in.ensures _ _ _ c.if-run-work_in.false _
+    c.covers-limit.ensures _ _ c.meet_all-w.ensures _ c.told.ensures _ c.states.ensures _ _
     c.meet_all-w.auto.memory c.clear.ensures

@@ -11,7 +11,8 @@ use Rattle.search.proofs.next.offer_moves_of.Given as goal
 abbrev pub invariant-loop-i : goal.invariant-loop-i
 invariant-loop-i l =
     (l.base ≡ row_start l.c l.x l.t.0) × (l.many ≡ row_len l.c l.x l.t.0)
-    × OfferedSoFar (move_barred l.c l.x l.t.0) (move_step l.t.0) l.many l.i (next_with l.n l.ranks) (next_with l.initial.n l.initial.ranks)
+    × OfferedSoFar (move_barred l.c l.x l.t.0) (move_step l.t.0) l.many l.i
+    (next_with l.n l.ranks) (next_with l.initial.n l.initial.ranks)
 
 abbrev pub decreases-loop-i : goal.decreases-loop-i
 decreases-loop-i l = l.many - l.i

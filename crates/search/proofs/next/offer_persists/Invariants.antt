@@ -8,7 +8,8 @@ use Rattle.search.proofs.next.offer_persists.Given as goal
 -- the persists from queue q on, offered to the list so far, give what all of them give to the list at the start
 abbrev pub invariant-loop-q : goal.invariant-loop-q
 invariant-loop-q l =
-    OfferedSoFar (persist_barred l.c l.x) persist_step l.lines l.q (next_with l.n l.ranks) (next_with l.initial.n l.initial.ranks)
+    OfferedSoFar (persist_barred l.c l.x) persist_step l.lines l.q
+    (next_with l.n l.ranks) (next_with l.initial.n l.initial.ranks)
 
 abbrev pub decreases-loop-q : goal.decreases-loop-q
 decreases-loop-q l = l.lines - l.q

@@ -29,7 +29,9 @@ leave-requires-then-tag-ge-FLUSH_TAG c =
 
 pub returns-then-tag-ge-FLUSH_TAG : goal.returns-then-tag-ge-FLUSH_TAG
 unfolding moved_lanes
-returns-then-tag-ge-FLUSH_TAG c = let e = rw c.buffer_row-then-tag-ge-FLUSH_TAG.ensures at c.leave-then-tag-ge-FLUSH_TAG.ensures in search choices
+returns-then-tag-ge-FLUSH_TAG c =
+    let e = rw c.buffer_row-then-tag-ge-FLUSH_TAG.ensures at c.leave-then-tag-ge-FLUSH_TAG.ensures in
+    search choices
 
 pub carry_over-requires-2 : goal.carry_over-requires-2
 carry_over-requires-2 c =
