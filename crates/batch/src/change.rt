@@ -1,6 +1,6 @@
 // A case in memory with one of its fields changed, whatever that makes of it; docs/FRAMES.md numbers the
 // fields.
-use cases::case::{Ask, Case, Location, Program, Register, Run, Thread};
+use cases::case::{Ask, Case, Instruction, Location, Program, Register, Run, Step, Thread};
 use cases::sizes::{CODE, LOCATIONS, STEPS, THREADS};
 
 // Where each part's fields begin; an instruction and a step have four each.
@@ -23,156 +23,74 @@ fn low(value: u32) -> u8 {
     (value % 256) as u8
 }
 
-fn in_program(p: Program, field: usize, value: u32) -> Program {
-    let mut q = p;
-    if field == 1 {
-        q.threads = low(value);
-        return q;
+fn in_program(p: &mut Program, field: usize, value: u32) {
+    match field {
+        1 => p.threads = low(value),
+        2 => p.locations = low(value),
+        FROM_FIRSTS..FROM_COUNTS => p.first[field - FROM_FIRSTS] = value,
+        FROM_COUNTS..FROM_CODE => p.counts[field - FROM_COUNTS] = low(value),
+        _ => {}
     }
-    if field == 2 {
-        q.locations = low(value);
-        return q;
-    }
-    if field < FROM_FIRSTS {
-        return q;
-    }
-    if field < FROM_COUNTS {
-        q.first[field - FROM_FIRSTS] = value;
-        return q;
-    }
-    if field < FROM_CODE {
-        q.counts[field - FROM_COUNTS] = low(value);
-    }
-    q
 }
 
 // The number of lines, then each location's line.
-fn in_lines(p: Program, k: usize, value: u32) -> Program {
-    let mut q = p;
-    if k == 0 {
-        q.lines = low(value);
-        return q;
+fn in_lines(p: &mut Program, field: usize, value: u32) {
+    match field {
+        0 => p.lines = low(value),
+        1..=LOCATIONS => p.line[field - 1] = low(value),
+        _ => {}
     }
-    let l = k - 1;
-    if l < LOCATIONS {
-        q.line[l] = low(value);
-    }
-    q
 }
 
-// One of an instruction's four fields.
-fn in_code(p: Program, k: usize, value: u32) -> Program {
-    let mut q = p;
-    if 4 * CODE <= k {
-        return q;
+fn in_instruction(x: &mut Instruction, part: usize, value: u32) {
+    match part {
+        0 => x.operation = low(value),
+        1 => x.location = Location(low(value)),
+        2 => x.register = Register(low(value)),
+        _ => x.word = value,
     }
-    let at = k / 4;
-    let mut x = q.code[at];
-    let part = k % 4;
-    if part == 0 {
-        x.operation = low(value);
-    }
-    if part == 1 {
-        let l = Location(low(value));
-        x.location = l;
-    }
-    if part == 2 {
-        let r = Register(low(value));
-        x.register = r;
-    }
-    if part == 3 {
-        x.word = value;
-    }
-    q.code[at] = x;
-    q
 }
 
-fn in_ask(a: Ask, field: usize, value: u32) -> Ask {
-    let mut b = a;
+fn in_ask(a: &mut Ask, field: usize, value: u32) {
     if field < LOCATIONS {
-        b.wanted[field] = value != 0;
-        return b;
+        a.wanted[field] = value != 0;
+    } else if field < 2 * LOCATIONS {
+        a.want[field - LOCATIONS] = value;
+    } else if field < 2 * LOCATIONS + THREADS {
+        a.passed[field - 2 * LOCATIONS] = low(value);
     }
-    if field < 2 * LOCATIONS {
-        b.want[field - LOCATIONS] = value;
-        return b;
+}
+
+fn in_step(k: &mut Step, part: usize, value: u32) {
+    match part {
+        0 => k.thread = Thread(low(value)),
+        1 => k.code = low(value),
+        2 => k.position = low(value),
+        _ => k.location = Location(low(value)),
     }
-    if field < 2 * LOCATIONS + THREADS {
-        b.passed[field - 2 * LOCATIONS] = low(value);
-    }
-    b
 }
 
 // The number of steps, then each step's four fields.
-fn in_run(r: Run, field: usize, value: u32) -> Run {
-    let mut s = r;
+fn in_run(r: &mut Run, field: usize, value: u32) {
     if field == 0 {
-        s.count = (value % 65536) as u16;
-        return s;
+        r.count = (value % 65536) as u16;
+    } else if field <= 4 * STEPS {
+        in_step(&mut r.steps[(field - 1) / 4], (field - 1) % 4, value);
     }
-    let k = field - 1;
-    if 4 * STEPS <= k {
-        return s;
-    }
-    let at = k / 4;
-    let mut x = s.steps[at];
-    let part = k % 4;
-    if part == 0 {
-        let t = Thread(low(value));
-        x.thread = t;
-    }
-    if part == 1 {
-        x.code = low(value);
-    }
-    if part == 2 {
-        x.position = low(value);
-    }
-    if part == 3 {
-        let l = Location(low(value));
-        x.location = l;
-    }
-    s.steps[at] = x;
-    s
 }
 
-pub(crate) fn changed(c: Case, field: usize, value: u32) -> Case {
-    if field < FROM_CODE {
-        let p = c.program;
-        return Case {
-            program: in_program(p, field, value),
-            ..c
-        };
+// By value: the case that was read stays what it is.
+pub(crate) fn changed(mut c: Case, field: usize, value: u32) -> Case {
+    match field {
+        0..FROM_CODE => in_program(&mut c.program, field, value),
+        FROM_CODE..FROM_ASK => {
+            let k = field - FROM_CODE;
+            in_instruction(&mut c.program.code[k / 4], k % 4, value);
+        }
+        FROM_ASK..FROM_RUN => in_ask(&mut c.ask, field - FROM_ASK, value),
+        FROM_RUN..FROM_VERSION => in_run(&mut c.run, field - FROM_RUN, value),
+        FROM_VERSION => c.version = (value % 65536) as u16,
+        _ => in_lines(&mut c.program, field - FROM_LINES, value),
     }
-    if field < FROM_ASK {
-        let p = c.program;
-        return Case {
-            program: in_code(p, field - FROM_CODE, value),
-            ..c
-        };
-    }
-    if field < FROM_RUN {
-        let a = c.ask;
-        return Case {
-            ask: in_ask(a, field - FROM_ASK, value),
-            ..c
-        };
-    }
-    if field < FROM_VERSION {
-        let r = c.run;
-        return Case {
-            run: in_run(r, field - FROM_RUN, value),
-            ..c
-        };
-    }
-    if field < FROM_LINES {
-        return Case {
-            version: (value % 65536) as u16,
-            ..c
-        };
-    }
-    let p = c.program;
-    Case {
-        program: in_lines(p, field - FROM_LINES, value),
-        ..c
-    }
+    c
 }

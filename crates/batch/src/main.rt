@@ -4,92 +4,68 @@
 // stream. Where standard input cannot be read the stream ends, and standard error says why.
 #![tactic(auto)]
 
+use crate::job::Job;
 use crate::print::ROOM;
 use cases::{reader, writer};
+use input::LARGE;
 use std::io;
 
 mod asked;
 mod change;
-mod numbers;
+mod job;
 mod print;
 mod state;
 mod stream;
 mod trial;
 
 ghost use Rattle.std.specs.Prelude.{◌+◌, ◌≤◌};
-ghost use Rattle.batch.specs.Sizes.{most_input, most_room};
+ghost use Rattle.batch.specs.Sizes.{most_room};
 
 // More frames than a comparison has; a stream ends with its input.
 const FRAMES: u32 = 100000000;
 
 const HEAD: usize = 16;
 
-const INPUT: usize = 65536;
-
 // A frame of the machine begins with this number and its job; the other frames begin with a length.
 const MACHINE: u32 = 2147483648;
 
-// The job that asks the question; the others are the machine's.
-const QUESTION: u32 = 3;
-
-fn number_at(head: [u8; HEAD], at: usize) -> u32
+fn number_at(head: &[u8; HEAD], at: usize) -> u32
     requires { at + 4 ≤ 16 }
 {
-    numbers::word(head[at], head[at + 1], head[at + 2], head[at + 3])
+    u32::from_le_bytes([head[at], head[at + 1], head[at + 2], head[at + 3]])
 }
 
 fn answer(rt: HostRuntime, bytes: &[u8], field: usize, value: u32, room: usize) -> io::Result<()>
     requires { room ≤ most_room }
 {
     let r = cases::read(bytes);
-    let a = r.answer;
     let rest = cases::unread(bytes);
-    print::number(rt, reader::number(a) as usize)?;
-    print::number(rt, reader::offset(a))?;
+    print::number(rt, reader::number(r.answer) as usize)?;
+    print::number(rt, reader::offset(r.answer))?;
     print::number(rt, rest.len())?;
     print::part(rt, rest)?;
-    let c = r.case;
     let mut lent = [0xA5u8; ROOM];
-    let w = cases::write(change::changed(c, field, value), &mut lent[..room]);
+    let w = cases::write(change::changed(r.case, field, value), &mut lent[..room]);
     print::number(rt, writer::wrote_number(w) as usize)?;
     print::number(rt, writer::wrote_length(w))?;
-    print::buffer(rt, lent, room)?;
+    print::lent(rt, &lent[..room])?;
     print::end(rt)
 }
 
-// Answers for the first n bytes of a buffer. By value: what filled it is forgotten here, and that it is as long
-// as its type is not.
-fn answer_first(
-    rt: HostRuntime,
-    input: [u8; INPUT],
-    n: usize,
-    field: usize,
-    value: u32,
-    room: usize,
-) -> io::Result<()>
-    requires { (n ≤ most_input) × (room ≤ most_room) }
-{
-    answer(rt, &input[..n], field, value, room)
-}
-
 // Answers a frame of cases; false where the stream ends in it, or is no stream of frames.
-fn case_frame(rt: HostRuntime, head: [u8; HEAD]) -> io::Result<bool> {
+fn case_frame(rt: HostRuntime, head: &[u8; HEAD]) -> io::Result<bool> {
     let n = number_at(head, 0) as usize;
     let room = number_at(head, 12) as usize;
-    if INPUT < n {
-        return Ok(false);
-    }
-    if ROOM < room {
+    if LARGE < n || ROOM < room {
         return Ok(false);
     }
     let mut lent = input::large_buffer();
     if !stream::fills(rt, &mut lent[..n])? {
         return Ok(false);
     }
-    answer_first(
+    answer(
         rt,
-        lent,
-        n,
+        &lent[..n],
         number_at(head, 4) as usize,
         number_at(head, 8),
         room,
@@ -98,21 +74,22 @@ fn case_frame(rt: HostRuntime, head: [u8; HEAD]) -> io::Result<bool> {
 }
 
 // Answers a frame of the machine; false where the stream ends in it, or is no stream of frames.
-fn machine_frame(rt: HostRuntime, head: [u8; HEAD], job: u32) -> io::Result<bool> {
+fn machine_frame(rt: HostRuntime, head: &[u8; HEAD], job: Job) -> io::Result<bool> {
     let n = number_at(head, 4) as usize;
-    if INPUT < n {
+    if LARGE < n {
         return Ok(false);
     }
     let mut lent = input::large_buffer();
     if !stream::fills(rt, &mut lent[..n])? {
         return Ok(false);
     }
-    let third = number_at(head, 8) as usize;
-    let fourth = number_at(head, 12);
-    if job == QUESTION {
-        return asked::answer(rt, lent, n, third, fourth);
-    }
-    trial::answer(rt, job, lent, n, third, fourth)
+    trial::answer(
+        rt,
+        job,
+        &lent[..n],
+        number_at(head, 8) as usize,
+        number_at(head, 12),
+    )
 }
 
 // Answers one frame; false where the stream has ended.
@@ -121,11 +98,11 @@ fn frame(rt: HostRuntime) -> io::Result<bool> {
     if !stream::fills(rt, &mut head)? {
         return Ok(false);
     }
-    let first = number_at(head, 0);
+    let first = number_at(&head, 0);
     if MACHINE <= first {
-        return machine_frame(rt, head, first - MACHINE);
+        return machine_frame(rt, &head, Job::from(first - MACHINE));
     }
-    case_frame(rt, head)
+    case_frame(rt, &head)
 }
 
 fn main(rt: HostRuntime) -> io::Result<()> {

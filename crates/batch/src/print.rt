@@ -14,69 +14,48 @@ const TEXT: usize = 2 * ROOM;
 fn glyph(digit: u8) -> u8
     requires { digit < 16 }
 {
-    if digit < 10 { 48 + digit } else { 87 + digit }
+    if digit < 10 {
+        b'0' + digit
+    } else {
+        b'a' + (digit - 10)
+    }
 }
 
-// Bytes in hex, two digits each.
+// Bytes in hex, two digits each: a format for each would write each by a call of its own.
 fn bytes(rt: HostRuntime, part: &[u8]) -> io::Result<()>
     requires { length part.now ≤ most_room }
 {
-    let count = part.len();
     let mut text = [0u8; TEXT];
-    let mut i = 0;
-    while i < count {
-        let b = part[i];
-        text[2 * i] = glyph(b / 16 % 16);
+    for (i, b) in part.iter().enumerate() {
+        text[2 * i] = glyph(b / 16);
         text[2 * i + 1] = glyph(b % 16);
-        i = i + 1;
     }
-    rt.write_all(&text[..2 * count])
-}
-
-// How many of the bytes that are left are printed next.
-fn at_once(left: usize) -> usize
-    requires { 0 < left }
-    ensures { (0 < result) × (result ≤ left) × (result ≤ most_room) }
-{
-    if ROOM < left {
-        return ROOM;
-    }
-    left
+    rt.write_all(&text[..2 * part.len()])
 }
 
 // A part of a line: any number of bytes, or `-` where there are none.
 pub(crate) fn part(rt: HostRuntime, rest: &[u8]) -> io::Result<()> {
-    let count = rest.len();
-    if count == 0 {
+    if rest.is_empty() {
         print!(rt; "-")?;
     }
-    let mut at = 0;
-    while at < count {
-        let end = at + at_once(count - at);
-        bytes(rt, &rest[at..end])?;
-        at = end;
+    for some in rest.chunks(ROOM) {
+        bytes(rt, some)?;
     }
     print!(rt; " ")
 }
 
-// The first `count` bytes, or `-` where there are none.
-pub(crate) fn buffer(rt: HostRuntime, lent: [u8; ROOM], count: usize) -> io::Result<()>
-    requires { count ≤ most_room }
+// Bytes that a call was lent, or `-` where there are none.
+pub(crate) fn lent(rt: HostRuntime, bytes_lent: &[u8]) -> io::Result<()>
+    requires { length bytes_lent.now ≤ most_room }
 {
-    if count == 0 {
+    if bytes_lent.is_empty() {
         print!(rt; "-")?;
     }
-    bytes(rt, &lent[..count])
+    bytes(rt, bytes_lent)
 }
 
 pub(crate) fn end(rt: HostRuntime) -> io::Result<()> {
     println!(rt)
-}
-
-// Which buffer or queue, and the position in it.
-pub(crate) fn place(rt: HostRuntime, word: &[u8], number: u8, position: u8) -> io::Result<()> {
-    rt.write_all(word)?;
-    print!(rt; "{number}.{position}")
 }
 
 pub(crate) fn number(rt: HostRuntime, n: usize) -> io::Result<()> {

@@ -1,19 +1,17 @@
-// Frames of the machine: a run judged, a single step given with a state in memory, or a case's start.
-ghost use Rattle.std.specs.Prelude.{◌≤◌};
-ghost use Rattle.batch.specs.Sizes.{most_input};
-
+// Frames of the machine: a run judged, a single step given with a state in memory, a case's start, or its question.
+use crate::job::Job;
 use crate::print::ROOM;
 use crate::state::STATE_BYTES;
-use crate::{INPUT, change, print, state, stream};
+use crate::{asked, change, print, state, stream};
 use cases::case::{Case, Location, Step, Thread};
 use machine::blocker::Blocker;
 use machine::cells::State;
+use machine::runs::Judged;
+use machine::steps::Stepped;
 use machine::work::Weighed;
 use machine::{runs, steps, work};
 use std::io;
-
-// The job that asks for a start; the question's comes before it.
-const START: u32 = 4;
+use telling::Place;
 
 fn print_weight(rt: HostRuntime, w: Weighed) -> io::Result<()> {
     let refused = work::weighed_number(w);
@@ -24,81 +22,57 @@ fn print_weight(rt: HostRuntime, w: Weighed) -> io::Result<()> {
     print::number(rt, work::weighed_work(w))
 }
 
-// `B0.2` or `Q1.0`, and nothing where no entry is named.
-fn print_place(rt: HostRuntime, b: Blocker) -> io::Result<()> {
-    match b {
-        Blocker::InBuffer(t, i) => print::place(rt, b" B", t.0, i),
-        Blocker::InQueue(q, i) => print::place(rt, b" Q", q.0, i),
-        Blocker::NoEntry => Ok(())
+// What a frame's line says first: the number, its place, and the first entry in the way where one is named.
+#[derive(Clone, Copy)]
+struct Said {
+    number: u8,
+    place: usize,
+    blocker: Blocker,
+}
+
+fn said_of_run(j: &Judged) -> Said {
+    Said {
+        number: runs::verdict_number(j.verdict),
+        place: runs::verdict_place(j.verdict),
+        blocker: runs::verdict_blocker(j.verdict),
     }
+}
+
+fn said_of_step(r: &Stepped) -> Said {
+    Said {
+        number: steps::ruling_number(r.ruling),
+        place: 0,
+        blocker: steps::ruling_blocker(r.ruling),
+    }
+}
+
+// A function of its own: what filled the bytes is forgotten here, and that they are as many as their type says is not.
+fn print_state(rt: HostRuntime, raw: &[u8; ROOM]) -> io::Result<()> {
+    print::lent(rt, &raw[..STATE_BYTES])
 }
 
 // The number, its place, the work left in one state, the full length, the other state's bytes, and the place of
 // the first entry in the way where one is named.
 fn print_line(
     rt: HostRuntime,
-    number: u8,
-    place: usize,
-    b: Blocker,
+    said: &Said,
     c: Case,
     weighed: State,
-    out: State,
+    out: &State,
 ) -> io::Result<()> {
-    print::number(rt, number as usize)?;
-    print::number(rt, place)?;
+    print::number(rt, said.number as usize)?;
+    print::number(rt, said.place)?;
     print_weight(rt, machine::work_left(c, weighed))?;
     print_weight(rt, machine::full_length(c))?;
     let mut raw = [0u8; ROOM];
     state::to_bytes(&mut raw, out);
-    print::buffer(rt, raw, STATE_BYTES)?;
-    print_place(rt, b)?;
+    print_state(rt, &raw)?;
+    print!(rt; "{}", Place(said.blocker))?;
     print::end(rt)
 }
 
-// Judges bytes.
-fn judge_bytes(rt: HostRuntime, bytes: &[u8]) -> io::Result<()> {
-    let j = machine::judge_bytes(bytes);
-    let v = j.verdict;
-    let r = cases::read(bytes);
-    print_line(
-        rt,
-        runs::verdict_number(v),
-        runs::verdict_place(v),
-        runs::verdict_blocker(v),
-        r.case,
-        j.state,
-        j.state,
-    )
-}
-
-// Judges a case in memory.
-fn judge_case(rt: HostRuntime, c: Case) -> io::Result<()> {
-    let j = machine::judge(c);
-    let v = j.verdict;
-    print_line(
-        rt,
-        runs::verdict_number(v),
-        runs::verdict_place(v),
-        runs::verdict_blocker(v),
-        c,
-        j.state,
-        j.state,
-    )
-}
-
-// Asks where a case in memory starts.
-fn start_case(rt: HostRuntime, c: Case) -> io::Result<()> {
-    let r = machine::start(c);
-    let ruling = r.ruling;
-    print_line(
-        rt,
-        steps::ruling_number(ruling),
-        0,
-        steps::ruling_blocker(ruling),
-        c,
-        r.state,
-        r.state,
-    )
+fn print_run(rt: HostRuntime, c: Case, j: Judged) -> io::Result<()> {
+    print_line(rt, &said_of_run(&j), c, j.state, &j.state)
 }
 
 // Takes a single step in a state in memory; false where the stream ends before it.
@@ -119,43 +93,29 @@ fn take_step(rt: HostRuntime, c: Case) -> io::Result<bool> {
     };
     let s = state::from_bytes(&raw);
     let r = machine::step(c, s, k);
-    let ruling = r.ruling;
-    print_line(
-        rt,
-        steps::ruling_number(ruling),
-        0,
-        steps::ruling_blocker(ruling),
-        c,
-        s,
-        r.state,
-    )?;
+    print_line(rt, &said_of_step(&r), c, s, &r.state)?;
     Ok(true)
 }
 
-// Answers for the first n bytes of a buffer; false where the stream ends in the frame.
+// Answers for the bytes of a frame; false where the stream ends in the frame.
 pub(crate) fn answer(
     rt: HostRuntime,
-    job: u32,
-    input: [u8; INPUT],
-    n: usize,
+    job: Job,
+    input: &[u8],
     field: usize,
     value: u32,
-) -> io::Result<bool>
-    requires { n ≤ most_input }
-{
-    if job == 0 {
-        judge_bytes(rt, &input[..n])?;
-        return Ok(true);
+) -> io::Result<bool> {
+    let read = cases::read(input).case;
+    let c = change::changed(read, field, value);
+    match job {
+        Job::JudgeBytes => print_run(rt, read, machine::judge_bytes(input))?,
+        Job::JudgeCase => print_run(rt, c, machine::judge(c))?,
+        Job::Start => {
+            let r = machine::start(c);
+            print_line(rt, &said_of_step(&r), c, r.state, &r.state)?;
+        }
+        Job::Question => return asked::answer(rt, input, field, value),
+        Job::Step => return take_step(rt, c),
     }
-    let r = cases::read(&input[..n]);
-    let c = change::changed(r.case, field, value);
-    if job == 1 {
-        judge_case(rt, c)?;
-        return Ok(true);
-    }
-    if job == START {
-        start_case(rt, c)?;
-        return Ok(true);
-    }
-    take_step(rt, c)
+    Ok(true)
 }

@@ -2,22 +2,14 @@
 // signal interrupts counts as failed; no program here catches one.
 #![tactic(auto)]
 
-ghost use Rattle.std.specs.Prelude.{◌≡◌, length, replicate};
-ghost use Rattle.input.specs.Filled.{Within};
+ghost use Rattle.std.specs.Prelude.{◌≡◌, length, replicate, IfOk};
+ghost use Rattle.input.specs.Filled.{IsFront};
 
 use std::io;
 use std::io::{Print, Read};
 
 // As many bytes as an input can have that a program looks at.
 pub const LARGE: usize = 65536;
-
-// Bytes: so many of the lent bytes were read, fewer than all only where the input has ended. Failed: a read
-// failed; what was read before is not told.
-#[derive(Clone, Copy)]
-pub enum Filled {
-    Bytes(usize),
-    Failed,
-}
 
 // All zeros. A function of its own, so that a proof elsewhere knows its length without its bytes.
 pub fn large_buffer() -> [u8; LARGE]
@@ -27,32 +19,37 @@ pub fn large_buffer() -> [u8; LARGE]
     [0; LARGE]
 }
 
-// One read into the lent bytes.
-fn once<R: Read>(from: &mut R, buf: &mut [u8]) -> Filled
-    ensures { Within result buf.new }
-{
-    match from.read(buf) {
-        Ok(got) => Filled::Bytes(got),
-        Err(_) => Filled::Failed,
-    }
-}
-
-// Reads until the lent bytes are full, the input ends or a read fails.
-pub fn fill<R: Read>(from: &mut R, buf: &mut [u8]) -> Filled
-    ensures { Within result buf.new }
+// Reads until the lent bytes are full, the input ends or a read fails. Ok: so many were read, fewer than all only
+// where the input has ended. Err: what was read before is not told.
+pub fn fill<R: Read>(from: &mut R, buf: &mut [u8]) -> io::Result<usize>
+    ensures { IfOk result (λ n. IsFront n buf.new) }
 {
     let mut done = 0;
+    // no `for`: how far each turn goes is the reader's to say
     while done < buf.len() {
-        let filled = once(from, &mut buf[done..]);
-        let Filled::Bytes(more) = filled else {
-            return Filled::Failed;
-        };
+        let more = from.read(&mut buf[done..])?;
         if more == 0 {
             break;
         }
         done += more;
     }
-    Filled::Bytes(done)
+    Ok(done)
+}
+
+// Reads a whole input, as far as any program looks at one, and has it answered; where it cannot be read, says so on
+// standard error in the program's name.
+pub fn answered<F: FnOnce(&[u8]) -> io::Result<()> + Drop>(
+    rt: HostRuntime,
+    program: &[u8],
+    answer: F,
+) -> io::Result<()>
+    requires { F.IsAlwaysCallable answer }
+{
+    let mut lent = large_buffer();
+    match fill(&mut rt.stdin(), &mut lent) {
+        Ok(n) => answer(&lent[..n]),
+        Err(_) => say_failed(&rt.stderr(), program),
+    }
 }
 
 // What a program says on standard error where it could not read.

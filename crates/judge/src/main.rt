@@ -4,36 +4,14 @@
 // it says so on standard error, and nothing else.
 #![tactic(auto)]
 
-use cases::sizes::LOCATIONS;
-use input::Filled;
-use machine::blocker::Blocker;
 use machine::cells::State;
 use machine::runs::Verdict;
 use std::io;
-
-// `B0.2` or `Q1.0`, and nothing where no entry is named.
-fn say_illegal(rt: HostRuntime, index: usize, rule: u8, b: Blocker) -> io::Result<()> {
-    match b {
-        Blocker::InBuffer(t, i) => {
-            let thread = t.0;
-            println!(rt; "ILLEGAL {index} {rule} B{thread}.{i}")
-        }
-        Blocker::InQueue(q, i) => {
-            let line = q.0;
-            println!(rt; "ILLEGAL {index} {rule} Q{line}.{i}")
-        }
-        Blocker::NoEntry => println!(rt; "ILLEGAL {index} {rule}"),
-    }
-}
+use telling::Place;
 
 // What the persistent words of a program's locations hold.
-fn say_words(rt: HostRuntime, s: State, locations: u8) -> io::Result<()> {
-    let words = s.words;
-    for l in 0..LOCATIONS {
-        if (locations as usize) <= l {
-            return Ok(());
-        }
-        let word = words[l];
+fn say_words(rt: HostRuntime, s: &State, locations: u8) -> io::Result<()> {
+    for (l, word) in s.words.iter().take(locations as usize).enumerate() {
         println!(rt; "{l} {word}")?;
     }
     Ok(())
@@ -44,22 +22,17 @@ fn answer(rt: HostRuntime, bytes: &[u8]) -> io::Result<()> {
     match judged.verdict {
         Verdict::Legal(steps) => {
             println!(rt; "LEGAL {steps}")?;
-            let reading = cases::read(bytes);
-            let case = reading.case;
-            let program = case.program;
-            say_words(rt, judged.state, program.locations)
+            let case = cases::read(bytes).case;
+            say_words(rt, &judged.state, case.program.locations)
         }
-        Verdict::Illegal(rule, index, b) => say_illegal(rt, index, rule, b),
+        Verdict::Illegal(rule, index, blocker) => {
+            println!(rt; "ILLEGAL {index} {rule}{}", Place(blocker))
+        }
         Verdict::Refused(number, offset) => println!(rt; "REFUSED {number} {offset}"),
     }
 }
 
+// Reading looks at no byte behind 2,664, so that a fixed buffer answers for an input of any length.
 fn main(rt: HostRuntime) -> io::Result<()> {
-    // Reading looks at no byte behind 2,664, so that a fixed buffer answers for an input of any length.
-    let mut lent = input::large_buffer();
-    let filled = input::fill(&mut rt.stdin(), &mut lent);
-    match filled {
-        Filled::Bytes(n) => answer(rt, &lent[..n]),
-        Filled::Failed => input::say_failed(&rt.stderr(), b"judge"),
-    }
+    input::answered(rt, b"judge", |bytes| answer(rt, bytes))
 }

@@ -3,7 +3,6 @@
 // input cannot be read it says so on standard error, and nothing else.
 #![tactic(auto)]
 
-use input::Filled;
 use std::io;
 use telling::ROOM;
 
@@ -13,15 +12,10 @@ const BUDGET: u32 = 1000000;
 fn answer(rt: HostRuntime, bytes: &[u8]) -> io::Result<()> {
     let mut run = [0u8; ROOM];
     let outcome = search::question(bytes, &mut run, BUDGET);
-    telling::tell(&rt, outcome, run)
+    telling::tell(&rt, outcome, &run)
 }
 
+// Reading looks at no byte behind 2,664, so that a fixed buffer answers for an input of any length.
 fn main(rt: HostRuntime) -> io::Result<()> {
-    // Reading looks at no byte behind 2,664, so that a fixed buffer answers for an input of any length.
-    let mut lent = input::large_buffer();
-    let filled = input::fill(&mut rt.stdin(), &mut lent);
-    match filled {
-        Filled::Bytes(n) => answer(rt, &lent[..n]),
-        Filled::Failed => input::say_failed(&rt.stderr(), b"question"),
-    }
+    input::answered(rt, b"question", |bytes| answer(rt, bytes))
 }

@@ -4,7 +4,6 @@
 
 ghost use Rattle.std.specs.Prelude.{◌≡◌, length};
 
-use input::Filled;
 use std::io;
 use telling::ROOM;
 
@@ -25,15 +24,10 @@ fn answer(rt: HostRuntime, bytes: &[u8]) -> io::Result<()> {
     let mut run = [0u8; ROOM];
     let mut memory = zeros();
     let remembered = search::remember(bytes, &mut run, &mut memory, BUDGET);
-    telling::tell(&rt, remembered.outcome, run)
+    telling::tell(&rt, remembered.outcome, &run)
 }
 
+// Reading looks at no byte behind 2,664, so that a fixed buffer answers for an input of any length.
 fn main(rt: HostRuntime) -> io::Result<()> {
-    // Reading looks at no byte behind 2,664, so that a fixed buffer answers for an input of any length.
-    let mut lent = input::large_buffer();
-    let filled = input::fill(&mut rt.stdin(), &mut lent);
-    match filled {
-        Filled::Bytes(n) => answer(rt, &lent[..n]),
-        Filled::Failed => input::say_failed(&rt.stderr(), b"remember"),
-    }
+    input::answered(rt, b"remember", |bytes| answer(rt, bytes))
 }

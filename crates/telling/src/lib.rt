@@ -1,45 +1,81 @@
 // What the programs that ask print of an answer, a line each: REACHED and the number of steps, then the run that
-// reaches, a step a line; UNREACHABLE; UNDECIDED; or REFUSED, the number and the offset.
+// reaches, a step a line; UNREACHABLE; UNDECIDED; or REFUSED, the number and the offset. And how a step and the
+// place of an entry are written.
 #![tactic(auto)]
 
+ghost use Rattle.std.specs.Prelude.{Some};
+ghost use Rattle.telling.specs.Text.{step_text, place_text};
+
+use cases::case::{Line, Location, Step, Thread};
 use cases::operations::{ISSUE, MOVE, PERSIST};
 use cases::sizes::{STEP_SIZE, STEPS};
+use machine::blocker::Blocker;
 use search::ask::Outcome;
-use std::io;
 use std::io::Print;
+use std::{fmt, io};
 
 // Room for the longest run.
 pub const ROOM: usize = STEP_SIZE * STEPS;
 
-// A step by the payload of its record: I0 issues in thread 0, M0.0 moves the entry at position 0 of thread 0's
-// buffer, P1 persists the oldest entry of line 1.
-fn say_step<P: Print>(to: &P, thread: u8, code: u8, position: u8, location: u8) -> io::Result<()> {
-    if code == ISSUE {
-        return println!(to; "I{thread}");
+// A step: I0 issues in thread 0, M0.0 moves the entry at position 0 of thread 0's buffer, P1 persists the oldest
+// entry of line 1.
+#[derive(Clone, Copy)]
+pub struct Taken(pub Step);
+
+impl fmt::Display for Taken {
+    ghost output = { λ x. Some (step_text x.0) };
+
+    fn fmt<W: fmt::Write>(&self, f: &mut fmt::Formatter<W>) -> fmt::Result {
+        let k = &self.0;
+        if k.code == ISSUE {
+            return write!(f, "I{}", k.thread.0);
+        }
+        if k.code == MOVE {
+            return write!(f, "M{}.{}", k.thread.0, k.position);
+        }
+        if k.code == PERSIST {
+            return write!(f, "P{}", k.location.0);
+        }
+        Ok(())
     }
-    if code == MOVE {
-        return println!(to; "M{thread}.{position}");
-    }
-    if code == PERSIST {
-        return println!(to; "P{location}");
-    }
-    println!(to)
 }
 
-// The first steps of a run of records, no more than there is room for.
-fn say_run<P: Print>(to: &P, run: [u8; ROOM], count: usize) -> io::Result<()> {
-    for i in 0..STEPS {
-        if count <= i {
-            return Ok(());
+// The place of the first entry in the way, behind a blank: ` B0.2` or ` Q1.0`, and nothing where none is named.
+#[derive(Clone, Copy)]
+pub struct Place(pub Blocker);
+
+impl fmt::Display for Place {
+    ghost output = { λ x. Some (place_text x.0) };
+
+    fn fmt<W: fmt::Write>(&self, f: &mut fmt::Formatter<W>) -> fmt::Result {
+        match self.0 {
+            Blocker::InBuffer(Thread(t), i) => write!(f, " B{t}.{i}"),
+            Blocker::InQueue(Line(q), i) => write!(f, " Q{q}.{i}"),
+            Blocker::NoEntry => Ok(()),
         }
-        let at = STEP_SIZE * i;
-        say_step(to, run[at + 4], run[at + 5], run[at + 6], run[at + 7])?;
+    }
+}
+
+// The step of a record of eight bytes.
+fn step_in(record: &[u8; STEP_SIZE]) -> Step {
+    Step {
+        thread: Thread(record[4]),
+        code: record[5],
+        position: record[6],
+        location: Location(record[7]),
+    }
+}
+
+// The first steps of a run of records, no more than there are.
+fn say_run<P: Print>(to: &P, run: &[u8], count: usize) -> io::Result<()> {
+    for record in run.as_chunks().0.iter().take(count) {
+        println!(to; "{}", Taken(step_in(record)))?;
     }
     Ok(())
 }
 
 // An answer, and the run that stands in the buffer that was lent for it.
-pub fn tell<P: Print>(to: &P, outcome: Outcome, run: [u8; ROOM]) -> io::Result<()> {
+pub fn tell<P: Print>(to: &P, outcome: Outcome, run: &[u8]) -> io::Result<()> {
     match outcome {
         Outcome::Reached(count) => {
             println!(to; "REACHED {count}")?;

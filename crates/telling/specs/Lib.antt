@@ -1,0 +1,2 @@
+-- What the contracts of telling name.
+pub mod Text
