@@ -37,7 +37,7 @@ use Rattle.cases.proofs.parts.StepsLaws.{steps_length, steps_file_more}
 use Rattle.cases.proofs.parts.OtherRunLaws.{run_steps, other_readable}
 use Rattle.cases.proofs.parts.TwinLaws as TwinLaws
 use Rattle.cases.proofs.writer.WriteLaws.{write_stored_as, write_stored_is, write_untouched_is}
-use Rattle.cases.proofs.same.SameLaws.{case_is, case_self}
+use Rattle.cases.proofs.writer.SameLaws.{case_is, case_self}
 
 -- Reading any bytes at all
 module _ (s : List ℕ) where

@@ -2,27 +2,27 @@
 use crate::sizes::{CODE, LOCATIONS, STEPS, THREADS};
 
 // A number of one kind can't be passed for one of another.
-#[derive(Clone, Copy)]
+#[derive(Clone, Copy, PartialEq, Eq)]
 pub struct Thread(pub u8);
 
-#[derive(Clone, Copy)]
+#[derive(Clone, Copy, PartialEq, Eq)]
 pub struct Location(pub u8);
 
-#[derive(Clone, Copy)]
+#[derive(Clone, Copy, PartialEq, Eq)]
 pub struct Register(pub u8);
 
 // A cache line's number, and its queue's.
-#[derive(Clone, Copy)]
+#[derive(Clone, Copy, PartialEq, Eq)]
 pub struct Line(pub u8);
 
-#[derive(Clone, Copy)]
+#[derive(Clone, Copy, PartialEq, Eq)]
 pub struct Write {
     pub location: Location,
     pub word: u32,
 }
 
 // The record's own fields: what the operation doesn't use is 0.
-#[derive(Clone, Copy)]
+#[derive(Clone, Copy, PartialEq, Eq)]
 pub struct Instruction {
     pub operation: u8,
     pub location: Location,
@@ -31,7 +31,7 @@ pub struct Instruction {
 }
 
 // The record's own fields: what the code doesn't use is 0.
-#[derive(Clone, Copy)]
+#[derive(Clone, Copy, PartialEq, Eq)]
 pub struct Step {
     pub thread: Thread,
     pub code: u8,
@@ -41,7 +41,7 @@ pub struct Step {
 
 // Location l lies on line line[l]; behind the program's locations that is 0. Instruction i of thread t stands at
 // t * INSTRUCTIONS + i; a location without a first content holds 0.
-#[derive(Clone, Copy)]
+#[derive(Clone, Copy, PartialEq, Eq)]
 pub struct Program {
     pub threads: u8,
     pub locations: u8,
@@ -53,21 +53,21 @@ pub struct Program {
 }
 
 // A want has a flag, since not wanted is not wanted 0; a thread without a passed count has 0.
-#[derive(Clone, Copy)]
+#[derive(Clone, Copy, PartialEq, Eq)]
 pub struct Ask {
     pub wanted: [bool; LOCATIONS],
     pub want: [u32; LOCATIONS],
     pub passed: [u8; THREADS],
 }
 
-#[derive(Clone, Copy)]
+#[derive(Clone, Copy, PartialEq, Eq)]
 pub struct Run {
     pub count: u16,
     pub steps: [Step; STEPS],
 }
 
 // The version is the file's alone: no layer above looks at it.
-#[derive(Clone, Copy)]
+#[derive(Clone, Copy, PartialEq, Eq)]
 pub struct Case {
     pub version: u16,
     pub program: Program,

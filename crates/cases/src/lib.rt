@@ -10,7 +10,6 @@ pub mod lines;
 pub mod operations;
 pub mod reader;
 pub mod record;
-mod same;
 pub mod seats;
 pub mod sizes;
 pub mod writer;

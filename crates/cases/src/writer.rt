@@ -5,7 +5,6 @@ ghost use Rattle.cases.specs.Writing.{reads_as, reads_back, wrote_of, written_of
 
 use crate::case::Case;
 use crate::reader::{number, read};
-use crate::same::same_case;
 use crate::seats::encode;
 use crate::sizes::LONGEST;
 
@@ -41,16 +40,11 @@ fn blank_file() -> [u8; LONGEST]
 }
 
 // Do the bytes read as that very case?
-fn reads_as(bytes: &[u8], c: Case) -> bool
-    ensures { result ≡ reads_as bytes.now c }
+fn reads_as(bytes: &[u8], c: &Case) -> bool
+    ensures { result ≡ reads_as bytes.now c.now }
 {
     let r = read(bytes);
-    let answer = r.answer;
-    if number(answer) != 0 {
-        return false;
-    }
-    let d = r.case;
-    same_case(c, d)
+    number(r.answer) == 0 && *c == r.case
 }
 
 // Does some byte string read as the case? (else 32)
@@ -59,7 +53,7 @@ pub fn reads_back(c: Case) -> bool
 {
     let mut file = blank_file();
     let n = encode(c, &mut file);
-    reads_as(&file[..n], c)
+    reads_as(&file[..n], &c)
 }
 
 // Writes the case from the front of the lent bytes.
@@ -68,7 +62,7 @@ pub fn write(c: Case, out: &mut [u8]) -> Wrote
 {
     let mut file = blank_file();
     let n = encode(c, &mut file);
-    if !reads_as(&file[..n], c) {
+    if !reads_as(&file[..n], &c) {
         return Wrote::Untouched(32);
     }
     if out.len() < n {

@@ -1,15 +1,11 @@
--- Laws of `same_list`, for a loop that compares two arrays from the front, and of `same_case`: only a case itself
--- is the same. Assumes nothing.
-use Prim.Native.Nat.{ℕ, ◌+◌, ◌<◌, ◌≤◌}
-use mathlib.Core.Path.{◌≡◌, refl, sym, ◌∙◌}
+-- Laws of `same_case`: only a case itself is the same. Assumes nothing.
+use Prim.Native.Nat.{ℕ}
+use mathlib.Core.Path.{◌≡◌, refl, sym}
 use mathlib.Core.List.{List, [], ◌∷◌}
 use mathlib.Core.Bool.{Bool, true, false}
-use lib.ListN.{length, get_or, drop, drop_of_length-le}
-use lib.Seq.{drop-cons}
 use lib.Dec.{eqb}
 use borrow.Author.Tests.{eqb-true, eq-eqb}
 use native.Mathlib.Omega.{arith}
-use native.Mathlib.Numerals.{add-one}
 use Rattle.cases.specs.declared.case.Instruction.{Instruction}
 use Rattle.cases.specs.declared.case.Step.{Step}
 use Rattle.cases.specs.declared.case.Program.{Program}
@@ -20,50 +16,6 @@ use Rattle.cases.specs.Choice.{both}
 use Rattle.cases.specs.Writing.{same_list, same_flag, same_instruction, same_step}
 use Rattle.cases.specs.Writing.{same_sizes, same_program, same_ask, same_run, same_case}
 use Rattle.cases.proofs.ChoiceLaws.{both_true}
-
--- a loop has compared the first i of n elements: what is still to compare says what the whole lists say
-pub record SameSoFar {A : Type 0} (e : A → A → Bool) (a b : List A) (n i : ℕ) : Type 0 where
-  pub sized : length a ≡ n
-  pub sized_other : length b ≡ n
-  pub within : i ≤ n
-  pub rest : same_list e (drop i a) (drop i b) ≡ same_list e a b
-
--- nothing is compared yet
-pub same_start : {A : Type 0} (e : A → A → Bool) (a b : List A) (n : ℕ) → length a ≡ n → length b ≡ n
-    → SameSoFar e a b n 0
-same_start e a b n p q = record { sized = p; sized_other = q; within = omega arith; rest = refl }
-
--- a turn of that loop: the two elements are the same; they are not; every element is compared
-module _ {A : Type 0} {e : A → A → Bool} {a b : List A} {n i : ℕ} (o : SameSoFar e a b n i) where
-  module _ (d : A) (h : i < n) where
-    same_at : same_list e a b
-        ≡ both (e (get_or a i d) (get_or b i d)) (same_list e (drop (i + 1) a) (drop (i + 1) b))
-    unfolding same_list
-    same_at =
-        let p : i < length a = omega arith in
-        let q : i < length b = omega arith in
-        sym o.rest ∙ rw (drop-cons a i d, drop-cons b i d, add-one i)
-
-    pub same_next : e (get_or a i d) (get_or b i d) ≡ true → SameSoFar e a b n (i + 1)
-    unfolding both
-    same_next t =
-        record {
-          sized = o.sized;
-          sized_other = o.sized_other;
-          within = omega arith;
-          rest = sym (same_at ∙ rw t);
-        }
-
-    pub same_here : e (get_or a i d) (get_or b i d) ≡ false → false ≡ same_list e a b
-    unfolding both
-    same_here t = sym (same_at ∙ rw t)
-
-  pub same_end : n ≤ i → true ≡ same_list e a b
-  unfolding same_list
-  same_end h =
-      let p : length a ≤ i = omega arith in
-      let q : length b ≤ i = omega arith in
-      sym (sym o.rest ∙ rw (drop_of_length-le a p, drop_of_length-le b q))
 
 -- what the test calls the same is the same: of lists by their elements, of structs by their fields
 same_is : {A : Type 0} (e : A → A → Bool) → ((x y : A) → e x y ≡ true → x ≡ y)
