@@ -12,11 +12,9 @@
 --   as_header, as_write, as_instruction, as_step   the bytes s as what a payload holds, behind a head of 4 bytes
 --   record_of k s       the record of kind k whose bytes s starts with
 --   open_no s           0 where s starts with a whole record, else the number of the refusal
---   opened_as n r       how a record opens: as r where n is 0, else with the refusal n
---   open_of s           how the record opens that s starts with
 --   size_of s           how long that record is, by its head
 -- Assumes nothing.
-use Rattle.std.specs.Prelude.{ℕ, zero, suc, ◌+◌, ◌-◌, List, [], ◌∷◌, ◌++◌, Bool, length, get_or, take, replicate, eqb, ltb}
+use Rattle.std.specs.Prelude.{ℕ, ◌+◌, ◌-◌, List, [], ◌∷◌, ◌++◌, Bool, length, get_or, take, replicate, eqb, ltb}
 use Rattle.cases.specs.declared.case.Write.{Write}
 use Rattle.cases.specs.declared.case.Instruction.{Instruction}
 use Rattle.cases.specs.declared.case.Step.{Step}
@@ -25,8 +23,6 @@ use Rattle.cases.specs.declared.record.Header.{Header}
 use Rattle.cases.specs.declared.record.Padded.{Padded}
 use Rattle.cases.specs.declared.record.Record.{Record}
 use Rattle.cases.specs.declared.record.Record.TheVariants.{Declare, First, Instruct, Want, Passed, Take}
-use Rattle.cases.specs.declared.record.Opened.{Opened}
-use Rattle.cases.specs.declared.record.Opened.TheVariants.{Opens, Faulty}
 use Rattle.cases.specs.Sizes.{most_locations, short_record, longest_record}
 use Rattle.cases.specs.Choice.{pick, either, refuse}
 use Rattle.cases.specs.Bytes.{half, word_at, half_bytes, word_bytes}
@@ -160,18 +156,6 @@ open_no s =
     (refuse (eqb (payload_of (half s 2)) 0) 2
     (refuse (mislong (half s 2) (half s 0)) 3
     (refuse (ltb (length s - 4) (half s 0)) 1 0)))
-
-unfoldable pub opened_as : ℕ → Record → Opened
-opened_as zero r = Opens r
-opened_as (suc n) r = Faulty (suc n)
-
-unfoldable pub open_of : List ℕ → Opened
-open_of s = opened_as (open_no s) (record_of (half s 2) s)
-
--- the number that an opened record answers
-abbrev pub opened_no : Opened → ℕ
-opened_no (Opens r) = 0
-opened_no (Faulty n) = n
 
 unfoldable pub size_of : List ℕ → ℕ
 size_of s = 4 + half s 0

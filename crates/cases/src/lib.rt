@@ -6,6 +6,7 @@ mod bytes;
 pub mod case;
 pub mod checks;
 pub mod draft;
+pub mod fault;
 pub mod lines;
 pub mod operations;
 pub mod reader;

@@ -1,11 +1,13 @@
 // A record of a case: opened from bytes, and laid out as bytes.
-ghost use Rattle.std.specs.Prelude.{◌≡◌, false, ◌∷◌, ◌+◌, ◌≤◌, length};
+ghost use Rattle.std.specs.Prelude.{◌≡◌, false, ◌∷◌, ◌+◌, ◌≤◌, length, IfOk};
 ghost use Rattle.std.proofs.lemmas.List.Edits.{sets};
 ghost use Rattle.cases.specs.declared.record.Record.TheVariants.{Declare, Instruct, Passed, Take};
 ghost use Rattle.cases.specs.Sizes.{most_locations};
 ghost use Rattle.cases.specs.Bytes.{half, word_bytes};
+ghost use Rattle.cases.specs.Fault.{refusal_no};
 ghost use Rattle.cases.specs.Lines.{table};
 ghost use Rattle.cases.specs.Record.{
+  kind_of,
   payload_of,
   spare_of,
   mislong,
@@ -18,8 +20,7 @@ ghost use Rattle.cases.specs.Record.{
   as_instruction,
   as_step,
   record_of,
-  open_of,
-  opened_no,
+  open_no,
   size_of,
   record_bytes,
   widened,
@@ -28,6 +29,7 @@ ghost use Rattle.cases.specs.Record.{
 
 use crate::bytes::{byte_at, half_at, word_at, word_bytes};
 use crate::case::{Instruction, Location, Register, Step, Thread, Write};
+use crate::fault::Fault;
 use crate::sizes::{LOCATIONS, LONGEST_RECORD, SHORT_RECORD, STEP_SIZE};
 
 // A byte for each location that there may be. An enum can't hold an array.
@@ -61,7 +63,22 @@ pub struct Header {
     pub line: Row,
 }
 
-// A record of each kind, 1 to 6.
+// The kinds of records, by the numbers that stand in the file.
+pub(crate) const DECLARE: u16 = 1;
+
+pub(crate) const FIRST: u16 = 2;
+
+pub(crate) const INSTRUCT: u16 = 3;
+
+pub(crate) const WANT: u16 = 4;
+
+pub(crate) const PASSED: u16 = 5;
+
+pub(crate) const TAKE: u16 = 6;
+
+// There is no record of that kind: it stands where no record came yet.
+pub(crate) const NO_KIND: u16 = 0;
+
 #[derive(Clone, Copy)]
 pub enum Record {
     Declare(Header),
@@ -72,11 +89,19 @@ pub enum Record {
     Take(Step),
 }
 
-// How a record opens, or the number of what is wrong with its head or length.
-#[derive(Clone, Copy)]
-pub enum Opened {
-    Opens(Record),
-    Faulty(u8),
+impl Record {
+    pub(crate) fn kind(&self) -> u16
+        ensures { result ≡ kind_of self.now }
+    {
+        match self {
+            Record::Declare(_) => DECLARE,
+            Record::First(_) => FIRST,
+            Record::Instruct(_, _) => INSTRUCT,
+            Record::Want(_) => WANT,
+            Record::Passed(_, _) => PASSED,
+            Record::Take(_) => TAKE,
+        }
+    }
 }
 
 // A record's bytes, 0 behind them.
@@ -87,49 +112,36 @@ pub struct Padded {
 }
 
 // How long the payload of a kind is at least; 0 where there is no such kind.
+#[tactic(auto, using(crate::proofs::ChoiceLaws::choices), unfolding(crate::specs::Record::payload_of, crate::specs::Choice::pick))]
 fn payload(kind: u16) -> u16
     ensures { result ≡ payload_of kind }
 {
-    if kind == 1 {
-        return 4;
+    match kind {
+        DECLARE => 4,
+        FIRST => 5,
+        INSTRUCT => 8,
+        WANT => 5,
+        PASSED => 2,
+        TAKE => 4,
+        _ => 0,
     }
-    if kind == 2 {
-        return 5;
-    }
-    if kind == 3 {
-        return 8;
-    }
-    if kind == 4 {
-        return 5;
-    }
-    if kind == 5 {
-        return 2;
-    }
-    if kind == 6 {
-        return 4;
-    }
-    0
 }
 
 // How much longer it may be.
+#[tactic(auto, using(crate::proofs::ChoiceLaws::choices), unfolding(crate::specs::Record::spare_of))]
 fn spare(kind: u16) -> u16
     ensures { result ≡ spare_of kind }
 {
-    if kind == 1 {
-        return LOCATIONS as u16;
-    }
-    0
+    if kind == DECLARE { LOCATIONS as u16 } else { 0 }
 }
 
 // A payload of that kind has not so many bytes.
+#[tactic(auto, using(crate::proofs::ChoiceLaws::choices), unfolding(crate::specs::Record::mislong))]
 fn is_mislong(kind: u16, n: u16) -> bool
     ensures { result ≡ mislong kind n }
 {
     let least = payload(kind);
-    if n < least {
-        return true;
-    }
-    spare(kind) < n - least
+    n < least || spare(kind) < n - least
 }
 
 pub(crate) fn row_list(x: Row) -> [u8; LOCATIONS]
@@ -211,26 +223,19 @@ fn as_step(s: &[u8]) -> Step
 }
 
 // The record of that kind whose bytes s starts with.
+#[tactic(auto, using(crate::proofs::ChoiceLaws::choices), unfolding(crate::specs::Record::record_of, crate::specs::Choice::pick))]
 fn decode(s: &[u8], kind: u16) -> Record
     requires { mislong kind (half s.now 0) ≡ false }
     ensures { result ≡ record_of kind s.now }
 {
-    if kind == 1 {
-        return Record::Declare(as_header(s));
+    match kind {
+        DECLARE => Record::Declare(as_header(s)),
+        FIRST => Record::First(as_write(s)),
+        INSTRUCT => Record::Instruct(Thread(byte_at(s, 4)), as_instruction(s)),
+        WANT => Record::Want(as_write(s)),
+        PASSED => Record::Passed(Thread(byte_at(s, 4)), byte_at(s, 5)),
+        _ => Record::Take(as_step(s)),
     }
-    if kind == 2 {
-        return Record::First(as_write(s));
-    }
-    if kind == 3 {
-        return Record::Instruct(Thread(byte_at(s, 4)), as_instruction(s));
-    }
-    if kind == 4 {
-        return Record::Want(as_write(s));
-    }
-    if kind == 5 {
-        return Record::Passed(Thread(byte_at(s, 4)), byte_at(s, 5));
-    }
-    Record::Take(as_step(s))
 }
 
 // How long the record is that s starts with.
@@ -241,35 +246,27 @@ pub(crate) fn size(s: &[u8]) -> usize
 }
 
 // Opens the record that s starts with: 1 (head), 2, 3, 1 (payload).
-pub(crate) fn open_record(s: &[u8]) -> Opened
-    ensures { result ≡ open_of s.now }
+#[tactic(auto, using(crate::proofs::ChoiceLaws::choices), unfolding(crate::specs::Record::open_no))]
+pub(crate) fn open_record(s: &[u8]) -> Result<Record, Fault>
+    ensures number { refusal_no result ≡ open_no s.now }
+    ensures opened { IfOk result (λ r. r ≡ record_of (half s.now 2) s.now) }
 {
     let n = s.len();
     if n < 4 {
-        return Opened::Faulty(1);
+        return Err(Fault::Cut);
     }
     let length = half_at(s, 0);
     let kind = half_at(s, 2);
     if payload(kind) == 0 {
-        return Opened::Faulty(2);
+        return Err(Fault::UnknownKind);
     }
     if is_mislong(kind, length) {
-        return Opened::Faulty(3);
+        return Err(Fault::Length);
     }
     if n - 4 < (length as usize) {
-        return Opened::Faulty(1);
+        return Err(Fault::Cut);
     }
-    Opened::Opens(decode(s, kind))
-}
-
-// 0 where the record opens.
-pub(crate) fn opened_number(x: Opened) -> u8
-    ensures { result ≡ opened_no x }
-{
-    match x {
-        Opened::Opens(_) => 0,
-        Opened::Faulty(n) => n,
-    }
+    Ok(decode(s, kind))
 }
 
 // How many line bytes there are: no more than there is room for.

@@ -8,29 +8,28 @@ use crate::reader::{number, read};
 use crate::seats::encode;
 use crate::sizes::LONGEST;
 
-// Stored: 0, and the file's length. Untouched: the refusal's number.
-#[derive(Clone, Copy)]
-pub enum Wrote {
-    Stored(usize),
-    Untouched(u8),
+// Why nothing is written: no byte string reads as the case; the lent bytes are shorter than its file.
+#[derive(Clone, Copy, PartialEq, Eq)]
+pub enum Unwritten {
+    Unreadable = 32,
+    Short = 31,
 }
 
-pub fn wrote_number(w: Wrote) -> u8
+// 0 where the file was stored, else the refusal's number.
+pub fn wrote_number(w: Result<usize, Unwritten>) -> u8
     ensures { result ≡ wrote_no w }
 {
     match w {
-        Wrote::Stored(_) => 0,
-        Wrote::Untouched(m) => m,
+        Ok(_) => 0,
+        Err(refusal) => refusal as u8,
     }
 }
 
-pub fn wrote_length(w: Wrote) -> usize
+// The stored file's length, or 0.
+pub fn wrote_length(w: Result<usize, Unwritten>) -> usize
     ensures { result ≡ wrote_length w }
 {
-    match w {
-        Wrote::Stored(n) => n,
-        Wrote::Untouched(_) => 0,
-    }
+    w.unwrap_or(0)
 }
 
 fn blank_file() -> [u8; LONGEST]
@@ -56,18 +55,18 @@ pub fn reads_back(c: Case) -> bool
     reads_as(&file[..n], &c)
 }
 
-// Writes the case from the front of the lent bytes.
-pub fn write(c: Case, out: &mut [u8]) -> Wrote
+// Writes the case from the front of the lent bytes, and says how long its file is.
+pub fn write(c: Case, out: &mut [u8]) -> Result<usize, Unwritten>
     ensures { (result ≡ wrote_of c out.old) × (out.new ≡ written_of c out.old) }
 {
     let mut file = blank_file();
     let n = encode(c, &mut file);
     if !reads_as(&file[..n], &c) {
-        return Wrote::Untouched(32);
+        return Err(Unwritten::Unreadable);
     }
     if out.len() < n {
-        return Wrote::Untouched(31);
+        return Err(Unwritten::Short);
     }
     encode(c, out);
-    Wrote::Stored(n)
+    Ok(n)
 }

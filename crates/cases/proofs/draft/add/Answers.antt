@@ -5,43 +5,25 @@ use Rattle.cases.proofs.draft.add.Goals as goal
 
 pub add_header-requires : goal.add_header-requires
 add_header-requires c =
-    let s = header_sizes c.args.d _ (rw c.in-Declare.is at c.requires.2) in
+    let s = header_sizes c.args.d.now _ (rw c.in-Declare.is at c.requires.2) in
     (s.1, s.2)
 
 pub add_first-requires : goal.add_first-requires
 add_first-requires c =
-    first_seated c.args.d c.requires.0 c.requires.1 _ (rw c.in-First.is at c.requires.2)
+    first_seated c.args.d.now c.requires.0 c.requires.1 _ (rw c.in-First.is at c.requires.2)
 
 pub add_instruction-requires : goal.add_instruction-requires
 add_instruction-requires c =
-    instruction_seated c.args.d c.requires.0 c.requires.1 _ _ (rw c.in-Instruct.is at c.requires.2)
+    instruction_seated c.args.d.now c.requires.0 c.requires.1 _ _ (rw c.in-Instruct.is at c.requires.2)
 
 pub add_want-requires : goal.add_want-requires
 add_want-requires c =
-    want_seated c.args.d c.requires.0 c.requires.1 _ (rw c.in-Want.is at c.requires.2)
+    want_seated c.args.d.now c.requires.0 c.requires.1 _ (rw c.in-Want.is at c.requires.2)
 
 pub add_passed-requires : goal.add_passed-requires
 add_passed-requires c =
-    passed_seated c.args.d c.requires.0 c.requires.1 _ _ (rw c.in-Passed.is at c.requires.2)
+    passed_seated c.args.d.now c.requires.0 c.requires.1 _ _ (rw c.in-Passed.is at c.requires.2)
 
 pub add_step-requires : goal.add_step-requires
 add_step-requires c =
-    step_seated c.args.d _ (rw c.in-Take.is at c.requires.2)
-
-pub returns-in-Declare : goal.returns-in-Declare
-returns-in-Declare c = rw c.in-Declare.is c.add_header.ensures
-
-pub returns-in-First : goal.returns-in-First
-returns-in-First c = rw c.in-First.is c.add_first.ensures
-
-pub returns-in-Instruct : goal.returns-in-Instruct
-returns-in-Instruct c = rw c.in-Instruct.is c.add_instruction.ensures
-
-pub returns-in-Want : goal.returns-in-Want
-returns-in-Want c = rw c.in-Want.is c.add_want.ensures
-
-pub returns-in-Passed : goal.returns-in-Passed
-returns-in-Passed c = rw c.in-Passed.is c.add_passed.ensures
-
-pub returns-in-Take : goal.returns-in-Take
-returns-in-Take c = rw c.in-Take.is c.add_step.ensures
+    step_seated c.args.d.now _ (rw c.in-Take.is at c.requires.2)

@@ -4,4 +4,4 @@ use Rattle.cases.proofs.reader.refused.Goals as goal
 
 pub returns : goal.returns
 unfolding refused_of
-returns c = rw c.empty_case.ensures
+returns c = rw (c.empty_case.ensures, c.number.ensures)
