@@ -51,7 +51,7 @@ pub fn reads_back(c: Case) -> bool
     ensures { result ≡ reads_back c }
 {
     let mut file = blank_file();
-    let n = encode(c, &mut file);
+    let n = encode(&c, &mut file);
     reads_as(&file[..n], &c)
 }
 
@@ -60,13 +60,13 @@ pub fn write(c: Case, out: &mut [u8]) -> Result<usize, Unwritten>
     ensures { (result ≡ wrote_of c out.old) × (out.new ≡ written_of c out.old) }
 {
     let mut file = blank_file();
-    let n = encode(c, &mut file);
+    let n = encode(&c, &mut file);
     if !reads_as(&file[..n], &c) {
         return Err(Unwritten::Unreadable);
     }
     if out.len() < n {
         return Err(Unwritten::Short);
     }
-    encode(c, out);
+    encode(&c, out);
     Ok(n)
 }

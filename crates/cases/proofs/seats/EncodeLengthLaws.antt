@@ -5,10 +5,11 @@ use lib.ListN.{length, length-take}
 use lib.Dec.{ltb}
 use native.Mathlib.Omega.{arith}
 use Rattle.cases.specs.declared.case.Case.{Case}
+use Rattle.cases.specs.declared.record.Record.{Record}
 use Rattle.cases.specs.declared.case.Program.{Program}
 use Rattle.cases.specs.declared.case.Ask.{Ask}
 use Rattle.cases.specs.declared.case.Run.{Run}
-use Rattle.cases.specs.declared.seats.Seat.{Seat}
+use Rattle.std.specs.declared.option.Option.{Option}
 use Rattle.cases.specs.Sizes.{longest_record, longest}
 use Rattle.cases.specs.Choice.{pick}
 use Rattle.cases.specs.Bytes.{half_bytes, word_bytes}
@@ -31,29 +32,29 @@ width k =
     (pick (ltb k from_steps) 6 8))))
 
 -- what stands at a seat has at most n bytes
-abbrev Within : Seat → ℕ → Type 0
+abbrev Within : Option Record → ℕ → Type 0
 Within x n = length (seat_bytes x) ≤ n
 
 -- for each part of the case, how many bytes its seats have at most
 first_width : (p : Program) (l : ℕ) → Within (first_seat p l) 9
 unfolding first_seat seat_bytes record_bytes payload_bytes half_bytes word_bytes
-first_width p l = pick_cases (λ (x : Seat). Within x 9) _ _ _ (λ e. omega arith) (λ e. omega arith)
+first_width p l = pick_cases (λ (x : Option Record). Within x 9) _ _ _ (λ e. omega arith) (λ e. omega arith)
 
 instruction_width : (p : Program) (m : ℕ) → Within (instruction_seat p m) 12
 unfolding instruction_seat seat_bytes record_bytes payload_bytes half_bytes word_bytes
-instruction_width p m = pick_cases (λ (x : Seat). Within x 12) _ _ _ (λ e. omega arith) (λ e. omega arith)
+instruction_width p m = pick_cases (λ (x : Option Record). Within x 12) _ _ _ (λ e. omega arith) (λ e. omega arith)
 
 want_width : (a : Ask) (l : ℕ) → Within (want_seat a l) 9
 unfolding want_seat seat_bytes record_bytes payload_bytes half_bytes word_bytes
-want_width a l = pick_cases (λ (x : Seat). Within x 9) _ _ _ (λ e. omega arith) (λ e. omega arith)
+want_width a l = pick_cases (λ (x : Option Record). Within x 9) _ _ _ (λ e. omega arith) (λ e. omega arith)
 
 passed_width : (a : Ask) (t : ℕ) → Within (passed_seat a t) 6
 unfolding passed_seat seat_bytes record_bytes payload_bytes half_bytes
-passed_width a t = pick_cases (λ (x : Seat). Within x 6) _ _ _ (λ e. omega arith) (λ e. omega arith)
+passed_width a t = pick_cases (λ (x : Option Record). Within x 6) _ _ _ (λ e. omega arith) (λ e. omega arith)
 
 step_width : (r : Run) (k : ℕ) → Within (step_seat r k) 8
 unfolding step_seat seat_bytes record_bytes payload_bytes half_bytes
-step_width r k = pick_cases (λ (x : Seat). Within x 8) _ _ _ (λ e. omega arith) (λ e. omega arith)
+step_width r k = pick_cases (λ (x : Option Record). Within x 8) _ _ _ (λ e. omega arith) (λ e. omega arith)
 
 header_width : (c : Case) → Within (header_seat c) longest_record
 unfolding header_seat seat_bytes record_bytes payload_bytes half_bytes line_bytes
