@@ -20,10 +20,9 @@ use Rattle.cases.specs.declared.case.Instruction.{Instruction}
 use Rattle.cases.specs.declared.case.Step.{Step}
 use Rattle.cases.specs.declared.record.Row.{Row}
 use Rattle.cases.specs.declared.record.Header.{Header}
-use Rattle.cases.specs.declared.record.Padded.{Padded}
 use Rattle.cases.specs.declared.record.Record.{Record}
 use Rattle.cases.specs.declared.record.Record.TheVariants.{Declare, First, Instruct, Want, Passed, Take}
-use Rattle.cases.specs.Sizes.{most_locations, short_record, longest_record}
+use Rattle.cases.specs.Sizes.{most_locations}
 use Rattle.cases.specs.Choice.{pick, either, refuse}
 use Rattle.cases.specs.Bytes.{half, word_at, half_bytes, word_bytes}
 use Rattle.cases.specs.Lines.{table}
@@ -97,14 +96,6 @@ record_bytes r = half_bytes (length (payload_bytes r)) ++ half_bytes (kind_of r)
 unfoldable pub bytes_of : List Record → List ℕ
 bytes_of [] = []
 bytes_of (r ∷ rs) = record_bytes r ++ bytes_of rs
-
--- a record's bytes as the code holds them: 0 behind them
-unfoldable pub padded_of : List ℕ → Padded
-padded_of s = record { length = length s; bytes = s ++ replicate (longest_record - length s) 0 }
-
--- a record of n bytes, which stand at the front: 0 behind the front
-unfoldable pub widened : ℕ → List ℕ → Padded
-widened n front = record { length = n; bytes = front ++ replicate (longest_record - short_record) 0 }
 
 abbrev pub line_byte : List ℕ → ℕ → ℕ
 line_byte s l = get_or s (8 + l) 0

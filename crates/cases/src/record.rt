@@ -23,14 +23,12 @@ ghost use Rattle.cases.specs.Record.{
   open_no,
   size_of,
   record_bytes,
-  widened,
-  padded_of,
 };
 
-use crate::bytes::{byte_at, half_at, word_at, word_bytes};
+use crate::bytes::{byte_at, half_at, half_bytes, word_at, word_bytes};
 use crate::case::{Instruction, Location, Register, Step, Thread, Write};
 use crate::fault::Fault;
-use crate::sizes::{LOCATIONS, LONGEST_RECORD, SHORT_RECORD, STEP_SIZE};
+use crate::sizes::LOCATIONS;
 
 // A byte for each location that there may be. An enum can't hold an array.
 #[derive(Clone, Copy)]
@@ -102,13 +100,6 @@ impl Record {
             Record::Take(_) => TAKE,
         }
     }
-}
-
-// A record's bytes, 0 behind them.
-#[derive(Clone, Copy)]
-pub struct Padded {
-    pub length: usize,
-    pub bytes: [u8; LONGEST_RECORD],
 }
 
 // How long the payload of a kind is at least; 0 where there is no such kind.
@@ -273,86 +264,74 @@ pub(crate) fn open_record(s: &[u8]) -> Result<Record, Fault>
 fn line_bytes(h: Header) -> u8
     ensures { result ≡ length (line_bytes h) }
 {
-    if (LOCATIONS as u8) < h.listed {
-        return LOCATIONS as u8;
-    }
-    h.listed
+    h.listed.min(LOCATIONS as u8)
 }
 
-// A record of n bytes, which stand at the front; 0 behind the front.
-fn widen(n: usize, front: [u8; SHORT_RECORD]) -> Padded
-    ensures { result ≡ widened n front }
+// Puts bytes from `at` on, and says where they end. A record's are its payload's length and its kind, two bytes each,
+// and its payload.
+fn put(out: &mut [u8], at: usize, bytes: &[u8]) -> usize
+    requires { at + length bytes.now ≤ length out.old }
+    ensures { (result ≡ at + length bytes.now) × (out.new ≡ sets out.old at bytes.now) }
 {
-    let mut bytes = [0u8; LONGEST_RECORD];
-    let mut i = 0;
-    while i < SHORT_RECORD {
-        bytes[i] = front[i];
-        i = i + 1;
-    }
-    Padded {
-        length: n,
-        bytes: bytes,
-    }
+    let end = at + bytes.len();
+    out[at..end].copy_from_slice(bytes);
+    end
 }
 
-fn padded_header(h: Header) -> Padded
-    ensures { result ≡ padded_of (record_bytes (Declare h)) }
+// The program's record: eight bytes, and its line bytes behind them.
+fn put_header(out: &mut [u8], at: usize, h: Header) -> usize
+    requires { at + length (record_bytes (Declare h)) ≤ length out.old }
+    ensures { (result ≡ at + length (record_bytes (Declare h)))
+        × (out.new ≡ sets out.old at (record_bytes (Declare h))) }
 {
     let n = line_bytes(h);
-    let v = h.version;
-    let low = (v % 256) as u8;
-    let high = (v / 256 % 256) as u8;
-    let line = row_list(h.line);
-    let start = widen(
-        8,
-        [
+    let v = half_bytes(h.version);
+    let end = put(
+        out,
+        at,
+        &[
             4 + n,
             0,
-            1,
+            DECLARE as u8,
             0,
-            low,
-            high,
+            v[0],
+            v[1],
             h.threads,
             h.locations,
-            0,
-            0,
-            0,
-            0,
         ],
     );
-    let mut bytes = start.bytes;
-    let mut i: u8 = 0;
-    while i < n {
-        bytes[8 + (i as usize)] = line[i as usize];
-        i = i + 1;
-    }
-    Padded {
-        length: 8 + (n as usize),
-        bytes: bytes,
-    }
+    let line = row_list(h.line);
+    put(out, end, &line[..n as usize])
 }
 
 // A location and a word, of kind 2 or 4.
-fn padded_write(kind: u8, w: Write) -> Padded
-    ensures { result ≡ padded_of (5 ∷ 0 ∷ kind ∷ 0 ∷ w.location.0 ∷ word_bytes w.word) }
+fn put_write(out: &mut [u8], at: usize, kind: u8, w: Write) -> usize
+    requires { at + 9 ≤ length out.old }
+    ensures { (result ≡ at + 9)
+        × (out.new ≡ sets out.old at (5 ∷ 0 ∷ kind ∷ 0 ∷ w.location.0 ∷ word_bytes w.word)) }
 {
     let b = word_bytes(w.word);
-    widen(
-        9,
-        [5, 0, kind, 0, w.location.0, b[0], b[1], b[2], b[3], 0, 0, 0],
+    put(
+        out,
+        at,
+        &[5, 0, kind, 0, w.location.0, b[0], b[1], b[2], b[3]],
     )
 }
 
-fn padded_instruction(t: Thread, x: Instruction) -> Padded
-    ensures { result ≡ padded_of (record_bytes (Instruct t x)) }
+#[tactic(auto, unfolding(crate::specs::Record::record_bytes, crate::specs::Record::payload_bytes, crate::specs::Bytes::half_bytes, crate::specs::Bytes::word_bytes))]
+fn put_instruction(out: &mut [u8], at: usize, t: Thread, x: Instruction) -> usize
+    requires { at + length (record_bytes (Instruct t x)) ≤ length out.old }
+    ensures { (result ≡ at + length (record_bytes (Instruct t x)))
+        × (out.new ≡ sets out.old at (record_bytes (Instruct t x))) }
 {
     let b = word_bytes(x.word);
-    widen(
-        12,
-        [
+    put(
+        out,
+        at,
+        &[
             8,
             0,
-            3,
+            INSTRUCT as u8,
             0,
             t.0,
             x.operation,
@@ -366,60 +345,32 @@ fn padded_instruction(t: Thread, x: Instruction) -> Padded
     )
 }
 
-fn padded_passed(t: Thread, n: u8) -> Padded
-    ensures { result ≡ padded_of (record_bytes (Passed t n)) }
-{
-    widen(6, [2, 0, 5, 0, t.0, n, 0, 0, 0, 0, 0, 0])
-}
-
-fn padded_step(k: Step) -> Padded
-    ensures { result ≡ padded_of (record_bytes (Take k)) }
-{
-    widen(
-        STEP_SIZE,
-        [
-            4,
-            0,
-            6,
-            0,
-            k.thread.0,
-            k.code,
-            k.position,
-            k.location.0,
-            0,
-            0,
-            0,
-            0,
-        ],
-    )
-}
-
-fn padded_record(r: Record) -> Padded
-    ensures { result ≡ padded_of (record_bytes r) }
-{
-    match r {
-        Record::Declare(h) => padded_header(h),
-        Record::First(w) => padded_write(2, w),
-        Record::Instruct(t, x) => padded_instruction(t, x),
-        Record::Want(w) => padded_write(4, w),
-        Record::Passed(t, n) => padded_passed(t, n),
-        Record::Take(k) => padded_step(k),
-    }
-}
-
 // Puts the record's bytes from `at` on, and says where they end.
+#[tactic(auto, unfolding(crate::specs::Record::record_bytes, crate::specs::Record::payload_bytes, crate::specs::Bytes::half_bytes, crate::specs::Bytes::word_bytes))]
 pub(crate) fn put_record(out: &mut [u8], at: usize, r: Record) -> usize
     requires { at + length (record_bytes r) ≤ length out.old }
     ensures { (result ≡ at + length (record_bytes r))
         × (out.new ≡ sets out.old at (record_bytes r)) }
 {
-    let p = padded_record(r);
-    let n = p.length;
-    let bytes = p.bytes;
-    let mut i = 0;
-    while i < n {
-        out[at + i] = bytes[i];
-        i = i + 1;
+    match r {
+        Record::Declare(h) => put_header(out, at, h),
+        Record::First(w) => put_write(out, at, FIRST as u8, w),
+        Record::Instruct(t, x) => put_instruction(out, at, t, x),
+        Record::Want(w) => put_write(out, at, WANT as u8, w),
+        Record::Passed(t, n) => put(out, at, &[2, 0, PASSED as u8, 0, t.0, n]),
+        Record::Take(k) => put(
+            out,
+            at,
+            &[
+                4,
+                0,
+                TAKE as u8,
+                0,
+                k.thread.0,
+                k.code,
+                k.position,
+                k.location.0,
+            ],
+        ),
     }
-    at + n
 }

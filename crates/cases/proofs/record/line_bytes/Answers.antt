@@ -1,9 +1,9 @@
 -- `line_bytes` meets its contract. Assumes nothing.
-use Rattle.cases.proofs.record.PaddedLaws.{line_bytes_most, line_bytes_listed}
+use Rattle.std.proofs.Common.{arith}
+use lib.ListN.{length-take}
+use Rattle.cases.specs.Record.{row_list, line_bytes}
 use Rattle.cases.proofs.record.line_bytes.Goals as goal
 
-pub returns-then-h : goal.returns-then-h
-returns-then-h c = line_bytes_most _ c.if-h.true
-
 pub returns : goal.returns
-returns c = line_bytes_listed _ c.if-h.false
+unfolding line_bytes
+returns c = omega (arith, c.min.ensures, length-take c.args.h.listed (row_list c.args.h.line))
