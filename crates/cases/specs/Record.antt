@@ -3,7 +3,7 @@
 --   payload_of k        how long the payload of kind k is at least; 0: there is no such kind
 --   spare_of k          how much longer it may be: a line byte for each location, of kind 1
 --   mislong k n         a payload of n bytes is shorter or longer than one of kind k may be
---   row_list x, as_row xs   a byte for each location, one by one, and such a list as these bytes
+--   as_row xs           a byte for each location that there may be: those of xs, 0 behind them
 --   line_bytes h        the line bytes of a program's record
 --   record_bytes r      the record's bytes: "a two-byte payload length, a two-byte kind, the payload"
 --   payload_bytes r     its payload's
@@ -18,7 +18,6 @@ use Rattle.std.specs.Prelude.{ℕ, ◌+◌, ◌-◌, List, [], ◌∷◌, ◌++�
 use Rattle.cases.specs.declared.case.Write.{Write}
 use Rattle.cases.specs.declared.case.Instruction.{Instruction}
 use Rattle.cases.specs.declared.case.Step.{Step}
-use Rattle.cases.specs.declared.record.Row.{Row}
 use Rattle.cases.specs.declared.record.Header.{Header}
 use Rattle.cases.specs.declared.record.Record.{Record}
 use Rattle.cases.specs.declared.record.Record.TheVariants.{Declare, First, Instruct, Want, Passed, Take}
@@ -50,34 +49,11 @@ spare_of k = pick (eqb k 1) most_locations 0
 unfoldable pub mislong : ℕ → ℕ → Bool
 mislong k n = either (ltb n (payload_of k)) (ltb (spare_of k) (n - payload_of k))
 
-abbrev pub row_list : Row → List ℕ
-row_list x =
-    x.0 ∷ x.1 ∷ x.2 ∷ x.3 ∷ x.4 ∷ x.5 ∷ x.6 ∷ x.7
-    ∷ x.8 ∷ x.9 ∷ x.10 ∷ x.11 ∷ x.12 ∷ x.13 ∷ x.14 ∷ x.15 ∷ []
-
-unfoldable pub as_row : List ℕ → Row
-as_row xs =
-    record {
-      0 = get_or xs 0 0;
-      1 = get_or xs 1 0;
-      2 = get_or xs 2 0;
-      3 = get_or xs 3 0;
-      4 = get_or xs 4 0;
-      5 = get_or xs 5 0;
-      6 = get_or xs 6 0;
-      7 = get_or xs 7 0;
-      8 = get_or xs 8 0;
-      9 = get_or xs 9 0;
-      10 = get_or xs 10 0;
-      11 = get_or xs 11 0;
-      12 = get_or xs 12 0;
-      13 = get_or xs 13 0;
-      14 = get_or xs 14 0;
-      15 = get_or xs 15 0;
-    }
+unfoldable pub as_row : List ℕ → List ℕ
+as_row xs = take most_locations (xs ++ replicate most_locations 0)
 
 unfoldable pub line_bytes : Header → List ℕ
-line_bytes h = take h.listed (row_list h.line)
+line_bytes h = take h.listed h.line
 
 -- kind 1: version (2 bytes), threads, locations, line bytes. Kinds 2 and 4: location, word. Kind 3: thread, operation,
 -- location, register, word. Kind 5: thread, least number of instructions issued. Kind 6: thread, code,
@@ -108,7 +84,7 @@ as_header s =
       threads = get_or s 6 0;
       locations = get_or s 7 0;
       listed = half s 0 - 4;
-      line = as_row (table (line_byte s) (half s 0 - 4));
+      line = table (line_byte s) (half s 0 - 4);
     }
 
 unfoldable pub as_write : List ℕ → Write

@@ -43,7 +43,7 @@ use crate::operations::{
     COMPARE, EXCHANGE, FLUSH_OPT, LAST_CODE, LAST_OPERATION, LOAD, MOVE, PERSIST, STORE_REGISTER,
     STORE_WORD,
 };
-use crate::record::{DECLARE, FIRST, Header, INSTRUCT, NO_KIND, PASSED, Record, WANT, row_list};
+use crate::record::{DECLARE, FIRST, Header, INSTRUCT, NO_KIND, PASSED, Record, WANT};
 use crate::sizes::{INSTRUCTIONS, LOCATIONS, REGISTERS, STEPS, THREADS};
 
 // The program comes first and once, and kinds never go down.
@@ -113,7 +113,7 @@ fn is_misnumbered(h: Header) -> bool
     requires { h.listed ≤ most_locations }
     ensures { result ≡ unordered 0 (line_bytes h) }
 {
-    is_unordered(row_list(h.line), h.listed)
+    is_unordered(&h.line[..h.listed as usize])
 }
 
 #[tactic(auto, using(crate::proofs::ChoiceLaws::choices), unfolding(crate::specs::Checks::uses_location))]

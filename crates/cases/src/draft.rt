@@ -8,9 +8,7 @@ ghost use Rattle.cases.specs.Draft.{empty_case, line_table, line_count, blank_dr
 
 use crate::case::{Ask, Case, Instruction, Location, Program, Register, Run, Step, Thread, Write};
 use crate::lines::{OWN_VERSION, lines_in, own_lines};
-use crate::record::{
-    DECLARE, FIRST, Header, INSTRUCT, NO_KIND, PASSED, Record, TAKE, WANT, row_list,
-};
+use crate::record::{DECLARE, FIRST, Header, INSTRUCT, NO_KIND, PASSED, Record, TAKE, WANT};
 use crate::sizes::{CODE, INSTRUCTIONS, LOCATIONS, STEPS, THREADS};
 
 // The case so far, the kind of the record before, and the least number that may come next in that kind. The kind is
@@ -73,24 +71,28 @@ pub(crate) fn blank_draft() -> Draft
 }
 
 // On which line each location lies, as the record of the program says.
+#[tactic(auto, using(crate::proofs::ChoiceLaws::choices), unfolding(crate::specs::Draft::line_table))]
 fn line_table(h: Header) -> [u8; LOCATIONS]
     requires { h.locations ≤ most_locations }
     ensures { result ≡ line_table h }
 {
     if h.version == OWN_VERSION {
-        return own_lines(h.locations);
+        own_lines(h.locations)
+    } else {
+        h.line
     }
-    row_list(h.line)
 }
 
+#[tactic(auto, using(crate::proofs::ChoiceLaws::choices), unfolding(crate::specs::Draft::line_count, crate::specs::Record::line_bytes))]
 fn line_count(h: Header) -> u8
     requires { h.listed ≤ most_locations }
     ensures { result ≡ line_count h }
 {
     if h.version == OWN_VERSION {
-        return h.locations;
+        h.locations
+    } else {
+        lines_in(&h.line[..h.listed as usize])
     }
-    lines_in(row_list(h.line), h.listed)
 }
 
 fn add_header(d: &mut Draft, h: Header)

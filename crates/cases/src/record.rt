@@ -11,9 +11,6 @@ ghost use Rattle.cases.specs.Record.{
   payload_of,
   spare_of,
   mislong,
-  row_list,
-  as_row,
-  line_bytes,
   line_byte,
   as_header,
   as_write,
@@ -30,27 +27,6 @@ use crate::case::{Instruction, Location, Register, Step, Thread, Write};
 use crate::fault::Fault;
 use crate::sizes::LOCATIONS;
 
-// A byte for each location that there may be. An enum can't hold an array.
-#[derive(Clone, Copy)]
-pub struct Row(
-    pub u8,
-    pub u8,
-    pub u8,
-    pub u8,
-    pub u8,
-    pub u8,
-    pub u8,
-    pub u8,
-    pub u8,
-    pub u8,
-    pub u8,
-    pub u8,
-    pub u8,
-    pub u8,
-    pub u8,
-    pub u8,
-);
-
 // `listed`: how many line bytes stand in the record; `line`: those bytes, 0 behind them.
 #[derive(Clone, Copy)]
 pub struct Header {
@@ -58,7 +34,7 @@ pub struct Header {
     pub threads: u8,
     pub locations: u8,
     pub listed: u8,
-    pub line: Row,
+    pub line: [u8; LOCATIONS],
 }
 
 // The kinds of records, by the numbers that stand in the file.
@@ -135,34 +111,14 @@ fn is_mislong(kind: u16, n: u16) -> bool
     n < least || spare(kind) < n - least
 }
 
-pub(crate) fn row_list(x: Row) -> [u8; LOCATIONS]
-    ensures { result ≡ row_list x }
-{
-    [
-        x.0, x.1, x.2, x.3, x.4, x.5, x.6, x.7, x.8, x.9, x.10, x.11, x.12, x.13, x.14, x.15,
-    ]
-}
-
-pub(crate) fn as_row(a: [u8; LOCATIONS]) -> Row
-    ensures { result ≡ as_row a }
-{
-    Row(
-        a[0], a[1], a[2], a[3], a[4], a[5], a[6], a[7], a[8], a[9], a[10], a[11], a[12], a[13],
-        a[14], a[15],
-    )
-}
-
 // The line bytes of a program's record, 0 behind them.
 fn as_lines(s: &[u8], n: u8) -> [u8; LOCATIONS]
     requires { n ≤ most_locations }
     ensures { result ≡ table (line_byte s.now) n }
 {
     let mut line = [0u8; LOCATIONS];
-    let mut l: u8 = 0;
-    while l < n {
-        let at = l as usize;
-        line[at] = byte_at(s, 8 + at);
-        l = l + 1;
+    for l in 0..n as usize {
+        line[l] = byte_at(s, 8 + l);
     }
     line
 }
@@ -172,13 +128,12 @@ fn as_header(s: &[u8]) -> Header
     ensures { result ≡ as_header s.now }
 {
     let listed = (half_at(s, 0) - 4) as u8;
-    let line = as_lines(s, listed);
     Header {
         version: half_at(s, 4),
         threads: byte_at(s, 6),
         locations: byte_at(s, 7),
         listed: listed,
-        line: as_row(line),
+        line: as_lines(s, listed),
     }
 }
 
@@ -260,13 +215,6 @@ pub(crate) fn open_record(s: &[u8]) -> Result<Record, Fault>
     Ok(decode(s, kind))
 }
 
-// How many line bytes there are: no more than there is room for.
-fn line_bytes(h: Header) -> u8
-    ensures { result ≡ length (line_bytes h) }
-{
-    h.listed.min(LOCATIONS as u8)
-}
-
 // Puts bytes from `at` on, and says where they end. A record's are its payload's length and its kind, two bytes each,
 // and its payload.
 fn put(out: &mut [u8], at: usize, bytes: &[u8]) -> usize
@@ -284,7 +232,7 @@ fn put_header(out: &mut [u8], at: usize, h: Header) -> usize
     ensures { (result ≡ at + length (record_bytes (Declare h)))
         × (out.new ≡ sets out.old at (record_bytes (Declare h))) }
 {
-    let n = line_bytes(h);
+    let n = h.listed.min(LOCATIONS as u8);
     let v = half_bytes(h.version);
     let end = put(
         out,
@@ -300,8 +248,7 @@ fn put_header(out: &mut [u8], at: usize, h: Header) -> usize
             h.locations,
         ],
     );
-    let line = row_list(h.line);
-    put(out, end, &line[..n as usize])
+    put(out, end, &h.line[..n as usize])
 }
 
 // A location and a word, of kind 2 or 4.

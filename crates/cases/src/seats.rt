@@ -16,7 +16,7 @@ ghost use Rattle.cases.specs.Seats.{
 
 use crate::case::{Ask, Case, Location, Program, Run, Thread, Write};
 use crate::lines::{OWN_VERSION, listed_of};
-use crate::record::{Header, Record, as_row, put_record};
+use crate::record::{Header, Record, put_record};
 use crate::sizes::{CODE, INSTRUCTIONS, LOCATIONS, STEPS, THREADS};
 
 // Where the seats of each kind begin.
@@ -53,7 +53,7 @@ fn header_seat(c: &Case) -> Option<Record>
         threads: c.program.threads,
         locations: c.program.locations,
         listed: listed_of(c.version, c.program.locations),
-        line: as_row(listed_lines(c)),
+        line: listed_lines(c),
     }))
 }
 

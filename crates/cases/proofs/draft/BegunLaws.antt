@@ -26,7 +26,7 @@ use Rattle.cases.proofs.ArrayLaws.{get_or_blank}
 use Rattle.cases.proofs.seats.EachLaws.{each_more, each_none}
 use Rattle.cases.proofs.seats.SeatLaws.{seat_cases, seat_header}
 use Rattle.cases.proofs.draft.RecordFitLaws.{RecordFits, SeatFits}
-use Rattle.cases.proofs.draft.HeaderLaws.{Opening, header_low, header_listed, header_zeros, header_bytes}
+use Rattle.cases.proofs.draft.HeaderLaws.{Opening, header_low, header_listed, header_listing, header_bytes}
 use Rattle.cases.proofs.draft.HeaderLaws.{header_row, header_table_long, header_few_lines}
 use Rattle.cases.proofs.draft.HeaderLaws.{header_on_lines, header_own}
 use Rattle.cases.proofs.draft.SoundLaws.{Sound}
@@ -51,7 +51,7 @@ pub blank_first : (k : ℕ) (t : List ℕ) → fault_of blank_draft (record_of k
     → (h : Header) × (record_of k t ≡ Declare h) × Opening h
 blank_first k t f =
     let b = blank_declared (record_of k t) f in
-    (b.0, b.1, record { out = b.2; right = b.3; ordered = b.4; zeros = header_zeros k t b.0 b.1 })
+    (b.0, b.1, record { out = b.2; right = b.3; ordered = b.4; listing = header_listing k t b.0 b.1 })
 
 -- the empty case with other sizes: nothing stands behind the program
 module _ (h : Header) (fit : Opening h) where

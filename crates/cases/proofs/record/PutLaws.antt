@@ -1,7 +1,7 @@
 -- Laws of a record that is put into lent bytes: bytes put at once, and the program's record, its line bytes behind
 -- its other bytes. Assumes nothing.
-use Prim.Native.Nat.{ℕ, ◌+◌, ◌/◌, ◌%◌, ◌<◌, ◌≤◌}
-use mathlib.Core.Path.{◌≡◌, refl, sym, ap, ◌∙◌}
+use Prim.Native.Nat.{ℕ, ◌+◌, ◌/◌, ◌%◌, ◌<◌, ◌≤◌, min}
+use mathlib.Core.Path.{◌≡◌, sym, ap, ◌∙◌}
 use mathlib.Core.List.{List, [], ◌∷◌, ◌++◌}
 use Rattle.std.proofs.Common.{append_assoc}
 use lib.ListN.{length, take, drop, length-take, take-append-drop}
@@ -11,7 +11,7 @@ use Rattle.cases.specs.declared.record.Header.{Header}
 use Rattle.cases.specs.declared.record.Record.TheVariants.{Declare}
 use Rattle.cases.specs.Sizes.{most_locations}
 use Rattle.cases.specs.Bytes.{half_bytes}
-use Rattle.cases.specs.Record.{row_list, line_bytes, payload_bytes, record_bytes}
+use Rattle.cases.specs.Record.{line_bytes, payload_bytes, record_bytes}
 use Rattle.cases.proofs.ArrayLaws.{sets_append}
 
 -- bytes put at once
@@ -31,16 +31,22 @@ half_few m h =
 abbrev pub header_front : Header → ℕ → List ℕ
 header_front h n = (4 + n) ∷ 0 ∷ 1 ∷ 0 ∷ half_bytes h.version ++ h.threads ∷ h.locations ∷ []
 
-module _ (h : Header) (n : ℕ) (is : n ≡ length (line_bytes h)) where
+-- how many line bytes there are: as many as are listed, but no more than there is room for
+pub listed_is : (h : Header) → length h.line ≡ most_locations → (n : ℕ) → n ≡ min h.listed most_locations
+    → n ≡ length (line_bytes h)
+unfolding line_bytes
+listed_is h long n is = omega (arith, length-take h.listed h.line)
+
+module _ (h : Header) (long : length h.line ≡ most_locations) (n : ℕ) (is : n ≡ length (line_bytes h)) where
   pub line_bytes_few : n ≤ most_locations
   unfolding line_bytes
-  line_bytes_few = omega (arith, is, length-take h.listed (row_list h.line))
+  line_bytes_few = omega (arith, is, length-take h.listed h.line)
 
-  pub line_bytes_front : take n (row_list h.line) ≡ line_bytes h
+  pub line_bytes_front : take n h.line ≡ line_bytes h
   unfolding line_bytes
   line_bytes_front =
-      ap (take n) (sym (take-append-drop h.listed (row_list h.line)))
-      ∙ take_at (take h.listed (row_list h.line)) _ n (sym is)
+      ap (take n) (sym (take-append-drop h.listed h.line))
+      ∙ take_at (take h.listed h.line) _ n (sym is)
 
   payload_long : length (payload_bytes (Declare h)) ≡ 4 + n
   unfolding payload_bytes half_bytes

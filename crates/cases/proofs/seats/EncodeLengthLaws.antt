@@ -14,11 +14,12 @@ use Rattle.cases.specs.Sizes.{longest_record, longest}
 use Rattle.cases.specs.Choice.{pick}
 use Rattle.cases.specs.Bytes.{half_bytes, word_bytes}
 use Rattle.cases.specs.Lines.{listed_of}
-use Rattle.cases.specs.Record.{row_list, as_row, line_bytes, payload_bytes, record_bytes}
+use Rattle.cases.specs.Record.{as_row, line_bytes, payload_bytes, record_bytes}
 use Rattle.cases.specs.Seats.{from_firsts, from_code, from_wants, from_passed, from_steps, seats}
 use Rattle.cases.specs.Seats.{listed_lines, header_seat, first_seat, instruction_seat}
 use Rattle.cases.specs.Seats.{want_seat, passed_seat, step_seat}
 use Rattle.cases.specs.Seats.{seat_of, seat_bytes, bytes_at, encode_of}
+use Rattle.cases.proofs.record.OpenLaws.{row_long}
 use Rattle.cases.proofs.ChoiceLaws.{pick_cases, pick_pair}
 use Rattle.cases.proofs.seats.EachLaws.{total, each_length}
 
@@ -59,7 +60,11 @@ step_width r k = pick_cases (λ (x : Option Record). Within x 8) _ _ _ (λ e. om
 header_width : (c : Case) → Within (header_seat c) longest_record
 unfolding header_seat seat_bytes record_bytes payload_bytes half_bytes line_bytes
 header_width c =
-    omega (arith, length-take (listed_of c.version c.program.locations) (row_list (as_row (listed_lines c))))
+    omega (
+      arith,
+      length-take (listed_of c.version c.program.locations) (as_row (listed_lines c)),
+      row_long (listed_lines c),
+    )
 
 seat_width : (c : Case) (k : ℕ) → length (bytes_at c k) ≤ width k
 unfolding bytes_at seat_of width
