@@ -91,8 +91,8 @@ fn is_left_over(used: bool, x: u32) -> bool
 }
 
 #[tactic(auto, using(crate::proofs::ChoiceLaws::choices), unfolding(crate::specs::Checks::header_out))]
-fn is_header_out(h: Header) -> bool
-    ensures { result ≡ header_out h }
+fn is_header_out(h: &Header) -> bool
+    ensures { result ≡ header_out h.now }
 {
     is_outside(h.version, LAST_VERSION)
         || is_outside(h.threads as u16, THREADS as u16)
@@ -101,17 +101,17 @@ fn is_header_out(h: Header) -> bool
 
 // The number of line bytes is not that version's and count's.
 #[tactic(auto, using(crate::proofs::ChoiceLaws::choices), unfolding(crate::specs::Checks::mislisted))]
-fn is_mislisted(h: Header) -> bool
-    ensures { result ≡ mislisted h }
+fn is_mislisted(h: &Header) -> bool
+    ensures { result ≡ mislisted h.now }
 {
     h.listed != listed_of(h.version, h.locations)
 }
 
 // Its line numbers are not in order of first appearance.
 #[tactic(auto, using(crate::proofs::ChoiceLaws::choices), unfolding(crate::specs::Record::line_bytes))]
-fn is_misnumbered(h: Header) -> bool
-    requires { h.listed ≤ most_locations }
-    ensures { result ≡ unordered 0 (line_bytes h) }
+fn is_misnumbered(h: &Header) -> bool
+    requires { h.now.listed ≤ most_locations }
+    ensures { result ≡ unordered 0 (line_bytes h.now) }
 {
     is_unordered(&h.line[..h.listed as usize])
 }
@@ -273,9 +273,9 @@ fn check_step(p: &Program, k: Step) -> Result<(), Fault>
 }
 
 #[tactic(auto, using(crate::proofs::ChoiceLaws::choices), unfolding(crate::specs::Checks::fault_of))]
-fn header_fault(d: &Draft, h: Header) -> Result<(), Fault>
+fn header_fault(d: &Draft, h: &Header) -> Result<(), Fault>
     requires { misplaced d.now.kind 1 ≡ false }
-    ensures { refusal_no result ≡ fault_of d.now (Declare h) }
+    ensures { refusal_no result ≡ fault_of d.now (Declare h.now) }
 {
     if is_header_out(h) {
         return Err(Fault::Range);
@@ -381,7 +381,7 @@ pub(crate) fn fault(d: &Draft, r: Record) -> Result<(), Fault>
         return Err(Fault::Misplaced);
     }
     match r {
-        Record::Declare(h) => header_fault(d, h),
+        Record::Declare(h) => header_fault(d, &h),
         Record::First(w) => first_fault(d, w),
         Record::Instruct(t, x) => instruction_fault(d, t, x),
         Record::Want(w) => want_fault(d, w),

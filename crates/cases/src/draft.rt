@@ -72,9 +72,9 @@ pub(crate) fn blank_draft() -> Draft
 
 // On which line each location lies, as the record of the program says.
 #[tactic(auto, using(crate::proofs::ChoiceLaws::choices), unfolding(crate::specs::Draft::line_table))]
-fn line_table(h: Header) -> [u8; LOCATIONS]
-    requires { h.locations ≤ most_locations }
-    ensures { result ≡ line_table h }
+fn line_table(h: &Header) -> [u8; LOCATIONS]
+    requires { h.now.locations ≤ most_locations }
+    ensures { result ≡ line_table h.now }
 {
     if h.version == OWN_VERSION {
         own_lines(h.locations)
@@ -84,9 +84,9 @@ fn line_table(h: Header) -> [u8; LOCATIONS]
 }
 
 #[tactic(auto, using(crate::proofs::ChoiceLaws::choices), unfolding(crate::specs::Draft::line_count, crate::specs::Record::line_bytes))]
-fn line_count(h: Header) -> u8
-    requires { h.listed ≤ most_locations }
-    ensures { result ≡ line_count h }
+fn line_count(h: &Header) -> u8
+    requires { h.now.listed ≤ most_locations }
+    ensures { result ≡ line_count h.now }
 {
     if h.version == OWN_VERSION {
         h.locations
@@ -95,9 +95,9 @@ fn line_count(h: Header) -> u8
     }
 }
 
-fn add_header(d: &mut Draft, h: Header)
-    requires { (h.locations ≤ most_locations) × (h.listed ≤ most_locations) }
-    ensures { d.new ≡ add_of d.old (Declare h) }
+fn add_header(d: &mut Draft, h: &Header)
+    requires { (h.now.locations ≤ most_locations) × (h.now.listed ≤ most_locations) }
+    ensures { d.new ≡ add_of d.old (Declare h.now) }
 {
     d.case.version = h.version;
     d.case.program.threads = h.threads;
@@ -169,7 +169,7 @@ pub(crate) fn add(d: &mut Draft, r: Record)
     ensures { d.new ≡ add_of d.old r }
 {
     match r {
-        Record::Declare(h) => add_header(d, h),
+        Record::Declare(h) => add_header(d, &h),
         Record::First(w) => add_first(d, w),
         Record::Instruct(t, x) => add_instruction(d, t, x),
         Record::Want(w) => add_want(d, w),

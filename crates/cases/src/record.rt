@@ -227,10 +227,10 @@ fn put(out: &mut [u8], at: usize, bytes: &[u8]) -> usize
 }
 
 // The program's record: eight bytes, and its line bytes behind them.
-fn put_header(out: &mut [u8], at: usize, h: Header) -> usize
-    requires { at + length (record_bytes (Declare h)) ≤ length out.old }
-    ensures { (result ≡ at + length (record_bytes (Declare h)))
-        × (out.new ≡ sets out.old at (record_bytes (Declare h))) }
+fn put_header(out: &mut [u8], at: usize, h: &Header) -> usize
+    requires { at + length (record_bytes (Declare h.now)) ≤ length out.old }
+    ensures { (result ≡ at + length (record_bytes (Declare h.now)))
+        × (out.new ≡ sets out.old at (record_bytes (Declare h.now))) }
 {
     let n = h.listed.min(LOCATIONS as u8);
     let v = half_bytes(h.version);
@@ -300,7 +300,7 @@ pub(crate) fn put_record(out: &mut [u8], at: usize, r: Record) -> usize
         × (out.new ≡ sets out.old at (record_bytes r)) }
 {
     match r {
-        Record::Declare(h) => put_header(out, at, h),
+        Record::Declare(h) => put_header(out, at, &h),
         Record::First(w) => put_write(out, at, FIRST as u8, w),
         Record::Instruct(t, x) => put_instruction(out, at, t, x),
         Record::Want(w) => put_write(out, at, WANT as u8, w),

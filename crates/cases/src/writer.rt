@@ -1,6 +1,8 @@
 // Writing: 32, then 31, then the case's bytes from the front and nothing behind them.
-ghost use Rattle.std.specs.Prelude.{◌≡◌, replicate};
+ghost use Rattle.std.specs.Prelude.{◌≡◌, true, false, length, take, replicate, IfOk, IfErr};
+ghost use Rattle.cases.specs.declared.writer.Unwritten.TheVariants.{Unreadable};
 ghost use Rattle.cases.specs.Sizes.{longest};
+ghost use Rattle.cases.specs.Seats.{encode_of};
 ghost use Rattle.cases.specs.Writing.{reads_as, reads_back, wrote_of, written_of, wrote_no, wrote_length};
 
 use crate::case::Case;
@@ -46,13 +48,26 @@ fn reads_as(bytes: &[u8], c: &Case) -> bool
     number(r.answer) == 0 && *c == r.case
 }
 
+// Puts the case's file at the front of the longest file's bytes, and says how long it is, if it reads as the case.
+fn checked_file(c: &Case, file: &mut [u8]) -> Result<usize, Unwritten>
+    requires { length file.old ≡ longest }
+    ensures checked { IfOk result (λ n. (reads_back c.now ≡ true) × (n ≡ length (encode_of c.now))
+        × (take n file.new ≡ encode_of c.now)) }
+    ensures unreadable { IfErr result (λ e. (e ≡ Unreadable) × (reads_back c.now ≡ false)) }
+{
+    let n = encode(c, file);
+    if reads_as(&file[..n], c) {
+        Ok(n)
+    } else {
+        Err(Unwritten::Unreadable)
+    }
+}
+
 // Does some byte string read as the case? (else 32)
 pub fn reads_back(c: Case) -> bool
     ensures { result ≡ reads_back c }
 {
-    let mut file = blank_file();
-    let n = encode(&c, &mut file);
-    reads_as(&file[..n], &c)
+    checked_file(&c, &mut blank_file()).is_ok()
 }
 
 // Writes the case from the front of the lent bytes, and says how long its file is.
@@ -60,13 +75,10 @@ pub fn write(c: Case, out: &mut [u8]) -> Result<usize, Unwritten>
     ensures { (result ≡ wrote_of c out.old) × (out.new ≡ written_of c out.old) }
 {
     let mut file = blank_file();
-    let n = encode(&c, &mut file);
-    if !reads_as(&file[..n], &c) {
-        return Err(Unwritten::Unreadable);
-    }
+    let n = checked_file(&c, &mut file)?;
     if out.len() < n {
         return Err(Unwritten::Short);
     }
-    encode(&c, out);
+    out[..n].copy_from_slice(&file[..n]);
     Ok(n)
 }

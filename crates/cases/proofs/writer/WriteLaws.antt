@@ -5,7 +5,7 @@ use mathlib.Core.Path.{◌≡◌, refl, sym, ap, ◌∙◌}
 use mathlib.Core.Logic.{◌≢◌}
 use mathlib.Core.List.{List, ◌++◌}
 use mathlib.Core.Bool.{Bool, true, false}
-use lib.ListN.{length, take, drop, replicate, length-append, length-replicate}
+use lib.ListN.{length, take, drop, length-append}
 use lib.Seq.{take_at}
 use lib.Dec.{ltb}
 use borrow.Author.Tests.{lt-ltb, le-ltb, eq-eqb, ne_eqb}
@@ -35,13 +35,13 @@ module _ (s : List ℕ) (c : Case) (r : Reading) (is_read : r ≡ read_of s) whe
   unfolding reads_as both
   reads_as_some n e h b same = rw (← is_read, ← e, eq-eqb n 0 h) same
 
--- a case's file at the front of a blank buffer: it has room, it is the first n bytes, and they are read back
-module _ (c : Case) (blank : List ℕ) (is_blank : blank ≡ replicate longest 0) where
-  pub write_file_room : length (encode_of c) ≤ length blank
-  write_file_room = rw is_blank (simp length-replicate (encode_length c))
+-- a case's file at the front of the longest file's bytes: it has room, it is the first n bytes, and they are read back
+module _ (c : Case) (bytes : List ℕ) (sized : length bytes ≡ longest) where
+  pub write_file_room : length (encode_of c) ≤ length bytes
+  write_file_room = omega (arith, encode_length c)
 
   module _ (n : ℕ) (file : List ℕ) (is_length : n ≡ length (encode_of c))
-      (filled : file ≡ encode_of c ++ drop (length (encode_of c)) blank) where
+      (filled : file ≡ encode_of c ++ drop (length (encode_of c)) bytes) where
     pub write_file_within : n ≤ length file
     write_file_within = rw filled (simp length-append (omega arith))
 
@@ -78,6 +78,11 @@ module _ (c : Case) (out : List ℕ) where
       rw (readable, ← is_length, le-ltb (length out) n h),
       rw (readable, le-ltb (length out) (length (encode_of c)) (omega arith)) e,
     )
+
+    -- the file is copied
+    pub write_copied : n ≤ length out → (front : List ℕ) → front ≡ encode_of c
+        → (Ok n ≡ wrote_of c out) × (front ++ drop n out ≡ written_of c out)
+    write_copied h front e = write_whole h (front ++ drop n out) (rw (e, is_length))
 
   -- a readable case whose file is known, into bytes that it fits into
   pub write_stored_as : reads_back c ≡ true → (s : List ℕ) → encode_of c ≡ s → length s ≤ length out

@@ -9,20 +9,20 @@ use Rattle.cases.proofs.record.put_header.Goals as goal
 
 pub put-end-requires : goal.put-end-requires
 put-end-requires c =
-    let h = c.args.h in
+    let h = c.args.h.now in
     let long : length h.line ≡ most_locations = search rules in
     omega (arith, header_size h long _ (listed_is h long _ c.min-n.ensures))
 
 pub slice_bounds-put-end-2 : goal.slice_bounds-put-end-2
 slice_bounds-put-end-2 c =
-    let h = c.args.h in
+    let h = c.args.h.now in
     let long : length h.line ≡ most_locations = search rules in
     let few = length-take c.min-n.result h.line in
     omega (arith, c.min-n.ensures)
 
 pub put-requires : goal.put-requires
 put-requires c =
-    let h = c.args.h in
+    let h = c.args.h.now in
     let long : length h.line ≡ most_locations = search rules in
     let size = header_size h long _ (listed_is h long _ c.min-n.ensures) in
     let few = length-take c.min-n.result h.line in
@@ -33,7 +33,7 @@ pub returns : goal.returns
 unfolding half_bytes
 returns c =
     let a = c.args in
-    let h = a.h in
+    let h = a.h.now in
     let long : length h.line ≡ most_locations = search rules in
     let n = listed_is h long _ c.min-n.ensures in
     let size = header_size h long _ n in
