@@ -162,8 +162,7 @@ fn is_instruction_left(x: Instruction) -> bool
 pub(crate) fn count(p: &Program, t: Thread) -> u8
     ensures { result ≡ count_at p.now t.0 }
 {
-    let at = t.0 as usize;
-    if at < THREADS { p.counts[at] } else { 0 }
+    p.counts.get(t.0 as usize).copied().unwrap_or(0)
 }
 
 #[tactic(auto, using(crate::proofs::ChoiceLaws::choices), unfolding(crate::specs::Checks::passed_out))]

@@ -22,6 +22,7 @@ pub struct Draft {
 }
 
 // The fixed empty case: one thread, one location, no further records.
+#[tactic(auto, unfolding(crate::specs::Draft::empty_case))]
 pub fn empty_case() -> Case
     ensures { result ≡ empty_case }
 {
@@ -60,6 +61,7 @@ pub fn empty_case() -> Case
     }
 }
 
+#[tactic(auto, unfolding(crate::specs::Draft::blank_draft))]
 pub(crate) fn blank_draft() -> Draft
     ensures { result ≡ blank_draft }
 {
@@ -95,6 +97,7 @@ fn line_count(h: &Header) -> u8
     }
 }
 
+#[tactic(auto, unfolding(crate::specs::Draft::add_of, crate::specs::Draft::with_header, crate::specs::Draft::with_sizes))]
 fn add_header(d: &mut Draft, h: &Header)
     requires { (h.now.locations ≤ most_locations) × (h.now.listed ≤ most_locations) }
     ensures { d.new ≡ add_of d.old (Declare h.now) }
@@ -108,6 +111,7 @@ fn add_header(d: &mut Draft, h: &Header)
     d.next = 0;
 }
 
+#[tactic(auto, unfolding(crate::specs::Draft::add_of, crate::specs::Draft::with_program, crate::specs::Draft::with_first))]
 fn add_first(d: &mut Draft, w: Write)
     requires { w.location.0 < most_locations }
     ensures { d.new ≡ add_of d.old (First w) }
@@ -118,6 +122,7 @@ fn add_first(d: &mut Draft, w: Write)
     d.next = l + 1;
 }
 
+#[tactic(auto, unfolding(crate::specs::Draft::add_of, crate::specs::Draft::with_program, crate::specs::Draft::with_instruction))]
 fn add_instruction(d: &mut Draft, t: Thread, x: Instruction)
     requires { (t.0 < most_threads) × (count_at d.old.case.program t.0 < most_instructions) }
     ensures { d.new ≡ add_of d.old (Instruct t x) }
@@ -130,6 +135,7 @@ fn add_instruction(d: &mut Draft, t: Thread, x: Instruction)
     d.next = t.0;
 }
 
+#[tactic(auto, unfolding(crate::specs::Draft::add_of, crate::specs::Draft::with_ask, crate::specs::Draft::with_want))]
 fn add_want(d: &mut Draft, w: Write)
     requires { w.location.0 < most_locations }
     ensures { d.new ≡ add_of d.old (Want w) }
@@ -141,6 +147,7 @@ fn add_want(d: &mut Draft, w: Write)
     d.next = l + 1;
 }
 
+#[tactic(auto, unfolding(crate::specs::Draft::add_of, crate::specs::Draft::with_ask, crate::specs::Draft::with_passed))]
 fn add_passed(d: &mut Draft, t: Thread, n: u8)
     requires { t.0 < most_threads }
     ensures { d.new ≡ add_of d.old (Passed t n) }
@@ -150,6 +157,7 @@ fn add_passed(d: &mut Draft, t: Thread, n: u8)
     d.next = t.0 + 1;
 }
 
+#[tactic(auto, unfolding(crate::specs::Draft::add_of, crate::specs::Draft::with_run, crate::specs::Draft::with_step))]
 fn add_step(d: &mut Draft, k: Step)
     requires { d.old.case.run.count < most_steps }
     ensures { d.new ≡ add_of d.old (Take k) }

@@ -45,6 +45,7 @@ pub fn offset(a: Answer) -> usize
     }
 }
 
+#[tactic(auto, unfolding(crate::specs::Reading::refused_of))]
 fn refused(fault: Fault, at: usize) -> Reading
     ensures { result ≡ refused_of (fault_no fault) at }
 {

@@ -123,6 +123,7 @@ fn as_lines(s: &[u8], n: u8) -> [u8; LOCATIONS]
     line
 }
 
+#[tactic(auto, unfolding(crate::specs::Record::as_header))]
 fn as_header(s: &[u8]) -> Header
     requires { (4 ≤ half s.now 0) × (half s.now 0 ≤ 4 + most_locations) }
     ensures { result ≡ as_header s.now }
@@ -137,6 +138,7 @@ fn as_header(s: &[u8]) -> Header
     }
 }
 
+#[tactic(auto, unfolding(crate::specs::Record::as_write))]
 fn as_write(s: &[u8]) -> Write
     ensures { result ≡ as_write s.now }
 {
@@ -146,6 +148,7 @@ fn as_write(s: &[u8]) -> Write
     }
 }
 
+#[tactic(auto, unfolding(crate::specs::Record::as_instruction))]
 fn as_instruction(s: &[u8]) -> Instruction
     ensures { result ≡ as_instruction s.now }
 {
@@ -157,6 +160,7 @@ fn as_instruction(s: &[u8]) -> Instruction
     }
 }
 
+#[tactic(auto, unfolding(crate::specs::Record::as_step))]
 fn as_step(s: &[u8]) -> Step
     ensures { result ≡ as_step s.now }
 {
@@ -185,6 +189,7 @@ fn decode(s: &[u8], kind: u16) -> Record
 }
 
 // How long the record is that s starts with.
+#[tactic(auto, unfolding(crate::specs::Record::size_of))]
 pub(crate) fn size(s: &[u8]) -> usize
     ensures { result ≡ size_of s.now }
 {
