@@ -1,6 +1,5 @@
 // A record of a case: opened from bytes, and laid out as bytes.
-ghost use Rattle.std.specs.Prelude.{◌≡◌, false, ◌∷◌, ◌+◌, ◌≤◌, length, IfOk};
-ghost use Rattle.std.proofs.lemmas.List.Edits.{sets};
+ghost use Rattle.std.specs.Prelude.{◌≡◌, false, ◌∷◌, ◌++◌, ◌+◌, ◌≤◌, length, drop, IfOk};
 ghost use Rattle.cases.specs.declared.record.Record.TheVariants.{Declare, Instruct, Passed, Take};
 ghost use Rattle.cases.specs.Sizes.{most_locations};
 ghost use Rattle.cases.specs.Bytes.{half, word_bytes};
@@ -220,28 +219,27 @@ pub(crate) fn open_record(s: &[u8]) -> Result<Record, Fault>
     Ok(decode(s, kind))
 }
 
-// Puts bytes from `at` on, and says where they end. A record's are its payload's length and its kind, two bytes each,
-// and its payload.
-fn put(out: &mut [u8], at: usize, bytes: &[u8]) -> usize
-    requires { at + length bytes.now ≤ length out.old }
-    ensures { (result ≡ at + length bytes.now) × (out.new ≡ sets out.old at bytes.now) }
+// Puts bytes at the front, and says how many. A record's are its payload's length and its kind, two bytes each, and its
+// payload.
+fn put(out: &mut [u8], bytes: &[u8]) -> usize
+    requires { length bytes.now ≤ length out.old }
+    ensures { (result ≡ length bytes.now) × (out.new ≡ bytes.now ++ drop (length bytes.now) out.old) }
 {
-    let end = at + bytes.len();
-    out[at..end].copy_from_slice(bytes);
-    end
+    let n = bytes.len();
+    out[..n].copy_from_slice(bytes);
+    n
 }
 
 // The program's record: eight bytes, and its line bytes behind them.
-fn put_header(out: &mut [u8], at: usize, h: &Header) -> usize
-    requires { at + length (record_bytes (Declare h.now)) ≤ length out.old }
-    ensures { (result ≡ at + length (record_bytes (Declare h.now)))
-        × (out.new ≡ sets out.old at (record_bytes (Declare h.now))) }
+fn put_header(out: &mut [u8], h: &Header) -> usize
+    requires { length (record_bytes (Declare h.now)) ≤ length out.old }
+    ensures { (result ≡ length (record_bytes (Declare h.now)))
+        × (out.new ≡ record_bytes (Declare h.now) ++ drop (length (record_bytes (Declare h.now))) out.old) }
 {
     let n = h.listed.min(LOCATIONS as u8);
     let v = half_bytes(h.version);
     let end = put(
         out,
-        at,
         &[
             4 + n,
             0,
@@ -253,33 +251,28 @@ fn put_header(out: &mut [u8], at: usize, h: &Header) -> usize
             h.locations,
         ],
     );
-    put(out, end, &h.line[..n as usize])
+    end + put(&mut out[end..], &h.line[..n as usize])
 }
 
 // A location and a word, of kind 2 or 4.
-fn put_write(out: &mut [u8], at: usize, kind: u8, w: Write) -> usize
-    requires { at + 9 ≤ length out.old }
-    ensures { (result ≡ at + 9)
-        × (out.new ≡ sets out.old at (5 ∷ 0 ∷ kind ∷ 0 ∷ w.location.0 ∷ word_bytes w.word)) }
+fn put_write(out: &mut [u8], kind: u8, w: Write) -> usize
+    requires { 9 ≤ length out.old }
+    ensures { (result ≡ 9)
+        × (out.new ≡ (5 ∷ 0 ∷ kind ∷ 0 ∷ w.location.0 ∷ word_bytes w.word) ++ drop 9 out.old) }
 {
     let b = word_bytes(w.word);
-    put(
-        out,
-        at,
-        &[5, 0, kind, 0, w.location.0, b[0], b[1], b[2], b[3]],
-    )
+    put(out, &[5, 0, kind, 0, w.location.0, b[0], b[1], b[2], b[3]])
 }
 
 #[tactic(auto, unfolding(crate::specs::Record::record_bytes, crate::specs::Record::payload_bytes, crate::specs::Bytes::half_bytes, crate::specs::Bytes::word_bytes))]
-fn put_instruction(out: &mut [u8], at: usize, t: Thread, x: Instruction) -> usize
-    requires { at + length (record_bytes (Instruct t x)) ≤ length out.old }
-    ensures { (result ≡ at + length (record_bytes (Instruct t x)))
-        × (out.new ≡ sets out.old at (record_bytes (Instruct t x))) }
+fn put_instruction(out: &mut [u8], t: Thread, x: Instruction) -> usize
+    requires { length (record_bytes (Instruct t x)) ≤ length out.old }
+    ensures { (result ≡ length (record_bytes (Instruct t x)))
+        × (out.new ≡ record_bytes (Instruct t x) ++ drop (length (record_bytes (Instruct t x))) out.old) }
 {
     let b = word_bytes(x.word);
     put(
         out,
-        at,
         &[
             8,
             0,
@@ -297,22 +290,21 @@ fn put_instruction(out: &mut [u8], at: usize, t: Thread, x: Instruction) -> usiz
     )
 }
 
-// Puts the record's bytes from `at` on, and says where they end.
+// Puts the record's bytes at the front, and says how many.
 #[tactic(auto, unfolding(crate::specs::Record::record_bytes, crate::specs::Record::payload_bytes, crate::specs::Bytes::half_bytes, crate::specs::Bytes::word_bytes))]
-pub(crate) fn put_record(out: &mut [u8], at: usize, r: Record) -> usize
-    requires { at + length (record_bytes r) ≤ length out.old }
-    ensures { (result ≡ at + length (record_bytes r))
-        × (out.new ≡ sets out.old at (record_bytes r)) }
+pub(crate) fn put_record(out: &mut [u8], r: Record) -> usize
+    requires { length (record_bytes r) ≤ length out.old }
+    ensures { (result ≡ length (record_bytes r))
+        × (out.new ≡ record_bytes r ++ drop (length (record_bytes r)) out.old) }
 {
     match r {
-        Record::Declare(h) => put_header(out, at, &h),
-        Record::First(w) => put_write(out, at, FIRST as u8, w),
-        Record::Instruct(t, x) => put_instruction(out, at, t, x),
-        Record::Want(w) => put_write(out, at, WANT as u8, w),
-        Record::Passed(t, n) => put(out, at, &[2, 0, PASSED as u8, 0, t.0, n]),
+        Record::Declare(h) => put_header(out, &h),
+        Record::First(w) => put_write(out, FIRST as u8, w),
+        Record::Instruct(t, x) => put_instruction(out, t, x),
+        Record::Want(w) => put_write(out, WANT as u8, w),
+        Record::Passed(t, n) => put(out, &[2, 0, PASSED as u8, 0, t.0, n]),
         Record::Take(k) => put(
             out,
-            at,
             &[
                 4,
                 0,

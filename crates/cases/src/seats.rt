@@ -147,7 +147,7 @@ pub(crate) fn encode(c: &Case, out: &mut [u8]) -> usize
     let mut at = 0;
     for k in 0..SEATS {
         if let Some(r) = seat_at(c, k) {
-            at = put_record(out, at, r);
+            at = at + put_record(&mut out[at..], r);
         }
     }
     at
