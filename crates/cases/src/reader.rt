@@ -69,7 +69,8 @@ fn take_record(draft: &mut Draft, s: &[u8]) -> Result<usize, Fault>
     Ok(size(s))
 }
 
-// Reads a case. A refusal hands out only the fixed empty one.
+// Reads a case. A refusal hands out only the fixed empty one. The loop is no `for`: how far the next record is, only
+// the one before says.
 pub fn read(bytes: &[u8]) -> Reading
     ensures { result ≡ read_of bytes.now }
 {

@@ -83,12 +83,10 @@ fn payload(kind: u16) -> u16
     ensures { result ≡ payload_of kind }
 {
     match kind {
-        DECLARE => 4,
-        FIRST => 5,
+        DECLARE | TAKE => 4,
+        FIRST | WANT => 5,
         INSTRUCT => 8,
-        WANT => 5,
         PASSED => 2,
-        TAKE => 4,
         _ => 0,
     }
 }
