@@ -21,7 +21,8 @@ pub struct Write {
     pub word: u32,
 }
 
-// The record's own fields: what the operation doesn't use is 0.
+// The record's own fields: what the operation doesn't use is 0. An operation is a byte and no enum, a step's code too:
+// a case in memory may hold any, which 32 refuses, and `InstructionFits` of specs/Ranges.antt compares it.
 #[derive(Clone, Copy, PartialEq, Eq)]
 pub struct Instruction {
     pub operation: u8,
@@ -40,7 +41,8 @@ pub struct Step {
 }
 
 // Location l lies on line line[l]; behind the program's locations that is 0. Instruction i of thread t stands at
-// t * INSTRUCTIONS + i; a location without a first content holds 0.
+// t * INSTRUCTIONS + i; a location without a first content holds 0. Counts beside arrays, since memory is fixed:
+// `count_at` and `instruction_at` of specs/Checks.antt, of which the layers' theorems speak, read them so.
 #[derive(Clone, Copy, PartialEq, Eq)]
 pub struct Program {
     pub threads: u8,
@@ -52,7 +54,8 @@ pub struct Program {
     pub code: [Instruction; CODE],
 }
 
-// A want has a flag, since not wanted is not wanted 0; a thread without a passed count has 0.
+// A want has a flag, since not wanted is not wanted 0; a thread without a passed count has 0. The flags are an array of
+// their own, no Option: `not_wanted_differs` of proofs/Promises.antt speaks of them.
 #[derive(Clone, Copy, PartialEq, Eq)]
 pub struct Ask {
     pub wanted: [bool; LOCATIONS],
@@ -60,6 +63,7 @@ pub struct Ask {
     pub passed: [u8; THREADS],
 }
 
+// A count beside an array, since memory is fixed: `run_is` of proofs/Promises.antt reads it so.
 #[derive(Clone, Copy, PartialEq, Eq)]
 pub struct Run {
     pub count: u16,

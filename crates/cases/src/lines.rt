@@ -23,6 +23,7 @@ pub(crate) fn listed_of(version: u16, n: u8) -> u8
 }
 
 // A line each for so many locations.
+#[tactic(auto, using(crate::proofs::lines::LineTableLaws::own_start, crate::proofs::lines::LineTableLaws::own_next))]
 pub(crate) fn own_lines(n: u8) -> [u8; LOCATIONS]
     requires { n ≤ most_locations }
     ensures { result ≡ own_lines n }

@@ -26,7 +26,8 @@ use crate::case::{Instruction, Location, Register, Step, Thread, Write};
 use crate::fault::Fault;
 use crate::sizes::LOCATIONS;
 
-// `listed`: how many line bytes stand in the record; `line`: those bytes, 0 behind them.
+// `listed`: how many line bytes stand in the record; `line`: those bytes, 0 behind them. A count beside an array, since
+// memory is fixed.
 #[derive(Clone, Copy)]
 pub struct Header {
     pub version: u16,
@@ -109,6 +110,7 @@ fn is_mislong(kind: u16, n: u16) -> bool
 }
 
 // The line bytes of a program's record, 0 behind them.
+#[tactic(auto, using(crate::proofs::lines::LineTableLaws::table_start, crate::proofs::lines::LineTableLaws::table_next))]
 fn as_lines(s: &[u8], n: u8) -> [u8; LOCATIONS]
     requires { n ≤ most_locations }
     ensures { result ≡ table (line_byte s.now) n }
