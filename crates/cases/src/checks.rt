@@ -373,6 +373,7 @@ fn taken_fault(d: &Draft, k: Step) -> Result<(), Fault>
 }
 
 // The first fault of a record behind the draft; for each kind, of one that stands where its kind may.
+#[tactic(auto, using(crate::proofs::checks::FaultLaws::fault_misplaced))]
 pub(crate) fn fault(d: &Draft, r: Record) -> Result<(), Fault>
     ensures { refusal_no result ≡ fault_of d.now r }
 {

@@ -170,6 +170,7 @@ fn add_step(d: &mut Draft, k: Step)
 }
 
 // Puts a faultless record behind the draft.
+#[tactic(auto, using(crate::proofs::draft::DraftLaws::first_seated, crate::proofs::draft::DraftLaws::instruction_seated, crate::proofs::draft::DraftLaws::want_seated, crate::proofs::draft::DraftLaws::passed_seated, crate::proofs::draft::DraftLaws::step_seated, crate::proofs::draft::DraftLaws::header_sizes))]
 pub(crate) fn add(d: &mut Draft, r: Record)
     requires { (d.old.case.program.threads ≤ most_threads)
         × (d.old.case.program.locations ≤ most_locations)
