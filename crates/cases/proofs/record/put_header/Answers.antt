@@ -3,7 +3,7 @@ use Rattle.std.proofs.Common.{◌≡◌, ◌≤◌, ◌+◌, ◌-◌, ◌++◌, 
 use lib.ListN.{length-take, length-drop}
 use Rattle.cases.specs.Sizes.{most_locations}
 use Rattle.cases.specs.Bytes.{half_bytes}
-use Rattle.cases.proofs.record.PutLaws.{put_behind, header_front, listed_is, line_bytes_front, header_size, header_put}
+use Rattle.cases.proofs.record.RecordPutLaws.{put_behind, header_front, listed_is, line_bytes_front, header_size, header_put}
 use Rattle.cases.proofs.record.put_header.Goals as goal
 
 pub put-end-requires : goal.put-end-requires

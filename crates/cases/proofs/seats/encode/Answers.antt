@@ -1,6 +1,6 @@
 use Rattle.std.proofs.Common.{◌+◌, ◌-◌, sym, ap, ◌∙◌, length, drop, arith}
 use lib.ListN.{length-take, length-drop}
-use Rattle.cases.proofs.record.PutLaws.{put_behind}
+use Rattle.cases.proofs.record.RecordPutLaws.{put_behind}
 use Rattle.cases.proofs.seats.EncodeLaws.{encoded_start, encoded_fits, encoded_next, encoded_none, encoded_end}
 use Rattle.cases.proofs.seats.encode.Goals as goal
 use Rattle.cases.proofs.seats.encode.Goals.{in-Some, in_default}
