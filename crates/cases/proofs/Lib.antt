@@ -5,5 +5,5 @@ pub mod Promises
 pub mod ChoiceLaws
 pub mod ArrayLaws
 pub mod Computing
--- a room beside those of src/: bytes, checks, draft, lines, reader, record, same, seats and writer
+-- a room beside those of src/: bytes, checks, draft, lines, reader, record, seats and writer
 mod parts

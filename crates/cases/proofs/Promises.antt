@@ -8,13 +8,14 @@ use lib.ListN.{length, get_or, take, drop}
 use lib.Seq.{take_at, drop-length}
 use borrow.Author.Tests.{eqb-true, eq-eqb}
 use native.Mathlib.Omega.{arith}
+use Rattle.std.specs.declared.result.Result.TheVariants.{Ok, Err}
 use Rattle.cases.specs.declared.case.Step.{Step}
 use Rattle.cases.specs.declared.case.Program.{Program}
 use Rattle.cases.specs.declared.case.Case.{Case}
 use Rattle.cases.specs.declared.draft.Draft.{Draft}
 use Rattle.cases.specs.declared.record.Record.{Record}
 use Rattle.cases.specs.declared.reader.Answer.TheVariants.{Whole}
-use Rattle.cases.specs.declared.writer.Wrote.TheVariants.{Stored, Untouched}
+use Rattle.cases.specs.declared.writer.Unwritten.{Unwritten}
 use Rattle.cases.specs.Sizes.{most_threads, most_steps, longest, longest_record, step_size}
 use Rattle.cases.specs.Choice.{both}
 use Rattle.cases.specs.Bytes.{IsBytes, half}
@@ -37,7 +38,7 @@ use Rattle.cases.proofs.parts.StepsLaws.{steps_length, steps_file_more}
 use Rattle.cases.proofs.parts.OtherRunLaws.{run_steps, other_readable}
 use Rattle.cases.proofs.parts.TwinLaws as TwinLaws
 use Rattle.cases.proofs.writer.WriteLaws.{write_stored_as, write_stored_is, write_untouched_is}
-use Rattle.cases.proofs.same.SameLaws.{case_is, case_self}
+use Rattle.cases.proofs.writer.SameLaws.{case_is, case_self}
 
 -- Reading any bytes at all
 module _ (s : List ℕ) where
@@ -123,7 +124,7 @@ read_reads_back s b h = rw (write_after_read s b h, eq-eqb _ 0 h) (case_self (re
 -- so the writer does not refuse it, and stores those very bytes, wherever they fit
 pub read_writes : (s : List ℕ) → IsBytes s → number_of (read_of s).answer ≡ 0
     → (out : List ℕ) → length s ≤ length out
-    → (wrote_of (read_of s).case out ≡ Stored (length s))
+    → (wrote_of (read_of s).case out ≡ Ok (length s))
     × (written_of (read_of s).case out ≡ s ++ drop (length s) out)
 read_writes s b h out room =
     write_stored_as (read_of s).case out (read_reads_back s b h) s (write_after_read s b h) room
@@ -198,19 +199,19 @@ readable_exactly c = (
 )
 
 -- "Refusals .. store nothing."
-pub refusal_stores_nothing : (c : Case) (out : List ℕ) (m : ℕ) → wrote_of c out ≡ Untouched m
+pub refusal_stores_nothing : (c : Case) (out : List ℕ) (m : Unwritten) → wrote_of c out ≡ Err m
     → written_of c out ≡ out
 refusal_stores_nothing c out m h = write_untouched_is c out m h
 
 -- "A success writes from the front and touches nothing behind."
-pub success_from_the_front : (c : Case) (out : List ℕ) (n : ℕ) → wrote_of c out ≡ Stored n
+pub success_from_the_front : (c : Case) (out : List ℕ) (n : ℕ) → wrote_of c out ≡ Ok n
     → (n ≡ length (encode_of c)) × (written_of c out ≡ encode_of c ++ drop n out)
 success_from_the_front c out n h =
     let e = write_stored_is c out n h in
     (e.1, rw e.1 e.2)
 
 -- what was written at the front of lent bytes reads as the case, whatever stood there
-pub written_reads : (c : Case) (out : List ℕ) (n : ℕ) → wrote_of c out ≡ Stored n
+pub written_reads : (c : Case) (out : List ℕ) (n : ℕ) → wrote_of c out ≡ Ok n
     → read_of (take n (written_of c out)) ≡ record { answer = Whole n; case = c }
 written_reads c out n h =
     let e = write_stored_is c out n h in

@@ -3,7 +3,7 @@
 pub mod WithLaws
 -- count, counted, CountedAs: the counts of instructions; Behind
 pub mod CountLaws
--- header, Opening: the record of the program, and its lines
+-- header, Opening: the record of the program, and its lines; Listing: its line bytes, and zeros behind them
 pub mod HeaderLaws
 -- draft, seated: a record comes in turn, finds its seat: header, first, instruction, want, passed, step; rank
 pub mod DraftLaws

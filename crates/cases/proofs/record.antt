@@ -1,5 +1,5 @@
 -- A record (specs/Record).
--- open, opens: how one opens, OpenWhole; kind; row_back: line bytes in a row
+-- open, opens: how one opens, OpenWhole; kind; row: a byte for each location
 pub mod OpenLaws
--- padded, put: one that is put, byte by byte; widened: its first bytes; line_bytes, header_front: one of the program
-pub mod PaddedLaws
+-- put: bytes put at once; header, line_bytes, listed: the program's record, put in two parts
+pub mod RecordPutLaws

@@ -27,7 +27,7 @@ use Rattle.cases.specs.declared.record.Record.TheVariants.{Declare, First, Instr
 use Rattle.cases.specs.Sizes.{most_threads, most_instructions, most_locations, most_steps, all_code}
 use Rattle.cases.specs.Choice.{pick}
 use Rattle.cases.specs.Lines.{own_version, own_lines, lines_in}
-use Rattle.cases.specs.Record.{row_list, line_bytes}
+use Rattle.cases.specs.Record.{line_bytes}
 use Rattle.cases.specs.Checks.{no_instruction, count_at}
 
 abbrev pub no_step : Step
@@ -56,7 +56,7 @@ empty_case =
 
 -- "Version 1 means a line each."
 unfoldable pub line_table : Header → List ℕ
-line_table h = pick (eqb h.version own_version) (own_lines h.locations) (row_list h.line)
+line_table h = pick (eqb h.version own_version) (own_lines h.locations) h.line
 
 unfoldable pub line_count : Header → ℕ
 line_count h = pick (eqb h.version own_version) h.locations (lines_in 0 (line_bytes h))

@@ -2,6 +2,7 @@
 pub mod Sizes
 pub mod Operations
 pub mod Choice
+pub mod Fault
 pub mod Bytes
 pub mod Lines
 pub mod Record

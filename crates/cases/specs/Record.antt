@@ -3,7 +3,7 @@
 --   payload_of k        how long the payload of kind k is at least; 0: there is no such kind
 --   spare_of k          how much longer it may be: a line byte for each location, of kind 1
 --   mislong k n         a payload of n bytes is shorter or longer than one of kind k may be
---   row_list x, as_row xs   a byte for each location, one by one, and such a list as these bytes
+--   as_row xs           a byte for each location that there may be: those of xs, 0 behind them
 --   line_bytes h        the line bytes of a program's record
 --   record_bytes r      the record's bytes: "a two-byte payload length, a two-byte kind, the payload"
 --   payload_bytes r     its payload's
@@ -12,22 +12,16 @@
 --   as_header, as_write, as_instruction, as_step   the bytes s as what a payload holds, behind a head of 4 bytes
 --   record_of k s       the record of kind k whose bytes s starts with
 --   open_no s           0 where s starts with a whole record, else the number of the refusal
---   opened_as n r       how a record opens: as r where n is 0, else with the refusal n
---   open_of s           how the record opens that s starts with
 --   size_of s           how long that record is, by its head
 -- Assumes nothing.
-use Rattle.std.specs.Prelude.{ℕ, zero, suc, ◌+◌, ◌-◌, List, [], ◌∷◌, ◌++◌, Bool, length, get_or, take, replicate, eqb, ltb}
+use Rattle.std.specs.Prelude.{ℕ, ◌+◌, ◌-◌, List, [], ◌∷◌, ◌++◌, Bool, length, get_or, take, replicate, eqb, ltb}
 use Rattle.cases.specs.declared.case.Write.{Write}
 use Rattle.cases.specs.declared.case.Instruction.{Instruction}
 use Rattle.cases.specs.declared.case.Step.{Step}
-use Rattle.cases.specs.declared.record.Row.{Row}
 use Rattle.cases.specs.declared.record.Header.{Header}
-use Rattle.cases.specs.declared.record.Padded.{Padded}
 use Rattle.cases.specs.declared.record.Record.{Record}
 use Rattle.cases.specs.declared.record.Record.TheVariants.{Declare, First, Instruct, Want, Passed, Take}
-use Rattle.cases.specs.declared.record.Opened.{Opened}
-use Rattle.cases.specs.declared.record.Opened.TheVariants.{Opens, Faulty}
-use Rattle.cases.specs.Sizes.{most_locations, short_record, longest_record}
+use Rattle.cases.specs.Sizes.{most_locations}
 use Rattle.cases.specs.Choice.{pick, either, refuse}
 use Rattle.cases.specs.Bytes.{half, word_at, half_bytes, word_bytes}
 use Rattle.cases.specs.Lines.{table}
@@ -55,34 +49,11 @@ spare_of k = pick (eqb k 1) most_locations 0
 unfoldable pub mislong : ℕ → ℕ → Bool
 mislong k n = either (ltb n (payload_of k)) (ltb (spare_of k) (n - payload_of k))
 
-abbrev pub row_list : Row → List ℕ
-row_list x =
-    x.0 ∷ x.1 ∷ x.2 ∷ x.3 ∷ x.4 ∷ x.5 ∷ x.6 ∷ x.7
-    ∷ x.8 ∷ x.9 ∷ x.10 ∷ x.11 ∷ x.12 ∷ x.13 ∷ x.14 ∷ x.15 ∷ []
-
-unfoldable pub as_row : List ℕ → Row
-as_row xs =
-    record {
-      0 = get_or xs 0 0;
-      1 = get_or xs 1 0;
-      2 = get_or xs 2 0;
-      3 = get_or xs 3 0;
-      4 = get_or xs 4 0;
-      5 = get_or xs 5 0;
-      6 = get_or xs 6 0;
-      7 = get_or xs 7 0;
-      8 = get_or xs 8 0;
-      9 = get_or xs 9 0;
-      10 = get_or xs 10 0;
-      11 = get_or xs 11 0;
-      12 = get_or xs 12 0;
-      13 = get_or xs 13 0;
-      14 = get_or xs 14 0;
-      15 = get_or xs 15 0;
-    }
+unfoldable pub as_row : List ℕ → List ℕ
+as_row xs = take most_locations (xs ++ replicate most_locations 0)
 
 unfoldable pub line_bytes : Header → List ℕ
-line_bytes h = take h.listed (row_list h.line)
+line_bytes h = take h.listed h.line
 
 -- kind 1: version (2 bytes), threads, locations, line bytes. Kinds 2 and 4: location, word. Kind 3: thread, operation,
 -- location, register, word. Kind 5: thread, least number of instructions issued. Kind 6: thread, code,
@@ -102,14 +73,6 @@ unfoldable pub bytes_of : List Record → List ℕ
 bytes_of [] = []
 bytes_of (r ∷ rs) = record_bytes r ++ bytes_of rs
 
--- a record's bytes as the code holds them: 0 behind them
-unfoldable pub padded_of : List ℕ → Padded
-padded_of s = record { length = length s; bytes = s ++ replicate (longest_record - length s) 0 }
-
--- a record of n bytes, which stand at the front: 0 behind the front
-unfoldable pub widened : ℕ → List ℕ → Padded
-widened n front = record { length = n; bytes = front ++ replicate (longest_record - short_record) 0 }
-
 abbrev pub line_byte : List ℕ → ℕ → ℕ
 line_byte s l = get_or s (8 + l) 0
 
@@ -121,7 +84,7 @@ as_header s =
       threads = get_or s 6 0;
       locations = get_or s 7 0;
       listed = half s 0 - 4;
-      line = as_row (table (line_byte s) (half s 0 - 4));
+      line = table (line_byte s) (half s 0 - 4);
     }
 
 unfoldable pub as_write : List ℕ → Write
@@ -160,18 +123,6 @@ open_no s =
     (refuse (eqb (payload_of (half s 2)) 0) 2
     (refuse (mislong (half s 2) (half s 0)) 3
     (refuse (ltb (length s - 4) (half s 0)) 1 0)))
-
-unfoldable pub opened_as : ℕ → Record → Opened
-opened_as zero r = Opens r
-opened_as (suc n) r = Faulty (suc n)
-
-unfoldable pub open_of : List ℕ → Opened
-open_of s = opened_as (open_no s) (record_of (half s 2) s)
-
--- the number that an opened record answers
-abbrev pub opened_no : Opened → ℕ
-opened_no (Opens r) = 0
-opened_no (Faulty n) = n
 
 unfoldable pub size_of : List ℕ → ℕ
 size_of s = 4 + half s 0

@@ -12,15 +12,14 @@
 --   encode_of c     the case's file
 --   steps_bytes ks  the bytes of the steps ks: what stands at the end of the file of a case with that run
 -- Assumes nothing.
-use Rattle.std.specs.Prelude.{ℕ, zero, suc, ◌+◌, ◌-◌, ◌/◌, ◌%◌, List, [], ◌++◌, map, false, get_or, replicate, eqb, leb, ltb}
+use Rattle.std.specs.Prelude.{ℕ, zero, suc, ◌+◌, ◌-◌, ◌/◌, ◌%◌, List, [], ◌++◌, map, false, Option, Some, None, get_or, replicate, eqb, leb, ltb}
 use Rattle.cases.specs.declared.case.Step.{Step}
 use Rattle.cases.specs.declared.case.Program.{Program}
 use Rattle.cases.specs.declared.case.Ask.{Ask}
 use Rattle.cases.specs.declared.case.Run.{Run}
 use Rattle.cases.specs.declared.case.Case.{Case}
+use Rattle.cases.specs.declared.record.Record.{Record}
 use Rattle.cases.specs.declared.record.Record.TheVariants.{Declare, First, Instruct, Want, Passed, Take}
-use Rattle.cases.specs.declared.seats.Seat.{Seat}
-use Rattle.cases.specs.declared.seats.Seat.TheVariants.{Holds, Empty}
 use Rattle.cases.specs.Sizes.{most_threads, most_instructions, most_locations, most_steps, all_code}
 use Rattle.cases.specs.Choice.{pick}
 use Rattle.cases.specs.Lines.{own_version, listed_of}
@@ -50,9 +49,9 @@ seats = from_steps + most_steps
 unfoldable pub listed_lines : Case → List ℕ
 listed_lines c = pick (eqb c.version own_version) (replicate most_locations 0) c.program.line
 
-unfoldable pub header_seat : Case → Seat
+unfoldable pub header_seat : Case → Option Record
 header_seat c =
-    Holds (Declare (record {
+    Some (Declare (record {
       version = c.version;
       threads = c.program.threads;
       locations = c.program.locations;
@@ -61,32 +60,32 @@ header_seat c =
     }))
 
 -- "A location without a kind 2 holds 0"
-unfoldable pub first_seat : Program → ℕ → Seat
+unfoldable pub first_seat : Program → ℕ → Option Record
 first_seat p l =
-    pick (eqb (get_or p.first l 0) 0) Empty
-    (Holds (First (record { location = record { 0 = l }; word = get_or p.first l 0 })))
+    pick (eqb (get_or p.first l 0) 0) None
+    (Some (First (record { location = record { 0 = l }; word = get_or p.first l 0 })))
 
 -- m counts through all threads' instructions
-unfoldable pub instruction_seat : Program → ℕ → Seat
+unfoldable pub instruction_seat : Program → ℕ → Option Record
 instruction_seat p m =
-    pick (leb (count_at p (m / most_instructions)) (m % most_instructions)) Empty
-    (Holds (Instruct (record { 0 = m / most_instructions }) (get_or p.code m no_instruction)))
+    pick (leb (count_at p (m / most_instructions)) (m % most_instructions)) None
+    (Some (Instruct (record { 0 = m / most_instructions }) (get_or p.code m no_instruction)))
 
 -- "one without a kind 4 may hold anything, and that is not the same as wanting 0"
-unfoldable pub want_seat : Ask → ℕ → Seat
+unfoldable pub want_seat : Ask → ℕ → Option Record
 want_seat a l =
     pick (get_or a.wanted l false)
-    (Holds (Want (record { location = record { 0 = l }; word = get_or a.want l 0 }))) Empty
+    (Some (Want (record { location = record { 0 = l }; word = get_or a.want l 0 }))) None
 
-unfoldable pub passed_seat : Ask → ℕ → Seat
+unfoldable pub passed_seat : Ask → ℕ → Option Record
 passed_seat a t =
-    pick (eqb (get_or a.passed t 0) 0) Empty
-    (Holds (Passed (record { 0 = t }) (get_or a.passed t 0)))
+    pick (eqb (get_or a.passed t 0) 0) None
+    (Some (Passed (record { 0 = t }) (get_or a.passed t 0)))
 
-unfoldable pub step_seat : Run → ℕ → Seat
-step_seat r k = pick (leb r.count k) Empty (Holds (Take (get_or r.steps k no_step)))
+unfoldable pub step_seat : Run → ℕ → Option Record
+step_seat r k = pick (leb r.count k) None (Some (Take (get_or r.steps k no_step)))
 
-unfoldable pub seat_of : Case → ℕ → Seat
+unfoldable pub seat_of : Case → ℕ → Option Record
 seat_of c k =
     pick (ltb k from_firsts) (header_seat c)
     (pick (ltb k from_code) (first_seat c.program (k - from_firsts))
@@ -95,9 +94,9 @@ seat_of c k =
     (pick (ltb k from_steps) (passed_seat c.ask (k - from_passed))
     (step_seat c.run (k - from_steps))))))
 
-unfoldable pub seat_bytes : Seat → List ℕ
-seat_bytes (Holds r) = record_bytes r
-seat_bytes Empty = []
+unfoldable pub seat_bytes : Option Record → List ℕ
+seat_bytes (Some r) = record_bytes r
+seat_bytes None = []
 
 unfoldable pub bytes_at : Case → ℕ → List ℕ
 bytes_at c k = seat_bytes (seat_of c k)

@@ -1,4 +1,5 @@
 -- Document 01, "Refusal numbers": writing, and 32, "a case in memory that no byte string reads as".
+--   unwritten_no m    the number of the refusal
 --   wrote_no, wrote_length   the number that an answer stands for, and the length
 --   same_list, same_flag, same_instruction, same_step, same_sizes, same_program, same_ask, same_run, same_case
 --                     the two are the same in every field; same_list by a test of two elements
@@ -6,27 +7,31 @@
 --   wrote_of c out    what writing the case into the lent bytes `out` answers
 --   written_of c out  what they hold afterwards
 -- Assumes nothing.
-use Rattle.std.specs.Prelude.{ℕ, List, [], ◌∷◌, ◌++◌, Bool, true, false, not, length, drop, eqb, ltb}
+use Rattle.std.specs.Prelude.{ℕ, List, [], ◌∷◌, ◌++◌, Bool, true, false, not, Result, Ok, Err, length, drop, eqb, ltb}
 use Rattle.cases.specs.declared.case.Instruction.{Instruction}
 use Rattle.cases.specs.declared.case.Step.{Step}
 use Rattle.cases.specs.declared.case.Program.{Program}
 use Rattle.cases.specs.declared.case.Ask.{Ask}
 use Rattle.cases.specs.declared.case.Run.{Run}
 use Rattle.cases.specs.declared.case.Case.{Case}
-use Rattle.cases.specs.declared.writer.Wrote.{Wrote}
-use Rattle.cases.specs.declared.writer.Wrote.TheVariants.{Stored, Untouched}
+use Rattle.cases.specs.declared.writer.Unwritten.{Unwritten}
+use Rattle.cases.specs.declared.writer.Unwritten.TheVariants.{Unreadable, Short}
 use Rattle.cases.specs.Choice.{pick, both}
 use Rattle.cases.specs.Reading.{number_of, read_of}
 use Rattle.cases.specs.Seats.{encode_of}
 
 -- "writing 0 and the length"
-abbrev pub wrote_no : Wrote → ℕ
-wrote_no (Stored n) = 0
-wrote_no (Untouched m) = m
+abbrev pub unwritten_no : Unwritten → ℕ
+unwritten_no Unreadable = 32
+unwritten_no Short = 31
 
-abbrev pub wrote_length : Wrote → ℕ
-wrote_length (Stored n) = n
-wrote_length (Untouched m) = 0
+abbrev pub wrote_no : Result ℕ Unwritten → ℕ
+wrote_no (Ok n) = 0
+wrote_no (Err m) = unwritten_no m
+
+abbrev pub wrote_length : Result ℕ Unwritten → ℕ
+wrote_length (Ok n) = n
+wrote_length (Err m) = 0
 
 unfoldable pub same_list : {A : Type 0} → (A → A → Bool) → List A → List A → Bool
 same_list e [] [] = true
@@ -91,11 +96,11 @@ unfoldable pub reads_back : Case → Bool
 reads_back c = reads_as (encode_of c) c
 
 -- "The writer tests 32, then 31 (shorter than the file)."
-unfoldable pub wrote_of : Case → List ℕ → Wrote
+unfoldable pub wrote_of : Case → List ℕ → Result ℕ Unwritten
 wrote_of c out =
-    pick (not (reads_back c)) (Untouched 32)
-    (pick (ltb (length out) (length (encode_of c))) (Untouched 31)
-    (Stored (length (encode_of c))))
+    pick (not (reads_back c)) (Err Unreadable)
+    (pick (ltb (length out) (length (encode_of c))) (Err Short)
+    (Ok (length (encode_of c))))
 
 -- "Refusals .. store nothing. A success writes from the front and touches nothing behind."
 unfoldable pub written_of : Case → List ℕ → List ℕ

@@ -1,13 +1,13 @@
 // What may be wrong with a record that opens, each fault by its name; `fault` tries them in 01's order:
 // 4, 5, 8, 6, 7, 9, with 02's 10 behind 7, and for the program's record in 02's: 4, 5, 3, 8.
-ghost use Rattle.std.specs.Prelude.{◌≡◌, ◌≤◌};
+ghost use Rattle.std.specs.Prelude.{◌≡◌, ◌≤◌, false};
 ghost use Rattle.cases.specs.declared.record.Record.TheVariants.{Declare, First, Instruct};
 ghost use Rattle.cases.specs.declared.record.Record.TheVariants.{Want, Passed, Take};
 ghost use Rattle.cases.specs.Sizes.{most_instructions, most_locations};
-ghost use Rattle.cases.specs.Lines.{last_version, unordered};
+ghost use Rattle.cases.specs.Fault.{refusal_no};
+ghost use Rattle.cases.specs.Lines.{unordered};
 ghost use Rattle.cases.specs.Record.{line_bytes};
 ghost use Rattle.cases.specs.Checks.{
-  kind_rank,
   misplaced,
   disordered,
   outside,
@@ -37,233 +37,172 @@ ghost use Rattle.cases.specs.Checks.{
 
 use crate::case::{Instruction, Program, Register, Step, Thread, Write};
 use crate::draft::Draft;
+use crate::fault::Fault;
 use crate::lines::{LAST_VERSION, is_unordered, listed_of};
 use crate::operations::{
     COMPARE, EXCHANGE, FLUSH_OPT, LAST_CODE, LAST_OPERATION, LOAD, MOVE, PERSIST, STORE_REGISTER,
     STORE_WORD,
 };
-use crate::record::{Header, Record, row_list};
+use crate::record::{DECLARE, FIRST, Header, INSTRUCT, NO_KIND, PASSED, Record, WANT};
 use crate::sizes::{INSTRUCTIONS, LOCATIONS, REGISTERS, STEPS, THREADS};
 
-// Where a kind stands in the order of kinds.
-fn kind_rank(kind: u8) -> u8
-    ensures { result ≡ kind_rank kind }
-{
-    kind
-}
-
-// Kind 1 comes first and once, and kinds never go down; nothing before is kind 0.
-fn is_misplaced(before: u8, kind: u8) -> bool
+// The program comes first and once, and kinds never go down.
+#[tactic(auto, using(crate::proofs::ChoiceLaws::choices), unfolding(crate::specs::Checks::misplaced, crate::specs::Checks::kind_rank))]
+fn is_misplaced(before: u16, kind: u16) -> bool
     ensures { result ≡ misplaced before kind }
 {
-    if before == 0 {
-        return kind != 1;
+    if before == NO_KIND {
+        kind != DECLARE
+    } else {
+        kind == DECLARE || kind < before
     }
-    if kind == 1 {
-        return true;
-    }
-    kind_rank(kind) < kind_rank(before)
 }
 
 // The number is below the least that may come next in its kind.
-fn is_disordered(d: Draft, kind: u8, number: u8) -> bool
-    ensures { result ≡ disordered d kind number }
+#[tactic(auto, using(crate::proofs::ChoiceLaws::choices), unfolding(crate::specs::Checks::disordered))]
+fn is_disordered(d: &Draft, kind: u16, number: u8) -> bool
+    ensures { result ≡ disordered d.now kind number }
 {
-    if d.kind != kind {
-        return false;
-    }
-    number < d.next
+    d.kind == kind && number < d.next
 }
 
-fn is_outside(x: u8, most: u8) -> bool
+// The number is not one from 1 to the most.
+#[tactic(auto, using(crate::proofs::ChoiceLaws::choices), unfolding(crate::specs::Checks::outside))]
+fn is_outside(x: u16, most: u16) -> bool
     ensures { result ≡ outside x most }
 {
-    if x < 1 {
-        return true;
-    }
-    most < x
+    x < 1 || most < x
 }
 
 // A field that is used, and has a number that there is not.
+#[tactic(auto, using(crate::proofs::ChoiceLaws::choices), unfolding(crate::specs::Checks::beyond))]
 fn is_beyond(used: bool, x: u8, limit: u8) -> bool
     ensures { result ≡ beyond used x limit }
 {
-    if used {
-        return limit <= x;
-    }
-    false
+    used && limit <= x
 }
 
 // A field that isn't used, and is not 0.
+#[tactic(auto, using(crate::proofs::ChoiceLaws::choices), unfolding(crate::specs::Checks::left_over))]
 fn is_left_over(used: bool, x: u32) -> bool
     ensures { result ≡ left_over used x }
 {
-    if used {
-        return false;
-    }
-    x != 0
+    !used && x != 0
 }
 
-// There is no such version.
-fn is_unknown(version: u16) -> bool
-    ensures { result ≡ outside version last_version }
+#[tactic(auto, using(crate::proofs::ChoiceLaws::choices), unfolding(crate::specs::Checks::header_out))]
+fn is_header_out(h: &Header) -> bool
+    ensures { result ≡ header_out h.now }
 {
-    if version < 1 {
-        return true;
-    }
-    LAST_VERSION < version
-}
-
-fn is_header_out(h: Header) -> bool
-    ensures { result ≡ header_out h }
-{
-    if is_unknown(h.version) {
-        return true;
-    }
-    if is_outside(h.threads, THREADS as u8) {
-        return true;
-    }
-    is_outside(h.locations, LOCATIONS as u8)
+    is_outside(h.version, LAST_VERSION)
+        || is_outside(h.threads as u16, THREADS as u16)
+        || is_outside(h.locations as u16, LOCATIONS as u16)
 }
 
 // The number of line bytes is not that version's and count's.
-fn is_mislisted(h: Header) -> bool
-    ensures { result ≡ mislisted h }
+#[tactic(auto, using(crate::proofs::ChoiceLaws::choices), unfolding(crate::specs::Checks::mislisted))]
+fn is_mislisted(h: &Header) -> bool
+    ensures { result ≡ mislisted h.now }
 {
     h.listed != listed_of(h.version, h.locations)
 }
 
 // Its line numbers are not in order of first appearance.
-fn is_misnumbered(h: Header) -> bool
-    requires { h.listed ≤ most_locations }
-    ensures { result ≡ unordered 0 (line_bytes h) }
+#[tactic(auto, using(crate::proofs::ChoiceLaws::choices), unfolding(crate::specs::Record::line_bytes))]
+fn is_misnumbered(h: &Header) -> bool
+    requires { h.now.listed ≤ most_locations }
+    ensures { result ≡ unordered 0 (line_bytes h.now) }
 {
-    is_unordered(row_list(h.line), h.listed)
+    is_unordered(&h.line[..h.listed as usize])
 }
 
+#[tactic(auto, using(crate::proofs::ChoiceLaws::choices), unfolding(crate::specs::Checks::uses_location))]
 fn uses_location(op: u8) -> bool
     ensures { result ≡ uses_location op }
 {
-    if op == COMPARE {
-        return true;
-    }
-    op <= FLUSH_OPT
+    op == COMPARE || op <= FLUSH_OPT
 }
 
+#[tactic(auto, using(crate::proofs::ChoiceLaws::choices), unfolding(crate::specs::Checks::uses_register))]
 fn uses_register(op: u8) -> bool
     ensures { result ≡ uses_register op }
 {
-    if op == COMPARE {
-        return true;
-    }
-    if STORE_REGISTER <= op {
-        return op <= EXCHANGE;
-    }
-    false
+    op == COMPARE || STORE_REGISTER <= op && op <= EXCHANGE
 }
 
+#[tactic(auto, using(crate::proofs::ChoiceLaws::choices), unfolding(crate::specs::Checks::uses_word))]
 fn uses_word(op: u8) -> bool
     ensures { result ≡ uses_word op }
 {
-    if op == COMPARE {
-        return true;
-    }
-    if op == STORE_WORD {
-        return true;
-    }
-    op == EXCHANGE
+    op == COMPARE || op == STORE_WORD || op == EXCHANGE
 }
 
-fn is_instruction_out(p: Program, t: Thread, x: Instruction) -> bool
-    ensures { result ≡ instruction_out p t x }
+#[tactic(auto, using(crate::proofs::ChoiceLaws::choices), unfolding(crate::specs::Checks::instruction_out))]
+fn is_instruction_out(p: &Program, t: Thread, x: Instruction) -> bool
+    ensures { result ≡ instruction_out p.now t x }
 {
     let op = x.operation;
-    if p.threads <= t.0 {
-        return true;
-    }
-    if is_outside(op, LAST_OPERATION) {
-        return true;
-    }
-    if is_beyond(uses_location(op), x.location.0, p.locations) {
-        return true;
-    }
-    is_beyond(uses_register(op), x.register.0, REGISTERS as u8)
+    p.threads <= t.0
+        || is_outside(op as u16, LAST_OPERATION as u16)
+        || is_beyond(uses_location(op), x.location.0, p.locations)
+        || is_beyond(uses_register(op), x.register.0, REGISTERS as u8)
 }
 
+#[tactic(auto, using(crate::proofs::ChoiceLaws::choices), unfolding(crate::specs::Checks::instruction_left))]
 fn is_instruction_left(x: Instruction) -> bool
     ensures { result ≡ instruction_left x }
 {
     let op = x.operation;
-    if is_left_over(uses_location(op), x.location.0 as u32) {
-        return true;
-    }
-    if is_left_over(uses_register(op), x.register.0 as u32) {
-        return true;
-    }
-    is_left_over(uses_word(op), x.word)
+    is_left_over(uses_location(op), x.location.0 as u32)
+        || is_left_over(uses_register(op), x.register.0 as u32)
+        || is_left_over(uses_word(op), x.word)
 }
 
 // How many instructions the thread has; none where there is no such thread.
-pub(crate) fn count(p: Program, t: Thread) -> u8
-    ensures { result ≡ count_at p t.0 }
+pub(crate) fn count(p: &Program, t: Thread) -> u8
+    ensures { result ≡ count_at p.now t.0 }
 {
-    let counts = p.counts;
-    let at = t.0 as usize;
-    if at < THREADS { counts[at] } else { 0 }
+    p.counts.get(t.0 as usize).copied().unwrap_or(0)
 }
 
-fn is_passed_out(p: Program, t: Thread, n: u8) -> bool
-    ensures { result ≡ passed_out p t n }
+#[tactic(auto, using(crate::proofs::ChoiceLaws::choices), unfolding(crate::specs::Checks::passed_out))]
+fn is_passed_out(p: &Program, t: Thread, n: u8) -> bool
+    ensures { result ≡ passed_out p.now t n }
 {
-    if p.threads <= t.0 {
-        return true;
-    }
-    count(p, t) < n
+    p.threads <= t.0 || count(p, t) < n
 }
 
 // It needs a word in its register: a store stores it, a compare tests it.
+#[tactic(auto, using(crate::proofs::ChoiceLaws::choices), unfolding(crate::specs::Checks::needs_register))]
 fn needs_register(op: u8) -> bool
     ensures { result ≡ needs_register op }
 {
-    if op == STORE_REGISTER {
-        return true;
-    }
-    op == COMPARE
+    op == STORE_REGISTER || op == COMPARE
 }
 
+#[tactic(auto, using(crate::proofs::ChoiceLaws::choices), unfolding(crate::specs::Checks::sets_register))]
 fn sets_register(op: u8) -> bool
     ensures { result ≡ sets_register op }
 {
-    if op == LOAD {
-        return true;
-    }
-    if op == EXCHANGE {
-        return true;
-    }
-    op == COMPARE
+    op == LOAD || op == EXCHANGE || op == COMPARE
 }
 
+#[tactic(auto, using(crate::proofs::ChoiceLaws::choices), unfolding(crate::specs::Checks::set_by))]
 fn is_set_by(r: Register, x: Instruction) -> bool
     ensures { result ≡ set_by r.0 x }
 {
-    if sets_register(x.operation) {
-        return x.register.0 == r.0;
-    }
-    false
+    sets_register(x.operation) && x.register == r
 }
 
 // One of the thread's instructions so far sets the register; the newest is looked at first.
-fn is_set(p: Program, t: Thread, r: Register) -> bool
-    requires { count_at p t.0 ≤ most_instructions }
-    ensures { result ≡ set_before p t.0 r.0 (count_at p t.0) }
+fn is_set(p: &Program, t: Thread, r: Register) -> bool
+    requires { count_at p.now t.0 ≤ most_instructions }
+    ensures { result ≡ set_before p.now t.0 r.0 (count_at p.now t.0) }
 {
-    let code = p.code;
     let at = (t.0 as usize) * INSTRUCTIONS;
-    let mut n = count(p, t) as usize;
-    while 0 < n {
-        n = n - 1;
-        let x = code[at + n];
-        if is_set_by(r, x) {
+    let n = count(p, t) as usize;
+    for i in (0..n).rev() {
+        if is_set_by(r, p.code[at + i]) {
             return true;
         }
     }
@@ -271,185 +210,178 @@ fn is_set(p: Program, t: Thread, r: Register) -> bool
 }
 
 // It needs a register that no instruction before it in its thread sets.
-fn is_unset(p: Program, t: Thread, x: Instruction) -> bool
-    requires { count_at p t.0 ≤ most_instructions }
-    ensures { result ≡ unset p t x }
+#[tactic(auto, using(crate::proofs::ChoiceLaws::choices), unfolding(crate::specs::Checks::unset))]
+fn is_unset(p: &Program, t: Thread, x: Instruction) -> bool
+    requires { count_at p.now t.0 ≤ most_instructions }
+    ensures { result ≡ unset p.now t x }
 {
-    if needs_register(x.operation) {
-        return !is_set(p, t, x.register);
-    }
-    false
+    needs_register(x.operation) && !is_set(p, t, x.register)
 }
 
 // How many lines the program has, each with its queue: a persist names one by its number.
+#[tactic(auto, using(crate::proofs::ChoiceLaws::choices), unfolding(crate::specs::Checks::lines_of))]
 pub fn lines_of(p: Program) -> u8
     ensures { result ≡ lines_of p }
 {
     p.lines
 }
 
-fn is_step_out(p: Program, k: Step) -> bool
-    ensures { result ≡ step_out (limits_of p) k }
+#[tactic(auto, using(crate::proofs::ChoiceLaws::choices), unfolding(crate::specs::Checks::step_out, crate::specs::Checks::lines_of))]
+fn is_step_out(p: &Program, k: Step) -> bool
+    ensures { result ≡ step_out (limits_of p.now) k }
 {
     let code = k.code;
-    if LAST_CODE < code {
-        return true;
-    }
-    if is_beyond(code <= MOVE, k.thread.0, p.threads) {
-        return true;
-    }
-    if is_beyond(code == MOVE, k.position, INSTRUCTIONS as u8) {
-        return true;
-    }
-    is_beyond(code == PERSIST, k.location.0, lines_of(p))
+    LAST_CODE < code
+        || is_beyond(code <= MOVE, k.thread.0, p.threads)
+        || is_beyond(code == MOVE, k.position, INSTRUCTIONS as u8)
+        || is_beyond(code == PERSIST, k.location.0, p.lines)
 }
 
+#[tactic(auto, using(crate::proofs::ChoiceLaws::choices), unfolding(crate::specs::Checks::step_left))]
 fn is_step_left(k: Step) -> bool
     ensures { result ≡ step_left k }
 {
     let code = k.code;
-    if is_left_over(code <= MOVE, k.thread.0 as u32) {
-        return true;
-    }
-    if is_left_over(code == MOVE, k.position as u32) {
-        return true;
-    }
-    is_left_over(code == PERSIST, k.location.0 as u32)
+    is_left_over(code <= MOVE, k.thread.0 as u32)
+        || is_left_over(code == MOVE, k.position as u32)
+        || is_left_over(code == PERSIST, k.location.0 as u32)
 }
 
 // 5 and 8 of a step, as for a kind 6 record.
+#[tactic(auto, using(crate::proofs::ChoiceLaws::choices), unfolding(crate::specs::Checks::step_fault))]
 pub fn step_fault(p: Program, k: Step) -> u8
     ensures { result ≡ step_fault (limits_of p) k }
 {
-    if is_step_out(p, k) {
-        return 5;
+    match check_step(&p, k) {
+        Ok(()) => 0,
+        Err(fault) => fault.number(),
     }
-    if is_step_left(k) {
-        return 8;
-    }
-    0
 }
 
-fn header_fault(d: Draft, h: Header) -> u8
-    ensures { result ≡ fault_of d (Declare h) }
+#[tactic(auto, using(crate::proofs::ChoiceLaws::choices), unfolding(crate::specs::Checks::step_fault))]
+fn check_step(p: &Program, k: Step) -> Result<(), Fault>
+    ensures { refusal_no result ≡ step_fault (limits_of p.now) k }
 {
-    if is_misplaced(d.kind, 1) {
-        return 4;
+    if is_step_out(p, k) {
+        return Err(Fault::Range);
     }
+    if is_step_left(k) {
+        return Err(Fault::Unused);
+    }
+    Ok(())
+}
+
+#[tactic(auto, using(crate::proofs::ChoiceLaws::choices), unfolding(crate::specs::Checks::fault_of))]
+fn header_fault(d: &Draft, h: &Header) -> Result<(), Fault>
+    requires { misplaced d.now.kind 1 ≡ false }
+    ensures { refusal_no result ≡ fault_of d.now (Declare h.now) }
+{
     if is_header_out(h) {
-        return 5;
+        return Err(Fault::Range);
     }
     if is_mislisted(h) {
-        return 3;
+        return Err(Fault::Length);
     }
     if is_misnumbered(h) {
-        return 8;
+        return Err(Fault::Unused);
     }
-    0
+    Ok(())
 }
 
-fn first_fault(d: Draft, w: Write) -> u8
-    ensures { result ≡ fault_of d (First w) }
+#[tactic(auto, using(crate::proofs::ChoiceLaws::choices), unfolding(crate::specs::Checks::fault_of))]
+fn first_fault(d: &Draft, w: Write) -> Result<(), Fault>
+    requires { misplaced d.now.kind 2 ≡ false }
+    ensures { refusal_no result ≡ fault_of d.now (First w) }
 {
-    if is_misplaced(d.kind, 2) {
-        return 4;
-    }
     if d.case.program.locations <= w.location.0 {
-        return 5;
+        return Err(Fault::Range);
     }
     if w.word == 0 {
-        return 8;
+        return Err(Fault::Unused);
     }
-    if is_disordered(d, 2, w.location.0) {
-        return 6;
+    if is_disordered(d, FIRST, w.location.0) {
+        return Err(Fault::Disorder);
     }
-    0
+    Ok(())
 }
 
-fn instruction_fault(d: Draft, t: Thread, x: Instruction) -> u8
-    ensures { result ≡ fault_of d (Instruct t x) }
+#[tactic(auto, using(crate::proofs::ChoiceLaws::choices), unfolding(crate::specs::Checks::fault_of))]
+fn instruction_fault(d: &Draft, t: Thread, x: Instruction) -> Result<(), Fault>
+    requires { misplaced d.now.kind 3 ≡ false }
+    ensures { refusal_no result ≡ fault_of d.now (Instruct t x) }
 {
-    let p = d.case.program;
-    if is_misplaced(d.kind, 3) {
-        return 4;
-    }
+    let p = &d.case.program;
     if is_instruction_out(p, t, x) {
-        return 5;
+        return Err(Fault::Range);
     }
     if is_instruction_left(x) {
-        return 8;
+        return Err(Fault::Unused);
     }
-    if is_disordered(d, 3, t.0) {
-        return 6;
+    if is_disordered(d, INSTRUCT, t.0) {
+        return Err(Fault::Disorder);
     }
     if (INSTRUCTIONS as u8) <= count(p, t) {
-        return 7;
+        return Err(Fault::TooMany);
     }
     if is_unset(p, t, x) {
-        return 10;
+        return Err(Fault::Unset);
     }
-    0
+    Ok(())
 }
 
-fn want_fault(d: Draft, w: Write) -> u8
-    ensures { result ≡ fault_of d (Want w) }
+#[tactic(auto, using(crate::proofs::ChoiceLaws::choices), unfolding(crate::specs::Checks::fault_of))]
+fn want_fault(d: &Draft, w: Write) -> Result<(), Fault>
+    requires { misplaced d.now.kind 4 ≡ false }
+    ensures { refusal_no result ≡ fault_of d.now (Want w) }
 {
-    if is_misplaced(d.kind, 4) {
-        return 4;
-    }
     if d.case.program.locations <= w.location.0 {
-        return 5;
+        return Err(Fault::Range);
     }
-    if is_disordered(d, 4, w.location.0) {
-        return 6;
+    if is_disordered(d, WANT, w.location.0) {
+        return Err(Fault::Disorder);
     }
-    0
+    Ok(())
 }
 
-fn passed_fault(d: Draft, t: Thread, n: u8) -> u8
-    ensures { result ≡ fault_of d (Passed t n) }
+#[tactic(auto, using(crate::proofs::ChoiceLaws::choices), unfolding(crate::specs::Checks::fault_of))]
+fn passed_fault(d: &Draft, t: Thread, n: u8) -> Result<(), Fault>
+    requires { misplaced d.now.kind 5 ≡ false }
+    ensures { refusal_no result ≡ fault_of d.now (Passed t n) }
 {
-    let p = d.case.program;
-    if is_misplaced(d.kind, 5) {
-        return 4;
-    }
-    if is_passed_out(p, t, n) {
-        return 5;
+    if is_passed_out(&d.case.program, t, n) {
+        return Err(Fault::Range);
     }
     if n == 0 {
-        return 8;
+        return Err(Fault::Unused);
     }
-    if is_disordered(d, 5, t.0) {
-        return 6;
+    if is_disordered(d, PASSED, t.0) {
+        return Err(Fault::Disorder);
     }
-    0
+    Ok(())
 }
 
-fn taken_fault(d: Draft, k: Step) -> u8
-    ensures { result ≡ fault_of d (Take k) }
+#[tactic(auto, using(crate::proofs::ChoiceLaws::choices), unfolding(crate::specs::Checks::fault_of, crate::specs::Checks::step_fault))]
+fn taken_fault(d: &Draft, k: Step) -> Result<(), Fault>
+    requires { misplaced d.now.kind 6 ≡ false }
+    ensures { refusal_no result ≡ fault_of d.now (Take k) }
 {
-    let p = d.case.program;
-    if is_misplaced(d.kind, 6) {
-        return 4;
-    }
-    if is_step_out(p, k) {
-        return 5;
-    }
-    if is_step_left(k) {
-        return 8;
-    }
+    check_step(&d.case.program, k)?;
     if (STEPS as u16) <= d.case.run.count {
-        return 9;
+        return Err(Fault::TooManySteps);
     }
-    0
+    Ok(())
 }
 
-// 0, or the number of the first fault of a record behind the draft.
-pub(crate) fn fault(d: Draft, r: Record) -> u8
-    ensures { result ≡ fault_of d r }
+// The first fault of a record behind the draft; for each kind, of one that stands where its kind may.
+#[tactic(auto, using(crate::proofs::checks::FaultLaws::fault_misplaced))]
+pub(crate) fn fault(d: &Draft, r: Record) -> Result<(), Fault>
+    ensures { refusal_no result ≡ fault_of d.now r }
 {
+    if is_misplaced(d.kind, r.kind()) {
+        return Err(Fault::Misplaced);
+    }
     match r {
-        Record::Declare(h) => header_fault(d, h),
+        Record::Declare(h) => header_fault(d, &h),
         Record::First(w) => first_fault(d, w),
         Record::Instruct(t, x) => instruction_fault(d, t, x),
         Record::Want(w) => want_fault(d, w),

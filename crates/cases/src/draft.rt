@@ -8,19 +8,21 @@ ghost use Rattle.cases.specs.Draft.{empty_case, line_table, line_count, blank_dr
 
 use crate::case::{Ask, Case, Instruction, Location, Program, Register, Run, Step, Thread, Write};
 use crate::lines::{OWN_VERSION, lines_in, own_lines};
-use crate::record::{Header, Record, row_list};
+use crate::record::{DECLARE, FIRST, Header, INSTRUCT, NO_KIND, PASSED, Record, TAKE, WANT};
 use crate::sizes::{CODE, INSTRUCTIONS, LOCATIONS, STEPS, THREADS};
 
-// The case so far, the kind of the record before (0: none), and the least number that may come next in that
-// kind.
+// The case so far, the kind of the record before, and the least number that may come next in that kind. The kind is
+// a number, 0 where none came: so speak of it `record_is_behind` and `end_behind_a_record_succeeds` of
+// proofs/Promises.antt.
 #[derive(Clone, Copy)]
 pub struct Draft {
     pub case: Case,
-    pub kind: u8,
+    pub kind: u16,
     pub next: u8,
 }
 
 // The fixed empty case: one thread, one location, no further records.
+#[tactic(auto, unfolding(crate::specs::Draft::empty_case))]
 pub fn empty_case() -> Case
     ensures { result ≡ empty_case }
 {
@@ -59,146 +61,124 @@ pub fn empty_case() -> Case
     }
 }
 
+#[tactic(auto, unfolding(crate::specs::Draft::blank_draft))]
 pub(crate) fn blank_draft() -> Draft
     ensures { result ≡ blank_draft }
 {
     Draft {
         case: empty_case(),
-        kind: 0,
+        kind: NO_KIND,
         next: 0,
     }
 }
 
 // On which line each location lies, as the record of the program says.
-fn line_table(h: Header) -> [u8; LOCATIONS]
-    requires { h.locations ≤ most_locations }
-    ensures { result ≡ line_table h }
+#[tactic(auto, using(crate::proofs::ChoiceLaws::choices), unfolding(crate::specs::Draft::line_table))]
+fn line_table(h: &Header) -> [u8; LOCATIONS]
+    requires { h.now.locations ≤ most_locations }
+    ensures { result ≡ line_table h.now }
 {
     if h.version == OWN_VERSION {
-        return own_lines(h.locations);
+        own_lines(h.locations)
+    } else {
+        h.line
     }
-    row_list(h.line)
 }
 
-fn line_count(h: Header) -> u8
-    requires { h.listed ≤ most_locations }
-    ensures { result ≡ line_count h }
+#[tactic(auto, using(crate::proofs::ChoiceLaws::choices), unfolding(crate::specs::Draft::line_count, crate::specs::Record::line_bytes))]
+fn line_count(h: &Header) -> u8
+    requires { h.now.listed ≤ most_locations }
+    ensures { result ≡ line_count h.now }
 {
     if h.version == OWN_VERSION {
-        return h.locations;
+        h.locations
+    } else {
+        lines_in(&h.line[..h.listed as usize])
     }
-    lines_in(row_list(h.line), h.listed)
 }
 
-fn add_header(d: Draft, h: Header) -> Draft
-    requires { (h.locations ≤ most_locations) × (h.listed ≤ most_locations) }
-    ensures { result ≡ add_of d (Declare h) }
+#[tactic(auto, unfolding(crate::specs::Draft::add_of, crate::specs::Draft::with_header, crate::specs::Draft::with_sizes))]
+fn add_header(d: &mut Draft, h: &Header)
+    requires { (h.now.locations ≤ most_locations) × (h.now.listed ≤ most_locations) }
+    ensures { d.new ≡ add_of d.old (Declare h.now) }
 {
-    let c = d.case;
-    let mut p = c.program;
-    p.threads = h.threads;
-    p.locations = h.locations;
-    p.lines = line_count(h);
-    let line = line_table(h);
-    p.line = line;
-    Draft {
-        case: Case {
-            version: h.version,
-            program: p,
-            ..c
-        },
-        kind: 1,
-        next: 0,
-    }
+    d.case.version = h.version;
+    d.case.program.threads = h.threads;
+    d.case.program.locations = h.locations;
+    d.case.program.lines = line_count(h);
+    d.case.program.line = line_table(h);
+    d.kind = DECLARE;
+    d.next = 0;
 }
 
-fn add_first(d: Draft, w: Write) -> Draft
+#[tactic(auto, unfolding(crate::specs::Draft::add_of, crate::specs::Draft::with_program, crate::specs::Draft::with_first))]
+fn add_first(d: &mut Draft, w: Write)
     requires { w.location.0 < most_locations }
-    ensures { result ≡ add_of d (First w) }
+    ensures { d.new ≡ add_of d.old (First w) }
 {
-    let c = d.case;
-    let mut p = c.program;
     let l = w.location.0;
-    p.first[l as usize] = w.word;
-    Draft {
-        case: Case { program: p, ..c },
-        kind: 2,
-        next: l + 1,
-    }
+    d.case.program.first[l as usize] = w.word;
+    d.kind = FIRST;
+    d.next = l + 1;
 }
 
-fn add_instruction(d: Draft, t: Thread, x: Instruction) -> Draft
-    requires { (t.0 < most_threads) × (count_at d.case.program t.0 < most_instructions) }
-    ensures { result ≡ add_of d (Instruct t x) }
+#[tactic(auto, unfolding(crate::specs::Draft::add_of, crate::specs::Draft::with_program, crate::specs::Draft::with_instruction))]
+fn add_instruction(d: &mut Draft, t: Thread, x: Instruction)
+    requires { (t.0 < most_threads) × (count_at d.old.case.program t.0 < most_instructions) }
+    ensures { d.new ≡ add_of d.old (Instruct t x) }
 {
-    let c = d.case;
-    let mut p = c.program;
     let at = t.0 as usize;
-    let n = p.counts[at];
-    p.counts[at] = n + 1;
-    p.code[at * INSTRUCTIONS + (n as usize)] = x;
-    Draft {
-        case: Case { program: p, ..c },
-        kind: 3,
-        next: t.0,
-    }
+    let n = d.case.program.counts[at];
+    d.case.program.counts[at] = n + 1;
+    d.case.program.code[at * INSTRUCTIONS + (n as usize)] = x;
+    d.kind = INSTRUCT;
+    d.next = t.0;
 }
 
-fn add_want(d: Draft, w: Write) -> Draft
+#[tactic(auto, unfolding(crate::specs::Draft::add_of, crate::specs::Draft::with_ask, crate::specs::Draft::with_want))]
+fn add_want(d: &mut Draft, w: Write)
     requires { w.location.0 < most_locations }
-    ensures { result ≡ add_of d (Want w) }
+    ensures { d.new ≡ add_of d.old (Want w) }
 {
-    let c = d.case;
-    let mut a = c.ask;
     let l = w.location.0;
-    a.wanted[l as usize] = true;
-    a.want[l as usize] = w.word;
-    Draft {
-        case: Case { ask: a, ..c },
-        kind: 4,
-        next: l + 1,
-    }
+    d.case.ask.wanted[l as usize] = true;
+    d.case.ask.want[l as usize] = w.word;
+    d.kind = WANT;
+    d.next = l + 1;
 }
 
-fn add_passed(d: Draft, t: Thread, n: u8) -> Draft
+#[tactic(auto, unfolding(crate::specs::Draft::add_of, crate::specs::Draft::with_ask, crate::specs::Draft::with_passed))]
+fn add_passed(d: &mut Draft, t: Thread, n: u8)
     requires { t.0 < most_threads }
-    ensures { result ≡ add_of d (Passed t n) }
+    ensures { d.new ≡ add_of d.old (Passed t n) }
 {
-    let c = d.case;
-    let mut a = c.ask;
-    a.passed[t.0 as usize] = n;
-    Draft {
-        case: Case { ask: a, ..c },
-        kind: 5,
-        next: t.0 + 1,
-    }
+    d.case.ask.passed[t.0 as usize] = n;
+    d.kind = PASSED;
+    d.next = t.0 + 1;
 }
 
-fn add_step(d: Draft, k: Step) -> Draft
-    requires { d.case.run.count < most_steps }
-    ensures { result ≡ add_of d (Take k) }
+#[tactic(auto, unfolding(crate::specs::Draft::add_of, crate::specs::Draft::with_run, crate::specs::Draft::with_step))]
+fn add_step(d: &mut Draft, k: Step)
+    requires { d.old.case.run.count < most_steps }
+    ensures { d.new ≡ add_of d.old (Take k) }
 {
-    let c = d.case;
-    let mut r = c.run;
-    let n = r.count;
-    r.steps[n as usize] = k;
-    r.count = n + 1;
-    Draft {
-        case: Case { run: r, ..c },
-        kind: 6,
-        next: 0,
-    }
+    let n = d.case.run.count;
+    d.case.run.steps[n as usize] = k;
+    d.case.run.count = n + 1;
+    d.kind = TAKE;
+    d.next = 0;
 }
 
-// The draft with a faultless record behind it.
-pub(crate) fn add(d: Draft, r: Record) -> Draft
-    requires { (d.case.program.threads ≤ most_threads)
-        × (d.case.program.locations ≤ most_locations)
-        × (fault_of d r ≡ 0) }
-    ensures { result ≡ add_of d r }
+// Puts a faultless record behind the draft.
+#[tactic(auto, using(crate::proofs::draft::DraftLaws::first_seated, crate::proofs::draft::DraftLaws::instruction_seated, crate::proofs::draft::DraftLaws::want_seated, crate::proofs::draft::DraftLaws::passed_seated, crate::proofs::draft::DraftLaws::step_seated, crate::proofs::draft::DraftLaws::header_sizes))]
+pub(crate) fn add(d: &mut Draft, r: Record)
+    requires { (d.old.case.program.threads ≤ most_threads)
+        × (d.old.case.program.locations ≤ most_locations)
+        × (fault_of d.old r ≡ 0) }
+    ensures { d.new ≡ add_of d.old r }
 {
     match r {
-        Record::Declare(h) => add_header(d, h),
+        Record::Declare(h) => add_header(d, &h),
         Record::First(w) => add_first(d, w),
         Record::Instruct(t, x) => add_instruction(d, t, x),
         Record::Want(w) => add_want(d, w),

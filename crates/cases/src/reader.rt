@@ -1,13 +1,20 @@
 // Reading: any bytes are a case, or are refused at the first faulty record.
-ghost use Rattle.std.specs.Prelude.{◌≡◌};
-ghost use Rattle.cases.specs.Reading.{number_of, offset_of, refused_of, read_of, unread_of, unread_at};
+ghost use Rattle.std.specs.Prelude.{◌≡◌, ◌≤◌, IfOk};
+ghost use Rattle.cases.specs.Sizes.{most_threads, most_locations};
+ghost use Rattle.cases.specs.Bytes.{half};
+ghost use Rattle.cases.specs.Fault.{fault_no, refusal_no};
+ghost use Rattle.cases.specs.Record.{record_of, size_of};
+ghost use Rattle.cases.specs.Draft.{add_of};
+ghost use Rattle.cases.specs.Reading.{number_of, offset_of, refused_of, turn_no, read_of, unread_of, unread_at};
 
 use crate::case::Case;
 use crate::checks::fault;
-use crate::draft::{add, blank_draft, empty_case};
-use crate::record::{Opened, open_record, opened_number, size};
+use crate::draft::{Draft, add, blank_draft, empty_case};
+use crate::fault::Fault;
+use crate::record::{NO_KIND, open_record, size};
 
-// Whole: 0, and the input's length. Refused: the number, and the offset of the faulty record.
+// Whole: 0, and the input's length. Refused: the number, and the offset of the faulty record. No Result: every reading
+// has a case beside its answer, by a refusal the empty one, as `refusal_hands_out_nothing` of proofs/Promises.antt says.
 #[derive(Clone, Copy)]
 pub enum Answer {
     Whole(usize),
@@ -38,41 +45,49 @@ pub fn offset(a: Answer) -> usize
     }
 }
 
-fn refused(n: u8, at: usize) -> Reading
-    ensures { result ≡ refused_of n at }
+#[tactic(auto, unfolding(crate::specs::Reading::refused_of))]
+fn refused(fault: Fault, at: usize) -> Reading
+    ensures { result ≡ refused_of (fault_no fault) at }
 {
     Reading {
-        answer: Answer::Refused(n, at),
+        answer: Answer::Refused(fault.number(), at),
         case: empty_case(),
     }
 }
 
-// Reads a case. A refusal hands out only the fixed empty one.
+// Takes the record that the bytes start with into the draft, and says how long it is.
+fn take_record(draft: &mut Draft, s: &[u8]) -> Result<usize, Fault>
+    requires { (draft.old.case.program.threads ≤ most_threads)
+        × (draft.old.case.program.locations ≤ most_locations) }
+    ensures number { refusal_no result ≡ turn_no draft.old s.now }
+    ensures taken { IfOk result (λ n. (n ≡ size_of s.now)
+        × (draft.new ≡ add_of draft.old (record_of (half s.now 2) s.now))) }
+{
+    let record = open_record(s)?;
+    fault(draft, record)?;
+    add(draft, record);
+    Ok(size(s))
+}
+
+// Reads a case. A refusal hands out only the fixed empty one. The loop is no `for`: how far the next record is, only
+// the one before says.
 pub fn read(bytes: &[u8]) -> Reading
     ensures { result ≡ read_of bytes.now }
 {
     let mut draft = blank_draft();
     let mut at = 0;
     while at < bytes.len() {
-        let rest = &bytes[at..];
-        let opened = open_record(rest);
-        let Opened::Opens(record) = opened else {
-            return refused(opened_number(opened), at);
-        };
-        let number = fault(draft, record);
-        if number != 0 {
-            return refused(number, at);
+        match take_record(&mut draft, &bytes[at..]) {
+            Ok(n) => at = at + n,
+            Err(fault) => return refused(fault, at),
         }
-        draft = add(draft, record);
-        at = at + size(rest);
     }
-    if draft.kind == 0 {
-        return refused(1, at);
+    if draft.kind == NO_KIND {
+        return refused(Fault::Cut, at);
     }
-    let case = draft.case;
     Reading {
         answer: Answer::Whole(at),
-        case: case,
+        case: draft.case,
     }
 }
 
@@ -82,7 +97,6 @@ pub fn unread(bytes: &[u8]) -> &[u8]
     ensures place { result.ref_ptr ≡ unread_at bytes.entry.ref_ptr bytes.now }
 {
     let r = read(bytes);
-    let answer = r.answer;
-    let at = offset(answer);
+    let at = offset(r.answer);
     &bytes[at..]
 }

@@ -1,67 +1,58 @@
 // A record of a case: opened from bytes, and laid out as bytes.
-ghost use Rattle.std.specs.Prelude.{◌≡◌, false, ◌∷◌, ◌+◌, ◌≤◌, length};
-ghost use Rattle.std.proofs.lemmas.List.Edits.{sets};
+ghost use Rattle.std.specs.Prelude.{◌≡◌, false, ◌∷◌, ◌++◌, ◌+◌, ◌≤◌, length, drop, IfOk};
 ghost use Rattle.cases.specs.declared.record.Record.TheVariants.{Declare, Instruct, Passed, Take};
 ghost use Rattle.cases.specs.Sizes.{most_locations};
 ghost use Rattle.cases.specs.Bytes.{half, word_bytes};
+ghost use Rattle.cases.specs.Fault.{refusal_no};
 ghost use Rattle.cases.specs.Lines.{table};
 ghost use Rattle.cases.specs.Record.{
+  kind_of,
   payload_of,
   spare_of,
   mislong,
-  row_list,
-  as_row,
-  line_bytes,
   line_byte,
   as_header,
   as_write,
   as_instruction,
   as_step,
   record_of,
-  open_of,
-  opened_no,
+  open_no,
   size_of,
   record_bytes,
-  widened,
-  padded_of,
 };
 
-use crate::bytes::{byte_at, half_at, word_at, word_bytes};
+use crate::bytes::{byte_at, half_at, half_bytes, word_at, word_bytes};
 use crate::case::{Instruction, Location, Register, Step, Thread, Write};
-use crate::sizes::{LOCATIONS, LONGEST_RECORD, SHORT_RECORD, STEP_SIZE};
+use crate::fault::Fault;
+use crate::sizes::LOCATIONS;
 
-// A byte for each location that there may be. An enum can't hold an array.
-#[derive(Clone, Copy)]
-pub struct Row(
-    pub u8,
-    pub u8,
-    pub u8,
-    pub u8,
-    pub u8,
-    pub u8,
-    pub u8,
-    pub u8,
-    pub u8,
-    pub u8,
-    pub u8,
-    pub u8,
-    pub u8,
-    pub u8,
-    pub u8,
-    pub u8,
-);
-
-// `listed`: how many line bytes stand in the record; `line`: those bytes, 0 behind them.
+// `listed`: how many line bytes stand in the record; `line`: those bytes, 0 behind them. A count beside an array, since
+// memory is fixed.
 #[derive(Clone, Copy)]
 pub struct Header {
     pub version: u16,
     pub threads: u8,
     pub locations: u8,
     pub listed: u8,
-    pub line: Row,
+    pub line: [u8; LOCATIONS],
 }
 
-// A record of each kind, 1 to 6.
+// The kinds of records, by the numbers that stand in the file.
+pub(crate) const DECLARE: u16 = 1;
+
+pub(crate) const FIRST: u16 = 2;
+
+pub(crate) const INSTRUCT: u16 = 3;
+
+pub(crate) const WANT: u16 = 4;
+
+pub(crate) const PASSED: u16 = 5;
+
+pub(crate) const TAKE: u16 = 6;
+
+// There is no record of that kind: it stands where no record came yet.
+pub(crate) const NO_KIND: u16 = 0;
+
 #[derive(Clone, Copy)]
 pub enum Record {
     Declare(Header),
@@ -72,113 +63,81 @@ pub enum Record {
     Take(Step),
 }
 
-// How a record opens, or the number of what is wrong with its head or length.
-#[derive(Clone, Copy)]
-pub enum Opened {
-    Opens(Record),
-    Faulty(u8),
-}
-
-// A record's bytes, 0 behind them.
-#[derive(Clone, Copy)]
-pub struct Padded {
-    pub length: usize,
-    pub bytes: [u8; LONGEST_RECORD],
+impl Record {
+    pub(crate) fn kind(&self) -> u16
+        ensures { result ≡ kind_of self.now }
+    {
+        match self {
+            Record::Declare(_) => DECLARE,
+            Record::First(_) => FIRST,
+            Record::Instruct(_, _) => INSTRUCT,
+            Record::Want(_) => WANT,
+            Record::Passed(_, _) => PASSED,
+            Record::Take(_) => TAKE,
+        }
+    }
 }
 
 // How long the payload of a kind is at least; 0 where there is no such kind.
+#[tactic(auto, using(crate::proofs::ChoiceLaws::choices), unfolding(crate::specs::Record::payload_of, crate::specs::Choice::pick))]
 fn payload(kind: u16) -> u16
     ensures { result ≡ payload_of kind }
 {
-    if kind == 1 {
-        return 4;
+    match kind {
+        DECLARE | TAKE => 4,
+        FIRST | WANT => 5,
+        INSTRUCT => 8,
+        PASSED => 2,
+        _ => 0,
     }
-    if kind == 2 {
-        return 5;
-    }
-    if kind == 3 {
-        return 8;
-    }
-    if kind == 4 {
-        return 5;
-    }
-    if kind == 5 {
-        return 2;
-    }
-    if kind == 6 {
-        return 4;
-    }
-    0
 }
 
 // How much longer it may be.
+#[tactic(auto, using(crate::proofs::ChoiceLaws::choices), unfolding(crate::specs::Record::spare_of))]
 fn spare(kind: u16) -> u16
     ensures { result ≡ spare_of kind }
 {
-    if kind == 1 {
-        return LOCATIONS as u16;
-    }
-    0
+    if kind == DECLARE { LOCATIONS as u16 } else { 0 }
 }
 
 // A payload of that kind has not so many bytes.
+#[tactic(auto, using(crate::proofs::ChoiceLaws::choices), unfolding(crate::specs::Record::mislong))]
 fn is_mislong(kind: u16, n: u16) -> bool
     ensures { result ≡ mislong kind n }
 {
     let least = payload(kind);
-    if n < least {
-        return true;
-    }
-    spare(kind) < n - least
-}
-
-pub(crate) fn row_list(x: Row) -> [u8; LOCATIONS]
-    ensures { result ≡ row_list x }
-{
-    [
-        x.0, x.1, x.2, x.3, x.4, x.5, x.6, x.7, x.8, x.9, x.10, x.11, x.12, x.13, x.14, x.15,
-    ]
-}
-
-pub(crate) fn as_row(a: [u8; LOCATIONS]) -> Row
-    ensures { result ≡ as_row a }
-{
-    Row(
-        a[0], a[1], a[2], a[3], a[4], a[5], a[6], a[7], a[8], a[9], a[10], a[11], a[12], a[13],
-        a[14], a[15],
-    )
+    n < least || spare(kind) < n - least
 }
 
 // The line bytes of a program's record, 0 behind them.
+#[tactic(auto, using(crate::proofs::lines::LineTableLaws::table_start, crate::proofs::lines::LineTableLaws::table_next))]
 fn as_lines(s: &[u8], n: u8) -> [u8; LOCATIONS]
     requires { n ≤ most_locations }
     ensures { result ≡ table (line_byte s.now) n }
 {
     let mut line = [0u8; LOCATIONS];
-    let mut l: u8 = 0;
-    while l < n {
-        let at = l as usize;
-        line[at] = byte_at(s, 8 + at);
-        l = l + 1;
+    for l in 0..n as usize {
+        line[l] = byte_at(s, 8 + l);
     }
     line
 }
 
+#[tactic(auto, unfolding(crate::specs::Record::as_header))]
 fn as_header(s: &[u8]) -> Header
     requires { (4 ≤ half s.now 0) × (half s.now 0 ≤ 4 + most_locations) }
     ensures { result ≡ as_header s.now }
 {
     let listed = (half_at(s, 0) - 4) as u8;
-    let line = as_lines(s, listed);
     Header {
         version: half_at(s, 4),
         threads: byte_at(s, 6),
         locations: byte_at(s, 7),
         listed: listed,
-        line: as_row(line),
+        line: as_lines(s, listed),
     }
 }
 
+#[tactic(auto, unfolding(crate::specs::Record::as_write))]
 fn as_write(s: &[u8]) -> Write
     ensures { result ≡ as_write s.now }
 {
@@ -188,6 +147,7 @@ fn as_write(s: &[u8]) -> Write
     }
 }
 
+#[tactic(auto, unfolding(crate::specs::Record::as_instruction))]
 fn as_instruction(s: &[u8]) -> Instruction
     ensures { result ≡ as_instruction s.now }
 {
@@ -199,6 +159,7 @@ fn as_instruction(s: &[u8]) -> Instruction
     }
 }
 
+#[tactic(auto, unfolding(crate::specs::Record::as_step))]
 fn as_step(s: &[u8]) -> Step
     ensures { result ≡ as_step s.now }
 {
@@ -211,29 +172,23 @@ fn as_step(s: &[u8]) -> Step
 }
 
 // The record of that kind whose bytes s starts with.
+#[tactic(auto, using(crate::proofs::ChoiceLaws::choices), unfolding(crate::specs::Record::record_of, crate::specs::Choice::pick))]
 fn decode(s: &[u8], kind: u16) -> Record
     requires { mislong kind (half s.now 0) ≡ false }
     ensures { result ≡ record_of kind s.now }
 {
-    if kind == 1 {
-        return Record::Declare(as_header(s));
+    match kind {
+        DECLARE => Record::Declare(as_header(s)),
+        FIRST => Record::First(as_write(s)),
+        INSTRUCT => Record::Instruct(Thread(byte_at(s, 4)), as_instruction(s)),
+        WANT => Record::Want(as_write(s)),
+        PASSED => Record::Passed(Thread(byte_at(s, 4)), byte_at(s, 5)),
+        _ => Record::Take(as_step(s)),
     }
-    if kind == 2 {
-        return Record::First(as_write(s));
-    }
-    if kind == 3 {
-        return Record::Instruct(Thread(byte_at(s, 4)), as_instruction(s));
-    }
-    if kind == 4 {
-        return Record::Want(as_write(s));
-    }
-    if kind == 5 {
-        return Record::Passed(Thread(byte_at(s, 4)), byte_at(s, 5));
-    }
-    Record::Take(as_step(s))
 }
 
 // How long the record is that s starts with.
+#[tactic(auto, unfolding(crate::specs::Record::size_of))]
 pub(crate) fn size(s: &[u8]) -> usize
     ensures { result ≡ size_of s.now }
 {
@@ -241,121 +196,87 @@ pub(crate) fn size(s: &[u8]) -> usize
 }
 
 // Opens the record that s starts with: 1 (head), 2, 3, 1 (payload).
-pub(crate) fn open_record(s: &[u8]) -> Opened
-    ensures { result ≡ open_of s.now }
+#[tactic(auto, using(crate::proofs::ChoiceLaws::choices), unfolding(crate::specs::Record::open_no))]
+pub(crate) fn open_record(s: &[u8]) -> Result<Record, Fault>
+    ensures number { refusal_no result ≡ open_no s.now }
+    ensures opened { IfOk result (λ r. r ≡ record_of (half s.now 2) s.now) }
 {
     let n = s.len();
     if n < 4 {
-        return Opened::Faulty(1);
+        return Err(Fault::Cut);
     }
     let length = half_at(s, 0);
     let kind = half_at(s, 2);
     if payload(kind) == 0 {
-        return Opened::Faulty(2);
+        return Err(Fault::UnknownKind);
     }
     if is_mislong(kind, length) {
-        return Opened::Faulty(3);
+        return Err(Fault::Length);
     }
     if n - 4 < (length as usize) {
-        return Opened::Faulty(1);
+        return Err(Fault::Cut);
     }
-    Opened::Opens(decode(s, kind))
+    Ok(decode(s, kind))
 }
 
-// 0 where the record opens.
-pub(crate) fn opened_number(x: Opened) -> u8
-    ensures { result ≡ opened_no x }
+// Puts bytes at the front, and says how many. A record's are its payload's length and its kind, two bytes each, and its
+// payload.
+fn put(out: &mut [u8], bytes: &[u8]) -> usize
+    requires { length bytes.now ≤ length out.old }
+    ensures { (result ≡ length bytes.now) × (out.new ≡ bytes.now ++ drop (length bytes.now) out.old) }
 {
-    match x {
-        Opened::Opens(_) => 0,
-        Opened::Faulty(n) => n,
-    }
+    let n = bytes.len();
+    out[..n].copy_from_slice(bytes);
+    n
 }
 
-// How many line bytes there are: no more than there is room for.
-fn line_bytes(h: Header) -> u8
-    ensures { result ≡ length (line_bytes h) }
+// The program's record: eight bytes, and its line bytes behind them.
+fn put_header(out: &mut [u8], h: &Header) -> usize
+    requires { length (record_bytes (Declare h.now)) ≤ length out.old }
+    ensures { (result ≡ length (record_bytes (Declare h.now)))
+        × (out.new ≡ record_bytes (Declare h.now) ++ drop (length (record_bytes (Declare h.now))) out.old) }
 {
-    if (LOCATIONS as u8) < h.listed {
-        return LOCATIONS as u8;
-    }
-    h.listed
-}
-
-// A record of n bytes, which stand at the front; 0 behind the front.
-fn widen(n: usize, front: [u8; SHORT_RECORD]) -> Padded
-    ensures { result ≡ widened n front }
-{
-    let mut bytes = [0u8; LONGEST_RECORD];
-    let mut i = 0;
-    while i < SHORT_RECORD {
-        bytes[i] = front[i];
-        i = i + 1;
-    }
-    Padded {
-        length: n,
-        bytes: bytes,
-    }
-}
-
-fn padded_header(h: Header) -> Padded
-    ensures { result ≡ padded_of (record_bytes (Declare h)) }
-{
-    let n = line_bytes(h);
-    let v = h.version;
-    let low = (v % 256) as u8;
-    let high = (v / 256 % 256) as u8;
-    let line = row_list(h.line);
-    let start = widen(
-        8,
-        [
+    let n = h.listed.min(LOCATIONS as u8);
+    let v = half_bytes(h.version);
+    let end = put(
+        out,
+        &[
             4 + n,
             0,
-            1,
+            DECLARE as u8,
             0,
-            low,
-            high,
+            v[0],
+            v[1],
             h.threads,
             h.locations,
-            0,
-            0,
-            0,
-            0,
         ],
     );
-    let mut bytes = start.bytes;
-    let mut i: u8 = 0;
-    while i < n {
-        bytes[8 + (i as usize)] = line[i as usize];
-        i = i + 1;
-    }
-    Padded {
-        length: 8 + (n as usize),
-        bytes: bytes,
-    }
+    end + put(&mut out[end..], &h.line[..n as usize])
 }
 
 // A location and a word, of kind 2 or 4.
-fn padded_write(kind: u8, w: Write) -> Padded
-    ensures { result ≡ padded_of (5 ∷ 0 ∷ kind ∷ 0 ∷ w.location.0 ∷ word_bytes w.word) }
+fn put_write(out: &mut [u8], kind: u8, w: Write) -> usize
+    requires { 9 ≤ length out.old }
+    ensures { (result ≡ 9)
+        × (out.new ≡ (5 ∷ 0 ∷ kind ∷ 0 ∷ w.location.0 ∷ word_bytes w.word) ++ drop 9 out.old) }
 {
     let b = word_bytes(w.word);
-    widen(
-        9,
-        [5, 0, kind, 0, w.location.0, b[0], b[1], b[2], b[3], 0, 0, 0],
-    )
+    put(out, &[5, 0, kind, 0, w.location.0, b[0], b[1], b[2], b[3]])
 }
 
-fn padded_instruction(t: Thread, x: Instruction) -> Padded
-    ensures { result ≡ padded_of (record_bytes (Instruct t x)) }
+#[tactic(auto, unfolding(crate::specs::Record::record_bytes, crate::specs::Record::payload_bytes, crate::specs::Bytes::half_bytes, crate::specs::Bytes::word_bytes))]
+fn put_instruction(out: &mut [u8], t: Thread, x: Instruction) -> usize
+    requires { length (record_bytes (Instruct t x)) ≤ length out.old }
+    ensures { (result ≡ length (record_bytes (Instruct t x)))
+        × (out.new ≡ record_bytes (Instruct t x) ++ drop (length (record_bytes (Instruct t x))) out.old) }
 {
     let b = word_bytes(x.word);
-    widen(
-        12,
-        [
+    put(
+        out,
+        &[
             8,
             0,
-            3,
+            INSTRUCT as u8,
             0,
             t.0,
             x.operation,
@@ -369,60 +290,31 @@ fn padded_instruction(t: Thread, x: Instruction) -> Padded
     )
 }
 
-fn padded_passed(t: Thread, n: u8) -> Padded
-    ensures { result ≡ padded_of (record_bytes (Passed t n)) }
-{
-    widen(6, [2, 0, 5, 0, t.0, n, 0, 0, 0, 0, 0, 0])
-}
-
-fn padded_step(k: Step) -> Padded
-    ensures { result ≡ padded_of (record_bytes (Take k)) }
-{
-    widen(
-        STEP_SIZE,
-        [
-            4,
-            0,
-            6,
-            0,
-            k.thread.0,
-            k.code,
-            k.position,
-            k.location.0,
-            0,
-            0,
-            0,
-            0,
-        ],
-    )
-}
-
-fn padded_record(r: Record) -> Padded
-    ensures { result ≡ padded_of (record_bytes r) }
+// Puts the record's bytes at the front, and says how many.
+#[tactic(auto, unfolding(crate::specs::Record::record_bytes, crate::specs::Record::payload_bytes, crate::specs::Bytes::half_bytes, crate::specs::Bytes::word_bytes))]
+pub(crate) fn put_record(out: &mut [u8], r: Record) -> usize
+    requires { length (record_bytes r) ≤ length out.old }
+    ensures { (result ≡ length (record_bytes r))
+        × (out.new ≡ record_bytes r ++ drop (length (record_bytes r)) out.old) }
 {
     match r {
-        Record::Declare(h) => padded_header(h),
-        Record::First(w) => padded_write(2, w),
-        Record::Instruct(t, x) => padded_instruction(t, x),
-        Record::Want(w) => padded_write(4, w),
-        Record::Passed(t, n) => padded_passed(t, n),
-        Record::Take(k) => padded_step(k),
+        Record::Declare(h) => put_header(out, &h),
+        Record::First(w) => put_write(out, FIRST as u8, w),
+        Record::Instruct(t, x) => put_instruction(out, t, x),
+        Record::Want(w) => put_write(out, WANT as u8, w),
+        Record::Passed(t, n) => put(out, &[2, 0, PASSED as u8, 0, t.0, n]),
+        Record::Take(k) => put(
+            out,
+            &[
+                4,
+                0,
+                TAKE as u8,
+                0,
+                k.thread.0,
+                k.code,
+                k.position,
+                k.location.0,
+            ],
+        ),
     }
-}
-
-// Puts the record's bytes from `at` on, and says where they end.
-pub(crate) fn put_record(out: &mut [u8], at: usize, r: Record) -> usize
-    requires { at + length (record_bytes r) ≤ length out.old }
-    ensures { (result ≡ at + length (record_bytes r))
-        × (out.new ≡ sets out.old at (record_bytes r)) }
-{
-    let p = padded_record(r);
-    let n = p.length;
-    let bytes = p.bytes;
-    let mut i = 0;
-    while i < n {
-        out[at + i] = bytes[i];
-        i = i + 1;
-    }
-    at + n
 }

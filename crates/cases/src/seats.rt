@@ -16,7 +16,7 @@ ghost use Rattle.cases.specs.Seats.{
 
 use crate::case::{Ask, Case, Location, Program, Run, Thread, Write};
 use crate::lines::{OWN_VERSION, listed_of};
-use crate::record::{Header, Record, as_row, put_record};
+use crate::record::{Header, Record, put_record};
 use crate::sizes::{CODE, INSTRUCTIONS, LOCATIONS, STEPS, THREADS};
 
 // Where the seats of each kind begin.
@@ -32,145 +32,123 @@ pub const FROM_STEPS: usize = FROM_PASSED + THREADS;
 
 pub const SEATS: usize = FROM_STEPS + STEPS;
 
-#[derive(Clone, Copy)]
-pub enum Seat {
-    Holds(Record),
-    Empty,
-}
-
 // The lines that the case's version lists, zeros where it lists none.
-fn listed_lines(c: Case) -> [u8; LOCATIONS]
-    ensures { result ≡ listed_lines c }
+#[tactic(auto, using(crate::proofs::ChoiceLaws::choices), unfolding(crate::specs::Seats::listed_lines))]
+fn listed_lines(c: &Case) -> [u8; LOCATIONS]
+    ensures { result ≡ listed_lines c.now }
 {
     if c.version == OWN_VERSION {
-        return [0u8; LOCATIONS];
+        [0u8; LOCATIONS]
+    } else {
+        c.program.line
     }
-    let line = c.program.line;
-    line
 }
 
-fn header_seat(c: Case) -> Seat
-    ensures { result ≡ header_seat c }
+#[tactic(auto, using(crate::proofs::ChoiceLaws::choices), unfolding(crate::specs::Seats::header_seat))]
+fn header_seat(c: &Case) -> Option<Record>
+    ensures { result ≡ header_seat c.now }
 {
-    let p = c.program;
-    Seat::Holds(Record::Declare(Header {
+    Some(Record::Declare(Header {
         version: c.version,
-        threads: p.threads,
-        locations: p.locations,
-        listed: listed_of(c.version, p.locations),
-        line: as_row(listed_lines(c)),
+        threads: c.program.threads,
+        locations: c.program.locations,
+        listed: listed_of(c.version, c.program.locations),
+        line: listed_lines(c),
     }))
 }
 
-fn first_seat(p: Program, l: usize) -> Seat
+#[tactic(auto, using(crate::proofs::ChoiceLaws::choices), unfolding(crate::specs::Seats::first_seat))]
+fn first_seat(p: &Program, l: usize) -> Option<Record>
     requires { l < most_locations }
-    ensures { result ≡ first_seat p l }
+    ensures { result ≡ first_seat p.now l }
 {
-    let first = p.first;
-    let word = first[l];
+    let word = p.first[l];
     if word == 0 {
-        return Seat::Empty;
+        return None;
     }
-    Seat::Holds(Record::First(Write {
+    Some(Record::First(Write {
         location: Location(l as u8),
         word: word,
     }))
 }
 
-fn instruction_seat(p: Program, m: usize) -> Seat
+#[tactic(auto, using(crate::proofs::ChoiceLaws::choices), unfolding(crate::specs::Seats::instruction_seat))]
+fn instruction_seat(p: &Program, m: usize) -> Option<Record>
     requires { m < all_code }
-    ensures { result ≡ instruction_seat p m }
+    ensures { result ≡ instruction_seat p.now m }
 {
-    let counts = p.counts;
-    let code = p.code;
     let t = m / INSTRUCTIONS;
     let i = m % INSTRUCTIONS;
-    if (counts[t] as usize) <= i {
-        return Seat::Empty;
+    if (p.counts[t] as usize) <= i {
+        return None;
     }
-    Seat::Holds(Record::Instruct(Thread(t as u8), code[m]))
+    Some(Record::Instruct(Thread(t as u8), p.code[m]))
 }
 
-fn want_seat(a: Ask, l: usize) -> Seat
+#[tactic(auto, using(crate::proofs::ChoiceLaws::choices), unfolding(crate::specs::Seats::want_seat))]
+fn want_seat(a: &Ask, l: usize) -> Option<Record>
     requires { l < most_locations }
-    ensures { result ≡ want_seat a l }
+    ensures { result ≡ want_seat a.now l }
 {
-    let wanted = a.wanted;
-    let want = a.want;
-    let flag = wanted[l];
-    if flag {
-        return Seat::Holds(Record::Want(Write {
-            location: Location(l as u8),
-            word: want[l],
-        }));
+    if !a.wanted[l] {
+        return None;
     }
-    Seat::Empty
+    Some(Record::Want(Write {
+        location: Location(l as u8),
+        word: a.want[l],
+    }))
 }
 
-fn passed_seat(a: Ask, t: usize) -> Seat
+#[tactic(auto, using(crate::proofs::ChoiceLaws::choices), unfolding(crate::specs::Seats::passed_seat))]
+fn passed_seat(a: &Ask, t: usize) -> Option<Record>
     requires { t < most_threads }
-    ensures { result ≡ passed_seat a t }
+    ensures { result ≡ passed_seat a.now t }
 {
-    let passed = a.passed;
-    let n = passed[t];
+    let n = a.passed[t];
     if n == 0 {
-        return Seat::Empty;
+        return None;
     }
-    Seat::Holds(Record::Passed(Thread(t as u8), n))
+    Some(Record::Passed(Thread(t as u8), n))
 }
 
-fn step_seat(r: Run, k: usize) -> Seat
+#[tactic(auto, using(crate::proofs::ChoiceLaws::choices), unfolding(crate::specs::Seats::step_seat))]
+fn step_seat(r: &Run, k: usize) -> Option<Record>
     requires { k < most_steps }
-    ensures { result ≡ step_seat r k }
+    ensures { result ≡ step_seat r.now k }
 {
-    let steps = r.steps;
-    let n = r.count as usize;
-    if n <= k {
-        return Seat::Empty;
+    if (r.count as usize) <= k {
+        return None;
     }
-    Seat::Holds(Record::Take(steps[k]))
+    Some(Record::Take(r.steps[k]))
 }
 
-// What stands at seat k of the case's file.
-fn seat_at(c: Case, k: usize) -> Seat
+// The record at seat k of the case's file, where the case has one there.
+#[tactic(auto, using(crate::proofs::ChoiceLaws::choices), unfolding(crate::specs::Seats::seat_of))]
+fn seat_at(c: &Case, k: usize) -> Option<Record>
     requires { k < seats }
-    ensures { result ≡ seat_of c k }
+    ensures { result ≡ seat_of c.now k }
 {
-    let p = c.program;
-    let a = c.ask;
-    if k < FROM_FIRSTS {
-        return header_seat(c);
+    match k {
+        ..FROM_FIRSTS => header_seat(c),
+        ..FROM_CODE => first_seat(&c.program, k - FROM_FIRSTS),
+        ..FROM_WANTS => instruction_seat(&c.program, k - FROM_CODE),
+        ..FROM_PASSED => want_seat(&c.ask, k - FROM_WANTS),
+        ..FROM_STEPS => passed_seat(&c.ask, k - FROM_PASSED),
+        _ => step_seat(&c.run, k - FROM_STEPS),
     }
-    if k < FROM_CODE {
-        return first_seat(p, k - FROM_FIRSTS);
-    }
-    if k < FROM_WANTS {
-        return instruction_seat(p, k - FROM_CODE);
-    }
-    if k < FROM_PASSED {
-        return want_seat(a, k - FROM_WANTS);
-    }
-    if k < FROM_STEPS {
-        return passed_seat(a, k - FROM_PASSED);
-    }
-    let r = c.run;
-    step_seat(r, k - FROM_STEPS)
 }
 
 // Puts the case's file at the front of bytes that it fits into, and says how long it is.
-pub(crate) fn encode(c: Case, out: &mut [u8]) -> usize
-    requires { length (encode_of c) ≤ length out.old }
-    ensures { (result ≡ length (encode_of c))
-        × (out.new ≡ encode_of c ++ drop (length (encode_of c)) out.old) }
+pub(crate) fn encode(c: &Case, out: &mut [u8]) -> usize
+    requires { length (encode_of c.now) ≤ length out.old }
+    ensures { (result ≡ length (encode_of c.now))
+        × (out.new ≡ encode_of c.now ++ drop (length (encode_of c.now)) out.old) }
 {
     let mut at = 0;
-    let mut k = 0;
-    while k < SEATS {
-        let x = seat_at(c, k);
-        if let Seat::Holds(r) = x {
-            at = put_record(out, at, r);
+    for k in 0..SEATS {
+        if let Some(r) = seat_at(c, k) {
+            at = at + put_record(&mut out[at..], r);
         }
-        k = k + 1;
     }
     at
 }

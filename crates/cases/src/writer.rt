@@ -1,37 +1,37 @@
 // Writing: 32, then 31, then the case's bytes from the front and nothing behind them.
-ghost use Rattle.std.specs.Prelude.{◌≡◌, replicate};
+ghost use Rattle.std.specs.Prelude.{◌≡◌, true, false, length, take, replicate, IfOk, IfErr};
+ghost use Rattle.cases.specs.declared.writer.Unwritten.TheVariants.{Unreadable};
 ghost use Rattle.cases.specs.Sizes.{longest};
+ghost use Rattle.cases.specs.Seats.{encode_of};
 ghost use Rattle.cases.specs.Writing.{reads_as, reads_back, wrote_of, written_of, wrote_no, wrote_length};
 
 use crate::case::Case;
 use crate::reader::{number, read};
-use crate::same::same_case;
 use crate::seats::encode;
 use crate::sizes::LONGEST;
 
-// Stored: 0, and the file's length. Untouched: the refusal's number.
-#[derive(Clone, Copy)]
-pub enum Wrote {
-    Stored(usize),
-    Untouched(u8),
+// Why nothing is written: no byte string reads as the case; the lent bytes are shorter than its file.
+#[derive(Clone, Copy, PartialEq, Eq)]
+pub enum Unwritten {
+    Unreadable = 32,
+    Short = 31,
 }
 
-pub fn wrote_number(w: Wrote) -> u8
+// 0 where the file was stored, else the refusal's number.
+pub fn wrote_number(w: Result<usize, Unwritten>) -> u8
     ensures { result ≡ wrote_no w }
 {
     match w {
-        Wrote::Stored(_) => 0,
-        Wrote::Untouched(m) => m,
+        Ok(_) => 0,
+        Err(refusal) => refusal as u8,
     }
 }
 
-pub fn wrote_length(w: Wrote) -> usize
+// The stored file's length, or 0.
+pub fn wrote_length(w: Result<usize, Unwritten>) -> usize
     ensures { result ≡ wrote_length w }
 {
-    match w {
-        Wrote::Stored(n) => n,
-        Wrote::Untouched(_) => 0,
-    }
+    w.unwrap_or(0)
 }
 
 fn blank_file() -> [u8; LONGEST]
@@ -41,39 +41,44 @@ fn blank_file() -> [u8; LONGEST]
 }
 
 // Do the bytes read as that very case?
-fn reads_as(bytes: &[u8], c: Case) -> bool
-    ensures { result ≡ reads_as bytes.now c }
+fn reads_as(bytes: &[u8], c: &Case) -> bool
+    ensures { result ≡ reads_as bytes.now c.now }
 {
     let r = read(bytes);
-    let answer = r.answer;
-    if number(answer) != 0 {
-        return false;
+    number(r.answer) == 0 && *c == r.case
+}
+
+// Puts the case's file at the front of the longest file's bytes, and says how long it is, if it reads as the case.
+fn checked_file(c: &Case, file: &mut [u8]) -> Result<usize, Unwritten>
+    requires { length file.old ≡ longest }
+    ensures checked { IfOk result (λ n. (reads_back c.now ≡ true) × (n ≡ length (encode_of c.now))
+        × (take n file.new ≡ encode_of c.now)) }
+    ensures unreadable { IfErr result (λ e. (e ≡ Unreadable) × (reads_back c.now ≡ false)) }
+{
+    let n = encode(c, file);
+    if reads_as(&file[..n], c) {
+        Ok(n)
+    } else {
+        Err(Unwritten::Unreadable)
     }
-    let d = r.case;
-    same_case(c, d)
 }
 
 // Does some byte string read as the case? (else 32)
 pub fn reads_back(c: Case) -> bool
     ensures { result ≡ reads_back c }
 {
-    let mut file = blank_file();
-    let n = encode(c, &mut file);
-    reads_as(&file[..n], c)
+    checked_file(&c, &mut blank_file()).is_ok()
 }
 
-// Writes the case from the front of the lent bytes.
-pub fn write(c: Case, out: &mut [u8]) -> Wrote
+// Writes the case from the front of the lent bytes, and says how long its file is.
+pub fn write(c: Case, out: &mut [u8]) -> Result<usize, Unwritten>
     ensures { (result ≡ wrote_of c out.old) × (out.new ≡ written_of c out.old) }
 {
     let mut file = blank_file();
-    let n = encode(c, &mut file);
-    if !reads_as(&file[..n], c) {
-        return Wrote::Untouched(32);
-    }
+    let n = checked_file(&c, &mut file)?;
     if out.len() < n {
-        return Wrote::Untouched(31);
+        return Err(Unwritten::Short);
     }
-    encode(c, out);
-    Wrote::Stored(n)
+    out[..n].copy_from_slice(&file[..n]);
+    Ok(n)
 }

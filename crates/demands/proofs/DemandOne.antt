@@ -13,7 +13,9 @@ use Rattle.cases.specs.declared.draft.Draft.{Draft}
 use Rattle.cases.specs.declared.record.Record.{Record}
 use Rattle.cases.specs.declared.record.Record.TheVariants.{Declare, First, Instruct, Want, Passed, Take}
 use Rattle.cases.specs.declared.reader.Answer.TheVariants.{Whole}
-use Rattle.cases.specs.declared.writer.Wrote.TheVariants.{Stored, Untouched}
+use Rattle.std.specs.declared.result.Result.TheVariants.{Ok, Err}
+use Rattle.cases.specs.declared.writer.Unwritten.{Unwritten}
+use Rattle.cases.specs.declared.writer.Unwritten.TheVariants.{Unreadable, Short}
 use Rattle.cases.specs.Choice.{pick, refuse}
 use Rattle.cases.specs.Bytes.{IsBytes, half}
 use Rattle.cases.specs.Record.{kind_of, payload_of, mislong, record_of, open_no, size_of}
@@ -128,9 +130,9 @@ order_of_checks d (Take k) = refl
 -- the writer tests 32, then 31; the question reading, then 31; a single step 32, 33, 5 and 8, then the rules
 pub order_of_writing : (c : Case) (out : List ℕ)
     → wrote_of c out
-    ≡ pick (not (reads_back c)) (Untouched 32)
-    (pick (ltb (length out) (length (encode_of c))) (Untouched 31)
-    (Stored (length (encode_of c))))
+    ≡ pick (not (reads_back c)) (Err Unreadable)
+    (pick (ltb (length out) (length (encode_of c))) (Err Short)
+    (Ok (length (encode_of c))))
 unfolding wrote_of
 order_of_writing c out = refl
 
@@ -156,8 +158,8 @@ order_of_stepping c s k = refl
 
 -- "and a refusal changes no byte we lent." The reader and the judge are lent bytes to look at only. The writer,
 -- the question, and a single step, which gives back the state:
-pub writer_refuses_unchanged : (c : Case) (out : List ℕ) (m : ℕ)
-    → wrote_of c out ≡ Untouched m
+pub writer_refuses_unchanged : (c : Case) (out : List ℕ) (m : Unwritten)
+    → wrote_of c out ≡ Err m
     → written_of c out ≡ out
 writer_refuses_unchanged = Cases.refusal_stores_nothing
 
@@ -178,7 +180,7 @@ pub readable_exactly : (c : Case)
 readable_exactly = Cases.readable_exactly
 
 module _ (c : Case) (unreadable : reads_back c ≡ false) where
-  pub unchecked_writing : (out : List ℕ) → wrote_of c out ≡ Untouched 32
+  pub unchecked_writing : (out : List ℕ) → wrote_of c out ≡ Err Unreadable
   unfolding wrote_of
   unchecked_writing out = pick_true _ _ _ (false_not _ unreadable)
 

@@ -11,7 +11,7 @@ use Rattle.cases.specs.declared.case.Step.{Step}
 use Rattle.cases.specs.declared.case.Ask.{Ask}
 use Rattle.cases.specs.declared.case.Case.{Case}
 use Rattle.cases.specs.declared.reader.Answer.TheVariants.{Whole}
-use Rattle.cases.specs.declared.writer.Wrote.TheVariants.{Stored}
+use Rattle.std.specs.declared.result.Result.TheVariants.{Ok}
 use Rattle.cases.specs.Sizes.{most_threads, most_locations, step_size}
 use Rattle.cases.specs.Bytes.{IsBytes}
 use Rattle.cases.specs.Draft.{no_step, run_with, with_run}
@@ -139,7 +139,7 @@ module _ (s : List ℕ) (bytes : IsBytes s) (read : number_of (read_of s).answer
 
 -- "A case written and read back is the same case,"
 pub written_reads_back : (c : Case) (out : List ℕ) (n : ℕ)
-    → wrote_of c out ≡ Stored n
+    → wrote_of c out ≡ Ok n
     → read_of (take n (written_of c out)) ≡ record { answer = Whole n; case = c }
 written_reads_back = Cases.written_reads
 
@@ -147,6 +147,6 @@ written_reads_back = Cases.written_reads
 pub read_writes_back : (s : List ℕ) → IsBytes s
     → number_of (read_of s).answer ≡ 0
     → (out : List ℕ) → length s ≤ length out
-    → (wrote_of (read_of s).case out ≡ Stored (length s))
+    → (wrote_of (read_of s).case out ≡ Ok (length s))
     × (written_of (read_of s).case out ≡ s ++ drop (length s) out)
 read_writes_back = Cases.read_writes

@@ -12,7 +12,8 @@ use Rattle.cases.specs.declared.case.Program.{Program}
 use Rattle.cases.specs.declared.case.Ask.{Ask}
 use Rattle.cases.specs.declared.case.Case.{Case}
 use Rattle.cases.specs.declared.reader.Reading.{Reading}
-use Rattle.cases.specs.declared.writer.Wrote.TheVariants.{Untouched}
+use Rattle.std.specs.declared.result.Result.TheVariants.{Err}
+use Rattle.cases.specs.declared.writer.Unwritten.{Unwritten}
 use Rattle.cases.specs.Sizes.{most_steps, step_size}
 use Rattle.cases.specs.Choice.{pick, refuse}
 use Rattle.cases.specs.Bytes.{IsBytes, half}
@@ -124,7 +125,7 @@ not_nothing_written e =
 -- and one that always refuses: a case that was read is not refused where its bytes fit
 pub not_refused_where_it_fits : (s : List ℕ) → IsBytes s → number_of (read_of s).answer ≡ 0
     → (out : List ℕ) → length s ≤ length out
-    → (m : ℕ) → wrote_of (read_of s).case out ≢ Untouched m
+    → (m : Unwritten) → wrote_of (read_of s).case out ≢ Err m
 not_refused_where_it_fits s bytes read out room m e =
     let w = sym (DemandTwo.read_writes_back s bytes read out room).0 ∙ e in
     let z : ◌≡◌ {A = ℕ} 0 1 = cc in

@@ -10,7 +10,8 @@ use Rattle.cases.specs.declared.case.Program.{Program}
 use Rattle.cases.specs.declared.case.Ask.{Ask}
 use Rattle.cases.specs.declared.case.Case.{Case}
 use Rattle.cases.specs.declared.reader.Reading.{Reading}
-use Rattle.cases.specs.declared.writer.Wrote.TheVariants.{Stored, Untouched}
+use Rattle.std.specs.declared.result.Result.TheVariants.{Ok, Err}
+use Rattle.cases.specs.declared.writer.Unwritten.TheVariants.{Short}
 use Rattle.cases.specs.Sizes.{most_steps, step_size}
 use Rattle.cases.specs.Choice.{pick, both, either, refuse}
 use Rattle.cases.specs.Bytes.{IsBytes, half}
@@ -247,10 +248,10 @@ pub example_length : length (encode_of example) ≡ 44
 unfolding example empty_case writing_computes
 example_length = refl
 
-pub example_stored : wrote_of example (replicate 100 0) ≡ Stored 44
+pub example_stored : wrote_of example (replicate 100 0) ≡ Ok 44
 unfolding wrote_of pick
 example_stored = rw (true_not _ example_readable, example_length) refl
 
-pub example_untouched : wrote_of example [] ≡ Untouched 31
+pub example_untouched : wrote_of example [] ≡ Err Short
 unfolding wrote_of pick
 example_untouched = rw (true_not _ example_readable, example_length) refl

@@ -9,8 +9,8 @@ use Rattle.cases.specs.declared.draft.Draft.{Draft}
 use Rattle.cases.specs.declared.record.Header.{Header}
 use Rattle.cases.specs.declared.record.Record.{Record}
 use Rattle.cases.specs.declared.record.Record.TheVariants.{Declare, First, Instruct, Want, Passed, Take}
-use Rattle.cases.specs.declared.seats.Seat.{Seat}
-use Rattle.cases.specs.declared.seats.Seat.TheVariants.{Holds, Empty}
+use Rattle.std.specs.declared.option.Option.{Option}
+use Rattle.std.specs.declared.option.Option.TheVariants.{Some, None}
 use Rattle.cases.specs.Sizes.{most_threads, most_instructions, most_locations}
 use Rattle.cases.specs.Choice.{pick, refuse}
 use Rattle.cases.specs.Lines.{unordered}
@@ -26,7 +26,7 @@ use Rattle.cases.proofs.ArrayLaws.{get_or_blank}
 use Rattle.cases.proofs.seats.EachLaws.{each_more, each_none}
 use Rattle.cases.proofs.seats.SeatLaws.{seat_cases, seat_header}
 use Rattle.cases.proofs.draft.RecordFitLaws.{RecordFits, SeatFits}
-use Rattle.cases.proofs.draft.HeaderLaws.{Opening, header_low, header_listed, header_zeros, header_bytes}
+use Rattle.cases.proofs.draft.HeaderLaws.{Opening, header_low, header_listed, header_listing, header_bytes}
 use Rattle.cases.proofs.draft.HeaderLaws.{header_row, header_table_long, header_few_lines}
 use Rattle.cases.proofs.draft.HeaderLaws.{header_on_lines, header_own}
 use Rattle.cases.proofs.draft.SoundLaws.{Sound}
@@ -51,7 +51,7 @@ pub blank_first : (k : ℕ) (t : List ℕ) → fault_of blank_draft (record_of k
     → (h : Header) × (record_of k t ≡ Declare h) × Opening h
 blank_first k t f =
     let b = blank_declared (record_of k t) f in
-    (b.0, b.1, record { out = b.2; right = b.3; ordered = b.4; zeros = header_zeros k t b.0 b.1 })
+    (b.0, b.1, record { out = b.2; right = b.3; ordered = b.4; listing = header_listing k t b.0 b.1 })
 
 -- the empty case with other sizes: nothing stands behind the program
 module _ (h : Header) (fit : Opening h) where
@@ -59,13 +59,13 @@ module _ (h : Header) (fit : Opening h) where
   begun = add_of blank_draft (Declare h)
 
   -- the program's record stands at its seat, every other seat is empty, and what stands there is in range
-  begun_here : seat_of begun.case 0 ≡ Holds (Declare h)
+  begun_here : seat_of begun.case 0 ≡ Some (Declare h)
   unfolding add_of with_header with_sizes header_seat listed_lines
   begun_here =
       let n = sym (header_listed h fit.right) in
       let x = header_row h fit in
       seat_header begun.case 0 refl
-      ∙ (λ i. Holds (Declare (record {
+      ∙ (λ i. Some (Declare (record {
         version = h.version;
         threads = h.threads;
         locations = h.locations;
@@ -73,11 +73,11 @@ module _ (h : Header) (fit : Opening h) where
         line = x i;
       })))
 
-  begun_blank : (j : ℕ) → 1 ≤ j → seat_of begun.case j ≡ Empty
+  begun_blank : (j : ℕ) → 1 ≤ j → seat_of begun.case j ≡ None
   unfolding add_of with_header with_sizes blank_draft empty_case
       first_seat instruction_seat want_seat passed_seat step_seat pick
   begun_blank j low =
-      seat_cases (λ (x : Seat). x ≡ Empty) begun.case j
+      seat_cases (λ (x : Option Record). x ≡ None) begun.case j
       (λ e. absurd (omega arith))
       (λ l e m. rw (get_or_blank {A = ℕ} most_locations l 0))
       (λ m e n. rw (get_or_blank {A = ℕ} most_threads (m / most_instructions) 0, leb-zero (m % most_instructions)))

@@ -11,8 +11,8 @@ use Rattle.cases.specs.declared.case.Write.{Write}
 use Rattle.cases.specs.declared.draft.Draft.{Draft}
 use Rattle.cases.specs.declared.record.Record.{Record}
 use Rattle.cases.specs.declared.record.Record.TheVariants.{Declare, First, Instruct, Want, Passed, Take}
-use Rattle.cases.specs.declared.seats.Seat.{Seat}
-use Rattle.cases.specs.declared.seats.Seat.TheVariants.{Holds, Empty}
+use Rattle.std.specs.declared.option.Option.{Option}
+use Rattle.std.specs.declared.option.Option.TheVariants.{Some, None}
 use Rattle.cases.specs.Sizes.{most_threads, most_locations}
 use Rattle.cases.specs.Lines.{last_version}
 use Rattle.cases.specs.Bytes.{half_bytes, word_bytes, IsBytes}
@@ -103,11 +103,11 @@ record_are p s some (Take k) f =
     (byte k.position (omega (arith, i.2))
     (byte k.location.0 (omega (arith, i.3)) none))))
 
-seat_are : (p : Program) → ProgramSized p → 1 ≤ p.locations → (x : Seat) → SeatFits p x
+seat_are : (p : Program) → ProgramSized p → 1 ≤ p.locations → (x : Option Record) → SeatFits p x
     → Bytewise (seat_bytes x)
 unfolding SeatFits seat_bytes
-seat_are p s some (Holds r) f = record_are p s some r f
-seat_are p s some Empty f = none
+seat_are p s some (Some r) f = record_are p s some r f
+seat_are p s some None f = none
 
 -- a sound draft's file is made of bytes
 pub sound_bytes : (d : Draft) (front : ℕ) → Sound d front → IsBytes (encode_of d.case)

@@ -17,7 +17,7 @@ use Rattle.cases.specs.Sizes.{most_threads, most_locations}
 use Rattle.cases.specs.Choice.{pick}
 use Rattle.cases.specs.Bytes.{half, IsBytes}
 use Rattle.cases.specs.Lines.{own_version, line_version, last_version, listed_of, own_lines, unordered, lines_in}
-use Rattle.cases.specs.Record.{row_list, as_row, line_bytes, line_byte, as_header, record_of}
+use Rattle.cases.specs.Record.{as_row, line_bytes, line_byte, as_header, record_of}
 use Rattle.cases.specs.Checks.{outside, header_out, mislisted}
 use Rattle.cases.specs.Draft.{line_table, line_count, with_header, with_sizes}
 use Rattle.cases.proofs.ChoiceLaws.{either_false, pick_true, pick_false, pick_cases}
@@ -47,20 +47,22 @@ header_listed_few h out right =
     (pick_cases (λ (n : ℕ). n ≤ most_locations) (eqb h.version own_version) _ _
     (λ e. omega arith) (λ e. (header_low h out).3))
 
--- behind the line bytes of a record that is read stand zeros
-abbrev Zeros : Header → Type 0
-Zeros h = (l : ℕ) → h.listed ≤ l → get_or (row_list h.line) l 0 ≡ 0
+-- a record that is read has a byte for each location, and behind its line bytes stand zeros
+pub record Listing (h : Header) : Type 0 where
+  pub long : length h.line ≡ most_locations
+  pub zeros : (l : ℕ) → h.listed ≤ l → get_or h.line l 0 ≡ 0
 
-read_zeros : (t : List ℕ) → Zeros (as_header t)
+read_listing : (t : List ℕ) → Listing (as_header t)
 unfolding as_header
-read_zeros t l h =
-    ap (λ (xs : List ℕ). get_or xs l 0) (row_back _ (table_long (line_byte t) (half t 0 - 4)))
-    ∙ table_behind (line_byte t) (half t 0 - 4) l h
+read_listing t = record {
+  long = table_long (line_byte t) (half t 0 - 4);
+  zeros = λ l h. table_behind (line_byte t) (half t 0 - 4) l h;
+}
 
-pub header_zeros : (k : ℕ) (t : List ℕ) (h : Header) → record_of k t ≡ Declare h → Zeros h
+pub header_listing : (k : ℕ) (t : List ℕ) (h : Header) → record_of k t ≡ Declare h → Listing h
 unfolding record_of
-header_zeros k t h =
-    pick_cases Read (eqb k 1) _ _ (λ e q. let is : as_header t ≡ h = cc in subst Zeros is (read_zeros t)) (λ e.
+header_listing k t h =
+    pick_cases Read (eqb k 1) _ _ (λ e q. let is : as_header t ≡ h = cc in subst Listing is (read_listing t)) (λ e.
     pick_cases Read (eqb k 2) _ _ (λ e q. absurd (let z : ◌≡◌ {A = ℕ} 0 1 = cc in omega arith)) (λ e.
     pick_cases Read (eqb k 3) _ _ (λ e q. absurd (let z : ◌≡◌ {A = ℕ} 0 1 = cc in omega arith)) (λ e.
     pick_cases Read (eqb k 4) _ _ (λ e q. absurd (let z : ◌≡◌ {A = ℕ} 0 1 = cc in omega arith)) (λ e.
@@ -68,13 +70,13 @@ header_zeros k t h =
     absurd (let z : ◌≡◌ {A = ℕ} 0 1 = cc in omega arith))))))
   where
     Read : Record → Type 0
-    Read r = r ≡ Declare h → Zeros h
+    Read r = r ≡ Declare h → Listing h
 
 pub record Opening (h : Header) : Type 0 where
   pub out : header_out h ≡ false
   pub right : mislisted h ≡ false
   pub ordered : unordered 0 (line_bytes h) ≡ false
-  pub zeros : Zeros h
+  pub listing : Listing h
 
 -- Such a record
 module _ (h : Header) (o : Opening h) where
@@ -83,12 +85,12 @@ module _ (h : Header) (o : Opening h) where
 
   listed_long : length (line_bytes h) ≡ h.listed
   unfolding line_bytes
-  listed_long = length-take-le h.listed (row_list h.line) listed_few
+  listed_long = length-take-le h.listed h.line (omega (arith, listed_few, o.listing.long))
 
-  listed_low : (l : ℕ) → l < h.listed → get_or (row_list h.line) l 0 < lines_in 0 (line_bytes h)
+  listed_low : (l : ℕ) → l < h.listed → get_or h.line l 0 < lines_in 0 (line_bytes h)
   unfolding line_bytes
   listed_low l low =
-      rw (get_or-take h.listed (row_list h.line) l 0 low)
+      rw (get_or-take h.listed h.line l 0 low)
       at (lines_low (line_bytes h) 0 o.ordered l (omega (arith, listed_long)))
 
   -- the line bytes are bytes
@@ -111,7 +113,7 @@ module _ (h : Header) (o : Opening h) where
   unfolding line_table own_lines
   header_table_long =
       pick_cases (λ (xs : List ℕ). length xs ≡ most_locations) (eqb h.version own_version) _ _
-      (λ e. table_long (λ l. l) h.locations) (λ e. refl)
+      (λ e. table_long (λ l. l) h.locations) (λ e. o.listing.long)
 
   pub header_few_lines : line_count h ≤ most_locations
   unfolding line_count
@@ -130,30 +132,32 @@ module _ (h : Header) (o : Opening h) where
       go : (b c : Bool) → eqb h.version own_version ≡ b → ltb l h.listed ≡ c
           → get_or (line_table h) l 0 < line_count h
       go true c e f =
-          rw (pick_true _ (own_lines h.locations) (row_list h.line) e, pick_true _ h.locations _ e)
+          rw (pick_true _ (own_lines h.locations) h.line e, pick_true _ h.locations _ e)
           (own_low h.locations l sizes.2 sizes.3)
       go false true e f =
-          rw (pick_false _ (own_lines h.locations) (row_list h.line) e, pick_false _ h.locations _ e)
+          rw (pick_false _ (own_lines h.locations) h.line e, pick_false _ h.locations _ e)
           (listed_low l (ltb-true l h.listed f))
       go false false e f =
           let all : h.listed ≡ h.locations = header_listed h o.right ∙ pick_false _ 0 h.locations e in
-          rw (pick_false _ (own_lines h.locations) (row_list h.line) e, pick_false _ h.locations _ e)
-          (omega (arith, o.zeros l (ltb-false l h.listed f), listed_low 0 (omega (arith, sizes.2, all))))
+          rw (pick_false _ (own_lines h.locations) h.line e, pick_false _ h.locations _ e)
+          (omega (arith, o.listing.zeros l (ltb-false l h.listed f), listed_low 0 (omega (arith, sizes.2, all))))
 
   -- as it was listed it is written
   pub header_row : as_row (pick (eqb h.version own_version) (replicate most_locations 0) (line_table h)) ≡ h.line
-  unfolding line_table listed_of as_row
+  unfolding line_table listed_of
   header_row = go (eqb h.version own_version) refl
     where
       written : Bool → List ℕ
-      written b = pick b (replicate most_locations 0) (pick b (own_lines h.locations) (row_list h.line))
+      written b = pick b (replicate most_locations 0) (pick b (own_lines h.locations) h.line)
 
       go : (b : Bool) → eqb h.version own_version ≡ b → as_row (written b) ≡ h.line
       go true e =
           let none : h.listed ≡ 0 = header_listed h o.right ∙ pick_true _ 0 h.locations e in
-          let blank = table_blank (row_list h.line) refl (λ l. o.zeros l (omega arith)) in
-          ap as_row (pick_true true (replicate most_locations 0) _ refl ∙ sym blank)
-      go false e = ap as_row (pick_false false (replicate most_locations 0) _ refl ∙ pick_false false _ _ refl)
+          let blank = table_blank h.line o.listing.long (λ l. o.listing.zeros l (omega arith)) in
+          ap as_row (pick_true true (replicate most_locations 0) _ refl ∙ sym blank) ∙ row_back h.line o.listing.long
+      go false e =
+          ap as_row (pick_false false (replicate most_locations 0) _ refl ∙ pick_false false _ _ refl)
+          ∙ row_back h.line o.listing.long
 
 -- a record of version 1 says a line each
 pub header_own : (h : Header) → h.version ≡ own_version
@@ -166,7 +170,7 @@ header_own h e =
 pub header_twin : (h : Header) → eqb h.version own_version ≡ false
     → h.locations ≤ most_locations
     → h.listed ≡ h.locations
-    → row_list h.line ≡ own_lines h.locations
+    → h.line ≡ own_lines h.locations
     → (line_count h ≡ h.locations) × (line_table h ≡ own_lines h.locations)
 unfolding line_count line_table line_bytes
 header_twin h other few all same = (
@@ -180,7 +184,7 @@ pub header_same : (c : Case) (h k : Header) → h.version ≡ own_version → k.
     → k.locations ≡ h.locations
     → h.locations ≤ most_locations
     → k.listed ≡ h.locations
-    → row_list k.line ≡ own_lines h.locations
+    → k.line ≡ own_lines h.locations
     → (with_header c h).program ≡ (with_header c k).program
 unfolding with_header with_sizes
 header_same c h k own lined threads locations few all same =

@@ -11,7 +11,7 @@ use Rattle.cases.specs.declared.case.Instruction.{Instruction}
 use Rattle.cases.specs.declared.draft.Draft.{Draft}
 use Rattle.cases.specs.declared.record.Record.{Record}
 use Rattle.cases.specs.declared.record.Record.TheVariants.{Instruct}
-use Rattle.cases.specs.declared.seats.Seat.TheVariants.{Holds}
+use Rattle.std.specs.declared.option.Option.TheVariants.{Some}
 use Rattle.cases.specs.Sizes.{most_threads, most_instructions, most_locations}
 use Rattle.cases.specs.Choice.{refuse}
 use Rattle.cases.specs.Checks.{no_instruction, instruction_at, passed_out, limits_of, step_fault}
@@ -31,7 +31,7 @@ module _ (d : Draft) (front : ℕ) (s : Sound d front) where
   program = d.case.program
 
   -- a seat that holds a record: the record is in range
-  held : (j : ℕ) (r : Record) → seat_of d.case j ≡ Holds r → RecordFits program r
+  held : (j : ℕ) (r : Record) → seat_of d.case j ≡ Some r → RecordFits program r
   unfolding SeatFits
   held j r e = rw e at (s.ranged j)
 
@@ -48,7 +48,7 @@ module _ (d : Draft) (front : ℕ) (s : Sound d front) where
       let q : m / most_instructions ≡ t = omega arith in
       let r : m % most_instructions ≡ i = omega arith in
       let x : Instruction = get_or program.code m no_instruction in
-      let e : seat_of d.case (from_code + m) ≡ Holds (Instruct (record { 0 = t }) x) =
+      let e : seat_of d.case (from_code + m) ≡ Some (Instruct (record { 0 = t }) x) =
       seat_code d.case (from_code + m) m refl (omega arith)
       ∙ rw (q, r) (pick_false (leb (get_or program.counts t 0) i) _ _ (lt-leb _ _ h)) in
       let f = held (from_code + m) _ e in

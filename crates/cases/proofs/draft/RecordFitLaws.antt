@@ -15,8 +15,8 @@ use Rattle.cases.specs.declared.case.Instruction.{Instruction}
 use Rattle.cases.specs.declared.case.Step.{Step}
 use Rattle.cases.specs.declared.record.Record.{Record}
 use Rattle.cases.specs.declared.record.Record.TheVariants.{Declare, First, Instruct, Want, Passed, Take}
-use Rattle.cases.specs.declared.seats.Seat.{Seat}
-use Rattle.cases.specs.declared.seats.Seat.TheVariants.{Holds, Empty}
+use Rattle.std.specs.declared.option.Option.{Option}
+use Rattle.std.specs.declared.option.Option.TheVariants.{Some, None}
 use Rattle.cases.specs.Sizes.{most_threads, most_instructions, most_locations}
 use Rattle.cases.specs.Choice.{both, either}
 use Rattle.cases.specs.Bytes.{IsBytes}
@@ -36,9 +36,9 @@ RecordFits p (Want w) = leb p.locations w.location.0 ≡ false
 RecordFits p (Passed t n) = passed_out p t n ≡ false
 RecordFits p (Take k) = (step_out (limits_of p) k ≡ false) × (step_left k ≡ false)
 
-unfoldable pub SeatFits : Program → Seat → Type 0
-SeatFits p (Holds r) = RecordFits p r
-SeatFits p Empty = Unit {0}
+unfoldable pub SeatFits : Program → Option Record → Type 0
+SeatFits p (Some r) = RecordFits p r
+SeatFits p None = Unit {0}
 
 -- a field that passed 5 and 8 is below the most, used or not
 pub field_low : (used : Bool) (x limit most : ℕ) → beyond used x limit ≡ false → left_over used x ≡ false
@@ -86,10 +86,10 @@ record_grown p q g (Passed t n) f =
     rw (g.same_threads, e.0) (le-ltb (count_at q t.0) n (omega (arith, g.more t.0, few)))
 record_grown p q g (Take k) f = (rw (limits_grown p q g) f.0, f.1)
 
-pub seat_grown : (p q : Program) → Grown p q → (x : Seat) → SeatFits p x → SeatFits q x
+pub seat_grown : (p q : Program) → Grown p q → (x : Option Record) → SeatFits p x → SeatFits q x
 unfolding SeatFits
-seat_grown p q g (Holds r) f = record_grown p q g r f
-seat_grown p q g Empty f = f
+seat_grown p q g (Some r) f = record_grown p q g r f
+seat_grown p q g None f = f
 
 -- What the checks leave of an instruction and of a step
 pub instruction_fits : (p : Program) (t : Thread) (x : Instruction) → 1 ≤ p.locations

@@ -12,8 +12,8 @@ use native.Mathlib.Omega.{arith}
 use Rattle.cases.specs.declared.case.Case.{Case}
 use Rattle.cases.specs.declared.draft.Draft.{Draft}
 use Rattle.cases.specs.declared.record.Record.{Record}
-use Rattle.cases.specs.declared.seats.Seat.{Seat}
-use Rattle.cases.specs.declared.seats.Seat.TheVariants.{Holds, Empty}
+use Rattle.std.specs.declared.option.Option.{Option}
+use Rattle.std.specs.declared.option.Option.TheVariants.{Some, None}
 use Rattle.cases.specs.Sizes.{most_instructions, most_locations}
 use Rattle.cases.specs.Lines.{own_version}
 use Rattle.cases.specs.Record.{record_bytes}
@@ -54,7 +54,7 @@ pub record SoundFronts (d : Draft) (front : ℕ) : Type 0 where
 pub record Sound (d : Draft) (front : ℕ) : Type 0 where
   pub sized : SoundSized d.case
   pub fronts : SoundFronts d front
-  pub blank : (j : ℕ) → front ≤ j → seat_of d.case j ≡ Empty
+  pub blank : (j : ℕ) → front ≤ j → seat_of d.case j ≡ None
   pub ranged : (j : ℕ) → SeatFits d.case.program (seat_of d.case j)
 
 -- what a record more does
@@ -68,7 +68,7 @@ pub record Added (d : Draft) (r : Record) : Type 0 where
 pub record SoundStands (d : Draft) (front : ℕ) (r : Record) (spot : ℕ) : Type 0 where
   pub reached : front ≤ spot
   pub inside : spot < seats
-  pub here : seat_of (add_of d r).case spot ≡ Holds r
+  pub here : seat_of (add_of d r).case spot ≡ Some r
   pub other : (j : ℕ) → j ≢ spot → seat_of (add_of d r).case j ≡ seat_of d.case j
   pub grown : Grown d.case.program (add_of d r).case.program
   pub fit : RecordFits d.case.program r
@@ -85,9 +85,9 @@ module _ (d : Draft) (front : ℕ) (s : Sound d front)
       each_more seats spot (bytes_at (add_of d r).case) (bytes_at d.case) stands.inside
       (λ j n. ap seat_bytes (stands.other j n))
       (λ j n. ap seat_bytes (s.blank j (omega arith)))
-      ∙ ap (λ (x : Seat). encode_of d.case ++ seat_bytes x) stands.here
+      ∙ ap (λ (x : Option Record). encode_of d.case ++ seat_bytes x) stands.here
 
-  add_blank : (j : ℕ) → suc spot ≤ j → seat_of (add_of d r).case j ≡ Empty
+  add_blank : (j : ℕ) → suc spot ≤ j → seat_of (add_of d r).case j ≡ None
   add_blank j h =
       let reached = stands.reached in
       stands.other j (λ e. omega arith) ∙ s.blank j (omega arith)

@@ -17,7 +17,7 @@ use Rattle.cases.specs.declared.case.Thread.{Thread}
 use Rattle.cases.specs.declared.case.Instruction.{Instruction}
 use Rattle.cases.specs.declared.case.Step.{Step}
 use Rattle.cases.specs.declared.record.Record.TheVariants.{First, Instruct, Want, Passed, Take}
-use Rattle.cases.specs.declared.seats.Seat.TheVariants.{Holds}
+use Rattle.std.specs.declared.option.Option.TheVariants.{Some}
 use Rattle.cases.specs.Sizes.{most_instructions}
 use Rattle.cases.specs.Choice.{pick}
 use Rattle.cases.specs.Checks.{no_instruction, count_at}
@@ -28,7 +28,7 @@ use Rattle.cases.specs.Seats.{first_seat, instruction_seat, want_seat, passed_se
 -- the first contents
 module _ (p : Program) (w : Write) where
   pub first_same : w.location.0 < length p.first → eqb w.word 0 ≡ false
-      → first_seat (with_first p w) w.location.0 ≡ Holds (First w)
+      → first_seat (with_first p w) w.location.0 ≡ Some (First w)
   unfolding first_seat with_first pick
   first_same low some = rw (get_or-set_same p.first w.location.0 w.word 0 low, some)
 
@@ -52,7 +52,7 @@ module _ (p : Program) (t : Thread) (x : Instruction) where
   pub instruction_same : t.0 < length p.counts
       → instruction_at_lem < length p.code
       → count_at p t.0 < most_instructions
-      → instruction_seat (with_instruction p t x) instruction_at_lem ≡ Holds (Instruct t x)
+      → instruction_seat (with_instruction p t x) instruction_at_lem ≡ Some (Instruct t x)
   unfolding instruction_seat with_instruction pick
   instruction_same low here few =
       let q : instruction_at_lem / most_instructions ≡ t.0 = omega arith in
@@ -86,7 +86,7 @@ module _ (p : Program) (t : Thread) (x : Instruction) where
 -- the wants
 module _ (a : Ask) (w : Write) where
   pub want_same : w.location.0 < length a.wanted → w.location.0 < length a.want
-      → want_seat (with_want a w) w.location.0 ≡ Holds (Want w)
+      → want_seat (with_want a w) w.location.0 ≡ Some (Want w)
   unfolding want_seat with_want pick
   want_same low here =
       rw (
@@ -105,7 +105,7 @@ module _ (a : Ask) (w : Write) where
 -- the passed counts
 module _ (a : Ask) (t : Thread) (n : ℕ) where
   pub passed_same : t.0 < length a.passed → eqb n 0 ≡ false
-      → passed_seat (with_passed a t n) t.0 ≡ Holds (Passed t n)
+      → passed_seat (with_passed a t n) t.0 ≡ Some (Passed t n)
   unfolding passed_seat with_passed pick
   passed_same low some = rw (get_or-set_same a.passed t.0 n 0 low, some)
 
@@ -115,7 +115,7 @@ module _ (a : Ask) (t : Thread) (n : ℕ) where
 
 -- the steps
 module _ (r : Run) (k : Step) where
-  pub step_same : r.count < length r.steps → step_seat (with_step r k) r.count ≡ Holds (Take k)
+  pub step_same : r.count < length r.steps → step_seat (with_step r k) r.count ≡ Some (Take k)
   unfolding step_seat with_step pick
   step_same low =
       rw (lt-leb (r.count + 1) r.count (omega arith), get_or-set_same r.steps r.count k no_step low)

@@ -53,43 +53,39 @@ lines_low (x ∷ xs) next e zero h =
 lines_low (x ∷ xs) next e (suc i) h =
     lines_low xs (new_after next x) (either_false (ltb next x) _ e).1 i (omega arith)
 
--- A loop over the first n numbers of a list, of which i are seen: it has seen i lines at most
+-- A loop over the numbers of a list, of which i are seen: it has seen i lines at most
 pub new_within : (next x new i : ℕ) → new ≡ new_after next x → next ≤ i → new ≤ i + 1
 new_within next x new i is h = omega (arith, new_few next x)
 
-module _ (line : List ℕ) (n : ℕ) (long : n ≤ length line) where
-  seen : (i : ℕ) → i < n → drop i (take n line) ≡ get_or line i 0 ∷ drop (i + 1) (take n line)
-  seen i h =
-      let k = length-take-le n line long in
-      drop-cons (take n line) i 0 (omega arith)
-      ∙ rw (get_or-take n line i 0 h, add-one i)
+-- the number here is out of order; it is in order; every number is
+module _ (line : List ℕ) (i next : ℕ) where
+  seen : i < length line → drop i line ≡ get_or line i 0 ∷ drop (i + 1) line
+  seen h = drop-cons line i 0 h ∙ rw (add-one i)
 
-  all_seen : (i : ℕ) → n ≤ i → drop i (take n line) ≡ []
-  all_seen i h = let k = length-take-le n line long in drop_of_length-le (take n line) {i = i} (omega arith)
+  all_seen : length line ≤ i → drop i line ≡ []
+  all_seen h = drop_of_length-le line {i = i} h
 
-  -- the number here is out of order; it is in order; every number is
-  module _ (i next : ℕ) where
-    pub unordered_here : i < n → next < get_or line i 0 → true ≡ unordered next (drop i (take n line))
-    unfolding unordered either
-    unordered_here h out = rw (seen i h, lt-ltb next (get_or line i 0) out)
+  pub unordered_here : i < length line → next < get_or line i 0 → true ≡ unordered next (drop i line)
+  unfolding unordered either
+  unordered_here h out = rw (seen h, lt-ltb next (get_or line i 0) out)
 
-    pub unordered_next : (new : ℕ) → new ≡ new_after next (get_or line i 0) → i < n → get_or line i 0 ≤ next
-        → unordered new (drop (i + 1) (take n line)) ≡ unordered next (drop i (take n line))
-    unfolding unordered either
-    unordered_next new is h in_order = rw (is, seen i h, le-ltb next (get_or line i 0) in_order)
+  pub unordered_next : (new : ℕ) → new ≡ new_after next (get_or line i 0) → i < length line → get_or line i 0 ≤ next
+      → unordered new (drop (i + 1) line) ≡ unordered next (drop i line)
+  unfolding unordered either
+  unordered_next new is h in_order = rw (is, seen h, le-ltb next (get_or line i 0) in_order)
 
-    pub unordered_end : n ≤ i → false ≡ unordered next (drop i (take n line))
-    unfolding unordered
-    unordered_end h = rw (all_seen i h)
+  pub unordered_end : length line ≤ i → false ≡ unordered next (drop i line)
+  unfolding unordered
+  unordered_end h = rw (all_seen h)
 
-    pub lines_next : (new : ℕ) → new ≡ new_after next (get_or line i 0) → i < n
-        → lines_in new (drop (i + 1) (take n line)) ≡ lines_in next (drop i (take n line))
-    unfolding lines_in
-    lines_next new is h = rw (is, seen i h)
+  pub lines_next : (new : ℕ) → new ≡ new_after next (get_or line i 0) → i < length line
+      → lines_in new (drop (i + 1) line) ≡ lines_in next (drop i line)
+  unfolding lines_in
+  lines_next new is h = rw (is, seen h)
 
-    pub lines_end : n ≤ i → next ≡ lines_in next (drop i (take n line))
-    unfolding lines_in
-    lines_end h = rw (all_seen i h)
+  pub lines_end : length line ≤ i → next ≡ lines_in next (drop i line)
+  unfolding lines_in
+  lines_end h = rw (all_seen h)
 
 -- numbers that rise by one from the next new one on: in order, and a line each
 rising : (xs : List ℕ) (next : ℕ) → ((i : ℕ) → i < length xs → get_or xs i 0 ≡ next + i)

@@ -27,7 +27,7 @@ use Rattle.cases.specs.Seats.{encode_of, steps_bytes}
 use Rattle.cases.specs.Writing.{reads_as, reads_back}
 use Rattle.cases.proofs.draft.DraftLaws.{rank_least}
 use Rattle.cases.proofs.parts.StepsLaws.{steps_run_more, steps_run_own, steps_file_more}
-use Rattle.cases.proofs.same.SameLaws.{case_self}
+use Rattle.cases.proofs.writer.SameLaws.{case_self}
 use Rattle.cases.proofs.reader.RoundTripLaws.{round_trip}
 use Rattle.cases.proofs.parts.GoesLaws.{Goes, goes_none, goes_one, goes_both, goes_whole, step_begins}
 use Rattle.cases.proofs.parts.CutLaws.{Cut, split_none, cut_from}

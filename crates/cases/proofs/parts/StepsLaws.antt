@@ -10,8 +10,9 @@ use native.Mathlib.Omega.{arith}
 use Rattle.cases.specs.declared.case.Step.{Step}
 use Rattle.cases.specs.declared.case.Run.{Run}
 use Rattle.cases.specs.declared.case.Case.{Case}
+use Rattle.cases.specs.declared.record.Record.{Record}
 use Rattle.cases.specs.declared.record.Record.TheVariants.{Take}
-use Rattle.cases.specs.declared.seats.Seat.{Seat}
+use Rattle.std.specs.declared.option.Option.{Option}
 use Rattle.cases.specs.Sizes.{most_steps, step_size}
 use Rattle.cases.specs.Bytes.{half_bytes}
 use Rattle.cases.specs.Record.{payload_bytes, record_bytes, bytes_of}
@@ -55,7 +56,7 @@ step_longer c r k h long =
     (λ i z. step_other r k i (λ q. n (omega arith)))))
     (λ j n. ap seat_bytes (seat_step less j (j - from_steps) (omega arith)
     ∙ pick_true (leb r.count (j - from_steps)) _ _ (le-leb r.count (j - from_steps) (omega arith))))
-    ∙ ap (λ (x : Seat). encode_of less ++ seat_bytes x)
+    ∙ ap (λ (x : Option Record). encode_of less ++ seat_bytes x)
     (seat_step more (from_steps + r.count) r.count refl ∙ step_same r k (omega arith))
 
 -- the steps ks behind the steps js

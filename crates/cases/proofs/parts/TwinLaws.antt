@@ -21,7 +21,7 @@ use Rattle.cases.specs.Sizes.{most_locations, longest_record}
 use Rattle.cases.specs.Choice.{pick, either, refuse}
 use Rattle.cases.specs.Bytes.{IsBytes, half}
 use Rattle.cases.specs.Lines.{own_version, line_version, last_version, listed_of, own_lines, unordered}
-use Rattle.cases.specs.Record.{payload_of, spare_of, mislong, row_list, as_row, line_bytes, line_byte, as_header}
+use Rattle.cases.specs.Record.{payload_of, spare_of, mislong, line_bytes, line_byte, as_header}
 use Rattle.cases.specs.Record.{record_of, open_no, size_of}
 use Rattle.cases.specs.Checks.{misplaced, disordered, outside, header_out, mislisted, fault_of}
 use Rattle.cases.specs.Draft.{empty_case, with_header}
@@ -32,7 +32,6 @@ use Rattle.cases.proofs.ChoiceLaws.{refuse_none, pick_false, either_false, eithe
 use Rattle.cases.proofs.bytes.BytesLaws.{bytes_drop, bytes_take, bytes_join}
 use Rattle.cases.proofs.lines.LineTableLaws.{table_long, table_below, table_same, own_low}
 use Rattle.cases.proofs.lines.NumberingLaws.{own_lines_ordered}
-use Rattle.cases.proofs.record.OpenLaws.{row_back}
 use Rattle.cases.proofs.draft.HeaderLaws.{header_low, header_same}
 use Rattle.cases.proofs.reader.ReadLaws.{as_record, behind, read_cases, sound_goes_on, record_is_behind}
 use Rattle.cases.proofs.reader.ReadLaws.{end_behind_a_record_succeeds}
@@ -131,7 +130,7 @@ refuse_passes t n rest h e = rw h e
 module _ (t n : ℕ) (few : n ≤ most_locations) where
   abbrev header : Header
   header =
-      record { version = line_version; threads = t; locations = n; listed = n; line = as_row (own_lines n) }
+      record { version = line_version; threads = t; locations = n; listed = n; line = own_lines n }
 
   abbrev front : List ℕ
   front = (4 + n) ∷ 0 ∷ 1 ∷ 0 ∷ line_version ∷ 0 ∷ t ∷ n ∷ take n (own_lines n)
@@ -140,12 +139,9 @@ module _ (t n : ℕ) (few : n ≤ most_locations) where
   unfolding own_lines
   own_long = table_long (λ l. l) n
 
-  row_own : row_list (as_row (own_lines n)) ≡ own_lines n
-  row_own = row_back (own_lines n) own_long
-
   listed_own : line_bytes header ≡ take n (own_lines n)
   unfolding line_bytes
-  listed_own = ap (take n) row_own
+  listed_own = refl
 
   front_long : length front ≡ 8 + n
   front_long = let k = length-take-le n (own_lines n) (omega (arith, own_long)) in omega arith
@@ -214,7 +210,7 @@ module _ (t n : ℕ) (few : n ≤ most_locations) where
       unfolding add_of with_header with_version blank_draft
       twin_adds =
           ap added (sym (header_same empty_case h header version refl (sym threads) (sym locations)
-          (rw (← locations) at few) (sym locations) (row_own ∙ ap own_lines (sym locations))))
+          (rw (← locations) at few) (sym locations) (ap own_lines (sym locations))))
         where
           added : Program → Draft
           added p =

@@ -1,26 +1,23 @@
--- Laws of how a record opens (`open_no`, `open_of`): what is known where it does, the bytes it was read from, and
+-- Laws of how a record opens (`open_no`): what is known where it does, the bytes it was read from, and
 -- each way in which the code finds that it does not. Assumes nothing.
 use Prim.Native.Nat.{ℕ, ◌+◌, ◌-◌, ◌<◌, ◌≤◌}
 use mathlib.Core.Path.{◌≡◌, refl, sym, ap, ◌∙◌}
 use mathlib.Core.Logic.{◌≢◌}
-use mathlib.Core.List.{List}
+use mathlib.Core.List.{List, ◌++◌}
 use mathlib.Core.Bool.{Bool, true, false}
-use lib.ListN.{length, get_or, take, drop, length-drop}
-use lib.Seq.{length-take-le, get_or-drop, take-add, take_all}
+use lib.ListN.{length, get_or, take, drop, replicate, length-drop, length-append}
+use lib.Seq.{length-take-le, get_or-drop, take-add, take_at}
 use lib.Dec.{eqb, ltb}
-use borrow.Author.Tests.{eqb-true, eqb-false, ltb-false, lt-ltb, le-ltb, eq-eqb, ne_eqb}
+use borrow.Author.Tests.{eqb-true, eqb-false, ltb-false}
 use native.Mathlib.Omega.{arith}
-use Rattle.cases.specs.declared.record.Record.{Record}
 use Rattle.cases.specs.declared.record.Record.TheVariants.{Declare}
-use Rattle.cases.specs.declared.record.Opened.TheVariants.{Opens, Faulty}
 use Rattle.cases.specs.Sizes.{most_locations}
-use Rattle.cases.specs.Choice.{pick, refuse}
+use Rattle.cases.specs.Choice.{pick}
 use Rattle.cases.specs.Bytes.{half, half_bytes, word_bytes, IsBytes}
 use Rattle.cases.specs.Lines.{table}
-use Rattle.cases.specs.Record.{payload_of, spare_of, mislong, row_list, as_row, line_bytes, line_byte}
+use Rattle.cases.specs.Record.{payload_of, spare_of, mislong, as_row, line_bytes, line_byte}
 use Rattle.cases.specs.Record.{payload_bytes, record_bytes}
 use Rattle.cases.specs.Record.{record_of, open_no, size_of, as_header, as_write, as_instruction, as_step}
-use Rattle.cases.specs.Record.{opened_as, open_of}
 use Rattle.cases.proofs.ChoiceLaws.{either_false, refuse_none}
 use Rattle.cases.proofs.bytes.BytesLaws.{half_bytes_lem, take_elems, word_bytes_lem}
 use Rattle.cases.proofs.lines.LineTableLaws.{table_long, table_front}
@@ -76,10 +73,16 @@ kind_cases P a b c d e f k h =
     go false false false false false true h₁ h₂ h₃ h₄ h₅ h₆ = rw (eqb-true k 6 h₆) f
     go false false false false false false h₁ h₂ h₃ h₄ h₅ h₆ = absurd (h (rw (h₁, h₂, h₃, h₄, h₅, h₆)))
 
--- a row holds the bytes that it was made of
-pub row_back : (xs : List ℕ) → length xs ≡ most_locations → row_list (as_row xs) ≡ xs
+-- a row has a byte for each location, and holds the bytes that it was made of
+pub row_long : (xs : List ℕ) → length (as_row xs) ≡ most_locations
 unfolding as_row
-row_back xs long = sym (sym (take_all most_locations xs (omega arith)) ∙ take_elems most_locations xs (omega arith))
+row_long xs =
+    let more = length-append xs (replicate most_locations 0) in
+    length-take-le most_locations (xs ++ replicate most_locations 0) (omega arith)
+
+pub row_back : (xs : List ℕ) → length xs ≡ most_locations → as_row xs ≡ xs
+unfolding as_row
+row_back xs long = take_at xs (replicate most_locations 0) most_locations long
 
 -- a program's record that is read from bytes: its line bytes are those behind the first eight
 module _ (t : List ℕ) (n : ℕ) (is : half t 0 ≡ 4 + n) (few : n ≤ most_locations) where
@@ -87,7 +90,7 @@ module _ (t : List ℕ) (n : ℕ) (is : half t 0 ≡ 4 + n) (few : n ≤ most_lo
   unfolding line_bytes as_header
   header_lines within =
       let m : half t 0 - 4 ≡ n = omega arith in
-      rw (row_back _ (table_long (line_byte t) (half t 0 - 4)), m)
+      rw m
       (table_front (line_byte t) n (drop 8 t) few (omega (arith, length-drop 8 t))
       (λ i h. get_or-drop 8 t i 0))
 
@@ -95,7 +98,7 @@ module _ (t : List ℕ) (n : ℕ) (is : half t 0 ≡ 4 + n) (few : n ≤ most_lo
   unfolding line_bytes as_header
   header_count =
       let m : half t 0 - 4 ≡ n = omega arith in
-      rw (row_back _ (table_long (line_byte t) (half t 0 - 4)), m)
+      rw m
       (length-take-le n (table (line_byte t) n) (omega (arith, table_long (line_byte t) n)))
 
   header_long : length (payload_bytes (Declare (as_header t))) ≡ half t 0
@@ -190,28 +193,3 @@ unfolding size_of
 open_bytes t b h =
     let o = open_whole t h in
     record_back t (half t 2) b o.known refl (open_lengths _ _ o.right) o.within
-
--- open_of: the head is cut short; there is no such kind; the length is not the kind's; the payload is cut short;
--- the record is whole
-pub open_faulty_head : (s : List ℕ) → length s < 4 → Faulty 1 ≡ open_of s
-unfolding open_of open_no opened_as refuse
-open_faulty_head s h = simp (lt-ltb _ _ h)
-
-module _ (s : List ℕ) (head : 4 ≤ length s) where
-  pub open_faulty_kind : payload_of (half s 2) ≡ 0 → Faulty 2 ≡ open_of s
-  unfolding open_of open_no opened_as refuse
-  open_faulty_kind h = simp (le-ltb _ _ head, eq-eqb _ _ h)
-
-  module _ (known : payload_of (half s 2) ≡ 0 → ⊥) where
-    pub open_faulty_length : mislong (half s 2) (half s 0) ≡ true → Faulty 3 ≡ open_of s
-    unfolding open_of open_no opened_as refuse
-    open_faulty_length h = simp (le-ltb _ _ head, ne_eqb _ _ known, h)
-
-    module _ (right : mislong (half s 2) (half s 0) ≡ false) where
-      pub open_faulty_payload : length s - 4 < half s 0 → Faulty 1 ≡ open_of s
-      unfolding open_of open_no opened_as refuse
-      open_faulty_payload h = simp (le-ltb _ _ head, ne_eqb _ _ known, right, lt-ltb _ _ h)
-
-      pub opens_whole : half s 0 ≤ length s - 4 → (r : Record) → r ≡ record_of (half s 2) s → Opens r ≡ open_of s
-      unfolding open_of open_no opened_as refuse
-      opens_whole h r e = simp (le-ltb _ _ head, ne_eqb _ _ known, right, le-ltb _ _ h) (ap Opens e)

@@ -9,7 +9,7 @@ use native.Mathlib.Nat.{add-zero, zero-add}
 use native.Mathlib.Omega.{arith}
 use Rattle.cases.specs.declared.case.Case.{Case}
 use Rattle.cases.specs.declared.record.Record.{Record}
-use Rattle.cases.specs.declared.seats.Seat.TheVariants.{Holds, Empty}
+use Rattle.std.specs.declared.option.Option.TheVariants.{Some, None}
 use Rattle.cases.specs.Record.{record_bytes}
 use Rattle.cases.specs.Seats.{seats, seat_of, seat_bytes, bytes_at, each, encode_of}
 use Rattle.cases.proofs.seats.EachLaws.{each_next, each_below}
@@ -25,11 +25,11 @@ unfolding each
 encoded_start c d = record { ends = refl; holds = refl }
 
 -- bytes_at: a seat that holds a record; an empty one
-bytes_held : (c : Case) (k : ℕ) (r : Record) → seat_of c k ≡ Holds r → bytes_at c k ≡ record_bytes r
+bytes_held : (c : Case) (k : ℕ) (r : Record) → seat_of c k ≡ Some r → bytes_at c k ≡ record_bytes r
 unfolding bytes_at seat_bytes
 bytes_held c k r h = rw h
 
-bytes_none : (c : Case) (k : ℕ) → seat_of c k ≡ Empty → bytes_at c k ≡ []
+bytes_none : (c : Case) (k : ℕ) → seat_of c k ≡ None → bytes_at c k ≡ []
 unfolding bytes_at seat_bytes
 bytes_none c k h = rw h
 
@@ -52,7 +52,7 @@ module _ {c : Case} {d : List ℕ} {k at : ℕ} {out : List ℕ} (put : Encoded 
       }
 
   -- a seat that holds a record: its bytes fit; they are put
-  module _ {r : Record} (here : seat_of c k ≡ Holds r) where
+  module _ {r : Record} (here : seat_of c k ≡ Some r) where
     pub encoded_fits : k < seats → length (encode_of c) ≤ length d → at + length (record_bytes r) ≤ length out
     unfolding encode_of
     encoded_fits h fit =
@@ -65,7 +65,7 @@ module _ {c : Case} {d : List ℕ} {k at : ℕ} {out : List ℕ} (put : Encoded 
     encoded_next = encoded_more (record_bytes r) (bytes_held c k r here)
 
   -- an empty seat
-  pub encoded_none : seat_of c k ≡ Empty → Encoded c d (k + 1) at out
+  pub encoded_none : seat_of c k ≡ None → Encoded c d (k + 1) at out
   encoded_none here = encoded_more [] (bytes_none c k here) (sym (add-zero at)) refl
 
   -- every seat is put

@@ -5,7 +5,8 @@ use lib.Dec.{ltb}
 use borrow.Author.Tests.{lt-ltb, le-ltb, ltb-true, ltb-false}
 use native.Mathlib.Omega.{arith}
 use Rattle.cases.specs.declared.case.Case.{Case}
-use Rattle.cases.specs.declared.seats.Seat.{Seat}
+use Rattle.cases.specs.declared.record.Record.{Record}
+use Rattle.std.specs.declared.option.Option.{Option}
 use Rattle.cases.specs.Sizes.{most_threads, most_locations, all_code}
 use Rattle.cases.specs.Choice.{pick}
 use Rattle.cases.specs.Seats.{from_firsts, from_code, from_wants, from_passed, from_steps, seat_of}
@@ -76,7 +77,7 @@ module _ (c : Case) (k : ℕ) where
         )
 
 -- what holds of each part at a seat holds of what stands there
-pub seat_cases {ℓ} : (P : Seat → Type ℓ) (c : Case) (j : ℕ)
+pub seat_cases {ℓ} : (P : Option Record → Type ℓ) (c : Case) (j : ℕ)
     → (j ≡ 0 → P (header_seat c))
     → ((l : ℕ) → j ≡ from_firsts + l → l < most_locations → P (first_seat c.program l))
     → ((m : ℕ) → j ≡ from_code + m → m < all_code → P (instruction_seat c.program m))
@@ -108,7 +109,7 @@ pub seat_same : (c d : Case) (j : ℕ)
     → ((k : ℕ) → j ≡ from_steps + k → step_seat c.run k ≡ step_seat d.run k)
     → seat_of c j ≡ seat_of d j
 seat_same c d j header first code want passed steps =
-    seat_cases (λ (x : Seat). x ≡ seat_of d j) c j
+    seat_cases (λ (x : Option Record). x ≡ seat_of d j) c j
     (λ e. header e ∙ sym (seat_header d j e))
     (λ l e h. first l e ∙ sym (seat_first d j l e h))
     (λ m e h. code m e ∙ sym (seat_code d j m e h))

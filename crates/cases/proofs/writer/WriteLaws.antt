@@ -5,14 +5,16 @@ use mathlib.Core.Path.{◌≡◌, refl, sym, ap, ◌∙◌}
 use mathlib.Core.Logic.{◌≢◌}
 use mathlib.Core.List.{List, ◌++◌}
 use mathlib.Core.Bool.{Bool, true, false}
-use lib.ListN.{length, take, drop, replicate, length-append, length-replicate}
+use lib.ListN.{length, take, drop, length-append}
 use lib.Seq.{take_at}
 use lib.Dec.{ltb}
 use borrow.Author.Tests.{lt-ltb, le-ltb, eq-eqb, ne_eqb}
 use native.Mathlib.Omega.{arith}
+use Rattle.std.specs.declared.result.Result.TheVariants.{Ok, Err}
 use Rattle.cases.specs.declared.case.Case.{Case}
 use Rattle.cases.specs.declared.reader.Reading.{Reading}
-use Rattle.cases.specs.declared.writer.Wrote.TheVariants.{Stored, Untouched}
+use Rattle.cases.specs.declared.writer.Unwritten.{Unwritten}
+use Rattle.cases.specs.declared.writer.Unwritten.TheVariants.{Unreadable, Short}
 use Rattle.cases.specs.Sizes.{longest}
 use Rattle.cases.specs.Choice.{pick, both}
 use Rattle.cases.specs.Reading.{number_of, read_of}
@@ -33,13 +35,13 @@ module _ (s : List ℕ) (c : Case) (r : Reading) (is_read : r ≡ read_of s) whe
   unfolding reads_as both
   reads_as_some n e h b same = rw (← is_read, ← e, eq-eqb n 0 h) same
 
--- a case's file at the front of a blank buffer: it has room, it is the first n bytes, and they are read back
-module _ (c : Case) (blank : List ℕ) (is_blank : blank ≡ replicate longest 0) where
-  pub write_file_room : length (encode_of c) ≤ length blank
-  write_file_room = rw is_blank (simp length-replicate (encode_length c))
+-- a case's file at the front of the longest file's bytes: it has room, it is the first n bytes, and they are read back
+module _ (c : Case) (bytes : List ℕ) (sized : length bytes ≡ longest) where
+  pub write_file_room : length (encode_of c) ≤ length bytes
+  write_file_room = omega (arith, encode_length c)
 
   module _ (n : ℕ) (file : List ℕ) (is_length : n ≡ length (encode_of c))
-      (filled : file ≡ encode_of c ++ drop (length (encode_of c)) blank) where
+      (filled : file ≡ encode_of c ++ drop (length (encode_of c)) bytes) where
     pub write_file_within : n ≤ length file
     write_file_within = rw filled (simp length-append (omega arith))
 
@@ -56,13 +58,13 @@ module _ (c : Case) (blank : List ℕ) (is_blank : blank ≡ replicate longest 0
 
 -- The ways out of the writer: 32, 31, and the file
 module _ (c : Case) (out : List ℕ) where
-  pub write_unreadable : reads_back c ≡ false → (Untouched 32 ≡ wrote_of c out) × (out ≡ written_of c out)
+  pub write_unreadable : reads_back c ≡ false → (Err Unreadable ≡ wrote_of c out) × (out ≡ written_of c out)
   unfolding wrote_of written_of
   write_unreadable h =
       (sym (pick_true _ _ _ (false_not _ h)), sym (pick_true _ _ _ (false_not _ h)))
 
   module _ (readable : reads_back c ≡ true) (n : ℕ) (is_length : n ≡ length (encode_of c)) where
-    pub write_short : length out < n → (Untouched 31 ≡ wrote_of c out) × (out ≡ written_of c out)
+    pub write_short : length out < n → (Err Short ≡ wrote_of c out) × (out ≡ written_of c out)
     unfolding wrote_of written_of pick
     write_short h =
         let short = lt-ltb (length out) n h in
@@ -70,16 +72,21 @@ module _ (c : Case) (out : List ℕ) where
 
     pub write_whole : n ≤ length out
         → (after : List ℕ) → after ≡ encode_of c ++ drop (length (encode_of c)) out
-        → (Stored n ≡ wrote_of c out) × (after ≡ written_of c out)
+        → (Ok n ≡ wrote_of c out) × (after ≡ written_of c out)
     unfolding wrote_of written_of pick
     write_whole h after e = (
       rw (readable, ← is_length, le-ltb (length out) n h),
       rw (readable, le-ltb (length out) (length (encode_of c)) (omega arith)) e,
     )
 
+    -- the file is copied
+    pub write_copied : n ≤ length out → (front : List ℕ) → front ≡ encode_of c
+        → (Ok n ≡ wrote_of c out) × (front ++ drop n out ≡ written_of c out)
+    write_copied h front e = write_whole h (front ++ drop n out) (rw (e, is_length))
+
   -- a readable case whose file is known, into bytes that it fits into
   pub write_stored_as : reads_back c ≡ true → (s : List ℕ) → encode_of c ≡ s → length s ≤ length out
-      → (wrote_of c out ≡ Stored (length s)) × (written_of c out ≡ s ++ drop (length s) out)
+      → (wrote_of c out ≡ Ok (length s)) × (written_of c out ≡ s ++ drop (length s) out)
   write_stored_as readable s file h =
       let w = write_whole readable (length s) (ap length (sym file)) h _ refl in
       (sym w.0, sym w.1 ∙ ap (λ (t : List ℕ). t ++ drop (length t) out) file)
@@ -91,7 +98,7 @@ module _ (c : Case) (out : List ℕ) where
       × (n ≡ length (encode_of c))
       × (written_of c out ≡ encode_of c ++ drop (length (encode_of c)) out)
 
-  pub write_stored_is : (n : ℕ) → wrote_of c out ≡ Stored n → WasStored n
+  pub write_stored_is : (n : ℕ) → wrote_of c out ≡ Ok n → WasStored n
   unfolding wrote_of written_of pick
   write_stored_is n h = go (reads_back c) (ltb (length out) (length (encode_of c))) refl refl
     where
@@ -99,11 +106,11 @@ module _ (c : Case) (out : List ℕ) where
       go false t p q = let e = rw p at h in absurd (let z : ◌≡◌ {A = ℕ} 0 1 = cc in omega arith)
       go true true p q = let e = rw (p, q) at h in absurd (let z : ◌≡◌ {A = ℕ} 0 1 = cc in omega arith)
       go true false p q =
-          let e : Stored (length (encode_of c)) ≡ Stored n = rw (p, q) at h in
+          let e : Ok (length (encode_of c)) ≡ Ok n = rw (p, q) at h in
           (p, cc, rw (p, q))
 
   -- back from the answer: what a refusal leaves
-  pub write_untouched_is : (m : ℕ) → wrote_of c out ≡ Untouched m → written_of c out ≡ out
+  pub write_untouched_is : (m : Unwritten) → wrote_of c out ≡ Err m → written_of c out ≡ out
   unfolding wrote_of written_of pick
   write_untouched_is m h = go (reads_back c) (ltb (length out) (length (encode_of c))) refl refl
     where

@@ -1,45 +1,29 @@
-use Rattle.std.proofs.Common.{◌-◌, refl, sym, ap, ◌∙◌, arith, rules}
+use Rattle.std.proofs.Common.{◌≡◌, sym, ap, ◌∙◌, arith}
+use Rattle.cases.specs.Choice.{either}
 use Rattle.cases.specs.Checks.{set_before}
-use Rattle.cases.proofs.checks.SetLaws.{set_start, set_next, set_here, set_end}
+use Rattle.cases.proofs.checks.SetLaws.{set_newest}
 use Rattle.cases.proofs.checks.is_set.Goals as goal
 
-pub loop-n-init : goal.loop-n-init
-loop-n-init c =
-    let a = c.args in
-    set_start a.p a.t.0 a.r.0 _ (search rules) c.count-n.ensures (search rules)
-
-pub overflow_add-x : goal.overflow_add-x
-overflow_add-x c =
-    let l = c.loop-n in
-    let low = l.invariant.there (l.n - 1) (omega (arith, l.invariant.few)) in
-    search rules
-
-pub offset_bounds-code-at : goal.offset_bounds-code-at
-offset_bounds-code-at c =
-    let l = c.loop-n in
-    let low = l.invariant.there (l.n - 1) (omega (arith, l.invariant.few)) in
-    search rules
-
-pub bounds-code-at : goal.bounds-code-at
-bounds-code-at c =
-    let l = c.loop-n in
-    l.invariant.there (l.n - 1) (omega (arith, l.invariant.few))
-
 pub returns-then-is_set_by : goal.returns-then-is_set_by
+unfolding either
 returns-then-is_set_by c =
     let a = c.args in
-    let l = c.loop-n in
+    let newest = set_newest a.p.now a.t.0 a.r.0 c.loop-i.i (omega arith) in
     let set = sym c.is_set_by.ensures ∙ c.if-is_set_by.true in
-    set_here l.invariant (l.n - 1) (omega arith) set a.p a.t.0 refl refl
-    ∙ ap (set_before _ _ _) c.count-n.ensures
+    rw set at (sym newest ∙ c.loop-i.invariant ∙ ap (set_before a.p.now a.t.0 a.r.0) c.count-n.ensures)
 
-pub loop-n-preserved : goal.loop-n-preserved
-loop-n-preserved c =
-    let l = c.loop-n in
-    set_next l.invariant (l.n - 1) (omega arith) (sym c.is_set_by.ensures ∙ c.if-is_set_by.false)
+pub loop-i-preserved : goal.loop-i-preserved
+unfolding either
+loop-i-preserved c =
+    let a = c.args in
+    let newest = set_newest a.p.now a.t.0 a.r.0 c.loop-i.i (omega arith) in
+    let set = sym c.is_set_by.ensures ∙ c.if-is_set_by.false in
+    rw set at (sym newest ∙ c.loop-i.invariant)
 
 pub returns : goal.returns
+unfolding set_before
 returns c =
     let a = c.args in
-    set_end c.loop-n.invariant (omega arith) a.p a.t.0 refl refl
-    ∙ ap (set_before _ _ _) c.count-n.ensures
+    let none : 0 ≡ c.loop-i.i = omega arith in
+    ap (set_before a.p.now a.t.0 a.r.0) none ∙ c.loop-i.invariant
+    ∙ ap (set_before a.p.now a.t.0 a.r.0) c.count-n.ensures

@@ -1,13 +1,11 @@
--- `lines_in` meets its contract. The loop's invariant: what is still to see says what all of it says. The measure
--- is how many are left. Assumes nothing.
-use Rattle.std.proofs.Common.{◌≤◌, ◌-◌, ◌≡◌, length, take, drop}
+-- `lines_in` meets its contract. The loop's invariant: what is still to see says what all of it says. Assumes nothing.
+use Rattle.std.proofs.Common.{◌≤◌, ◌≡◌, drop}
 use Rattle.cases.specs.Lines.{lines_in}
 use Rattle.cases.proofs.lines.lines_in.Given as goal
 
-abbrev pub invariant-loop-i : goal.invariant-loop-i
-invariant-loop-i l =
-    (l.i ≤ l.n) × (l.n ≤ length l.line) × (l.next ≤ l.i)
-    × (lines_in l.next (drop l.i (take l.n l.line)) ≡ lines_in 0 (take l.n l.line))
-
-abbrev pub decreases-loop-i : goal.decreases-loop-i
-decreases-loop-i l = l.n - l.i
+abbrev pub invariant-loop-x : goal.invariant-loop-x
+invariant-loop-x l =
+    record {
+      few : l.next ≤ l.x-index;
+      same : lines_in l.next (drop l.x-index l.line) ≡ lines_in 0 l.line;
+    }

@@ -1,13 +1,9 @@
--- `as_lines` meets its contract. The loop's invariant: the line bytes below `l` are taken, and the rest is 0. The
--- measure is how many are left. Assumes nothing.
-use Rattle.std.proofs.Common.{◌≤◌, ◌-◌, ◌≡◌}
-use Rattle.cases.specs.Sizes.{most_locations}
+-- `as_lines` meets its contract. The loop's invariant: the line bytes below `l` are taken, and the rest is 0. Assumes
+-- nothing.
+use Rattle.std.proofs.Common.{◌≡◌}
 use Rattle.cases.specs.Lines.{table}
 use Rattle.cases.specs.Record.{line_byte}
 use Rattle.cases.proofs.record.as_lines.Given as goal
 
 abbrev pub invariant-loop-l : goal.invariant-loop-l
-invariant-loop-l l = (l.l ≤ l.n) × (l.n ≤ most_locations) × (l.line ≡ table (line_byte l.s) l.l)
-
-abbrev pub decreases-loop-l : goal.decreases-loop-l
-decreases-loop-l l = l.n - l.l
+invariant-loop-l l = l.line ≡ table (line_byte l.s) l.l

@@ -1,37 +1,21 @@
 -- `write` meets its contract: for each way out, the law of that way. Assumes nothing.
-use Rattle.cases.proofs.ChoiceLaws.{told_true, told_false}
-use Rattle.cases.proofs.writer.WriteLaws.{write_file_room, write_file_within, write_file_count}
-use Rattle.cases.proofs.writer.WriteLaws.{write_file_reads, write_unreadable, write_short, write_whole}
+use Rattle.std.proofs.Common.{◌∙◌}
+use Rattle.std.proofs.lemmas.Result.{err_from_is_err_and}
+use Rattle.cases.proofs.writer.WriteLaws.{write_unreadable, write_short, write_copied}
 use Rattle.cases.proofs.writer.write.Goals as goal
 
-pub encode-n-requires : goal.encode-n-requires
-encode-n-requires c = write_file_room _ _ c.blank_file-file.ensures
-
-pub slice_bounds-file-end : goal.slice_bounds-file-end
-slice_bounds-file-end c =
-    write_file_within _ _ c.blank_file-file.ensures _ _ c.encode-n.ensures.0
-    c.encode-n.ensures.1
-
-pub slice_bounds-reads_as-end : goal.slice_bounds-reads_as-end
-slice_bounds-reads_as-end c =
-    write_file_count _ _ c.blank_file-file.ensures _ _ c.encode-n.ensures.0
-    c.encode-n.ensures.1
-
-pub returns-then-not-reads_as : goal.returns-then-not-reads_as
-returns-then-not-reads_as c =
-    let r = write_file_reads _ _ c.blank_file-file.ensures _ _ c.encode-n.ensures.0
-    c.encode-n.ensures.1 _ c.reads_as.ensures in
-    write_unreadable _ _ (told_false _ _ r c.if-not-reads_as.true)
+pub returns-in_err-n : goal.returns-in_err-n
+returns-in_err-n c =
+    let p = err_from_is_err_and c.from_residual.result c.from_residual.ensures.1 in
+    let refused = c.in_err-n.ensures.unreadable in
+    rw (p.1, p.2, refused.0) (write_unreadable _ _ refused.1)
 
 pub returns-then-out-n : goal.returns-then-out-n
 returns-then-out-n c =
-    let r = write_file_reads _ _ c.blank_file-file.ensures _ _ c.encode-n.ensures.0
-    c.encode-n.ensures.1 _ c.reads_as.ensures in
-    write_short _ _ (told_true _ _ r c.if-not-reads_as.false) _ c.encode-n.ensures.0 c.if-out-n.true
+    let file = c.in_ok-n.ensures.checked in
+    write_short _ _ file.0 _ file.1 c.if-out-n.true
 
 pub returns : goal.returns
 returns c =
-    let r = write_file_reads _ _ c.blank_file-file.ensures _ _ c.encode-n.ensures.0
-    c.encode-n.ensures.1 _ c.reads_as.ensures in
-    write_whole _ _ (told_true _ _ r c.if-not-reads_as.false) _ c.encode-n.ensures.0 c.if-out-n.false
-    _ c.encode.ensures.1
+    let file = c.in_ok-n.ensures.checked in
+    write_copied _ _ file.0 _ file.1 c.if-out-n.false _ (c.copy_from_slice.ensures.after ∙ file.2)
