@@ -1,21 +1,19 @@
 // The first entry that stands in the way of a step that breaks a rule. Asked only once a rule is broken: what is
 // legal stays a number, which is all that a walk over millions of steps needs.
-ghost use Rattle.std.specs.Prelude.{◌≡◌, [], ◌<◌, ◌≤◌, length, get_or};
+ghost use Rattle.std.specs.Prelude.{◌≡◌, ◌<◌, ◌≤◌};
 ghost use Rattle.cases.specs.Sizes.{most_threads, most_instructions};
-ghost use Rattle.machine.specs.Sizes.{all_slots};
-ghost use Rattle.machine.specs.View.{buffer_in};
-ghost use Rattle.machine.specs.Parts.{lent};
+ghost use Rattle.machine.specs.View.{buffer, buffer_len};
+ghost use Rattle.machine.specs.Parts.{parts_of};
 ghost use Rattle.machine.specs.Rules.{entry_at};
 ghost use Rattle.machine.specs.Fit.{Shallow};
 ghost use Rattle.machine.specs.Blocker.{blocker_which, blocker_number, blocker_position, marker_place};
 ghost use Rattle.machine.specs.Blocker.{entry_line, blocker_by};
 
-use crate::cells::{Entry, Waiting};
+use crate::cells::{Entry, State};
 use crate::look;
 use crate::look::Found;
-use crate::sizes::SLOTS;
 use cases::case::{Line, Program, Step, Thread};
-use cases::sizes::{CODE, INSTRUCTIONS, LOCATIONS, THREADS};
+use cases::sizes::INSTRUCTIONS;
 
 // Where it stands: a thread's buffer or a line's queue, and the position there.
 #[derive(Clone, Copy)]
@@ -69,20 +67,12 @@ fn marker_place(f: Found) -> Blocker
 }
 
 // The line of an entry that waits: an sfence's is never asked for.
-fn entry_line<'a>(
-    p: Program,
-    buffers: [Waiting; CODE],
-    waiting: &'a [u8; THREADS],
-    t: Thread,
-    i: u8,
-) -> Line
-    requires { (t.0 < most_threads) × (i < get_or waiting.now t.0 0)
-        × (get_or waiting.now t.0 0 ≤ most_instructions) }
-    ensures { result.0 ≡ entry_line p (entry_at (buffer_in buffers waiting.now t.0) i) }
+fn entry_line(p: &Program, s: &State, t: Thread, i: u8) -> Line
+    requires { (t.0 < most_threads) × (i < buffer_len s.now t.0)
+        × (buffer_len s.now t.0 ≤ most_instructions) }
+    ensures { result.0 ≡ entry_line p.now (entry_at (buffer s.now t.0) i) }
 {
-    let b = buffers;
-    let w = b[(t.0 as usize) * INSTRUCTIONS + (i as usize)];
-    let e = w.entry;
+    let e = s.buffers[(t.0 as usize) * INSTRUCTIONS + (i as usize)].entry;
     match e {
         Entry::Store(x) => look::line_of(p, x.location),
         Entry::Flush(l) => look::line_of(p, l),
@@ -92,20 +82,11 @@ fn entry_line<'a>(
 }
 
 // The first entry in the way of a step, by the rule that it breaks.
-pub(crate) fn blocker_by<'a>(
-    p: Program,
-    buffers: [Waiting; CODE],
-    waiting: &'a [u8; THREADS],
-    marks: &'a [u8; SLOTS],
-    lengths: &'a [u8; LOCATIONS],
-    k: Step,
-    broken: u8,
-) -> Blocker
-    requires { (k.thread.0 < most_threads) × (get_or waiting.now k.thread.0 0 ≤ most_instructions)
-        × Shallow lengths.now × (length marks.now ≡ all_slots)
-        × (26 ≤ broken → broken ≤ 27 → k.position < get_or waiting.now k.thread.0 0) }
-    ensures { result ≡ blocker_by broken p
-        (lent buffers [] waiting.now marks.now lengths.now) k }
+pub(crate) fn blocker_by(p: &Program, s: &State, k: Step, broken: u8) -> Blocker
+    requires { (k.thread.0 < most_threads) × (buffer_len s.now k.thread.0 ≤ most_instructions)
+        × Shallow s.now.lengths
+        × (26 ≤ broken → broken ≤ 27 → k.position < buffer_len s.now k.thread.0) }
+    ensures { result ≡ blocker_by broken p.now (parts_of s.now) k }
 {
     let t = k.thread;
     let i = k.position;
@@ -113,17 +94,17 @@ pub(crate) fn blocker_by<'a>(
         return Blocker::InBuffer(t, 0);
     }
     if broken == 23 {
-        return marker_place(look::marker(marks, lengths, t));
+        return marker_place(look::marker(s, t));
     }
     if broken == 26 {
-        let q = entry_line(p, buffers, waiting, t, i);
-        return Blocker::InBuffer(t, look::first_bar(p, buffers, waiting, t, i, q));
+        let q = entry_line(p, s, t, i);
+        return Blocker::InBuffer(t, look::first_bar(p, s, t, i, q));
     }
     if broken == 27 {
-        return Blocker::InQueue(entry_line(p, buffers, waiting, t, i), 0);
+        return Blocker::InQueue(entry_line(p, s, t, i), 0);
     }
     if broken == 28 {
-        return marker_place(look::marker(marks, lengths, t));
+        return marker_place(look::marker(s, t));
     }
     Blocker::NoEntry
 }

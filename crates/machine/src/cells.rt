@@ -19,8 +19,7 @@ pub struct Waiting {
 
 // Line q's queue holds the first lengths[q] slots from q * ROOM on, a slot a word and a mark side by side: the
 // mark of a write is its location, that of a marker MARKER and its thread. Buffer t holds the first waiting[t]
-// entries from t * INSTRUCTIONS on, and register r of thread t stands at t * REGISTERS + r. Number arrays,
-// because those can be lent: a look then copies nothing.
+// entries from t * INSTRUCTIONS on, and register r of thread t stands at t * REGISTERS + r.
 #[derive(Clone, Copy)]
 pub struct State {
     pub words: [u32; LOCATIONS],

@@ -70,34 +70,26 @@ fn stop(number: u8, offset: usize) -> Judged
 }
 
 // The run of a case that can be read.
-fn judge_run(c: Case) -> Judged
-    requires { Ranged c }
-    ensures { result ≡ judge_run c }
+fn judge_run(c: &Case) -> Judged
+    requires { Ranged c.now }
+    ensures { result ≡ judge_run c.now }
 {
-    let p = c.program;
-    let run = c.run;
-    let n = run.count as usize;
-    let mut s = steps::start_of(p);
-    let mut i: usize = 0;
-    while i < n {
-        let k = run.steps[i];
-        let b = s.buffers;
-        let broken = steps::rule(p, b, &s.issued, &s.waiting, &s.marks, &s.lengths, k);
+    let p = &c.program;
+    let n = c.run.count as usize;
+    let mut s = steps::start_of(c.program);
+    for i in 0..n {
+        let k = c.run.steps[i];
+        let broken = steps::rule(p, &s, k);
         if broken != 0 {
             return Judged {
-                verdict: Verdict::Illegal(
-                    broken,
-                    i,
-                    blocker::blocker_by(p, b, &s.waiting, &s.marks, &s.lengths, k, broken),
-                ),
+                verdict: Verdict::Illegal(broken, i, blocker::blocker_by(p, &s, k, broken)),
                 state: s,
             };
         }
         s = steps::take_step(p, s, k);
-        i += 1;
     }
     Judged {
-        verdict: Verdict::Legal(i),
+        verdict: Verdict::Legal(n),
         state: s,
     }
 }
@@ -109,7 +101,7 @@ pub fn judge(c: Case) -> Judged
     if !cases::reads_back(c) {
         return stop(32, 0);
     }
-    judge_run(c)
+    judge_run(&c)
 }
 
 // The run of a case as bytes: reading first.
@@ -122,5 +114,5 @@ pub fn judge_bytes(bytes: &[u8]) -> Judged
     if number != 0 {
         return stop(number, reader::offset(answer));
     }
-    judge_run(reading.case)
+    judge_run(&reading.case)
 }

@@ -1,11 +1,8 @@
 // A step by its code, and a single step given with a case and a state in memory.
-ghost use Rattle.std.specs.Prelude.{◌≡◌, length};
+ghost use Rattle.std.specs.Prelude.{◌≡◌};
 ghost use Rattle.cases.specs.Checks.{limits_of, step_fault};
-ghost use Rattle.machine.specs.Sizes.{all_slots};
-ghost use Rattle.machine.specs.Parts.{lent};
-ghost use Rattle.machine.specs.Rules.{rule_in, rule_of, next_of, start_of};
-ghost use Rattle.machine.specs.Fit.{Fits, Shallow, Movable};
-ghost use Rattle.cases.specs.Ranges.{ProgramFits};
+ghost use Rattle.machine.specs.Rules.{rule_of, next_of, start_of};
+ghost use Rattle.machine.specs.Fit.{Fits};
 ghost use Rattle.machine.specs.Judge.{ruling_no, ruling_blocker, stepped_of, step_of, started_of};
 ghost use Rattle.machine.specs.Ptso.{ptso};
 
@@ -78,34 +75,24 @@ pub fn start_of(p: Program) -> State
 }
 
 // The rule that a step breaks; 0 where it is legal.
-pub(crate) fn rule<'a>(
-    p: Program,
-    buffers: [Waiting; CODE],
-    issued: &'a [u8; THREADS],
-    waiting: &'a [u8; THREADS],
-    marks: &'a [u8; SLOTS],
-    lengths: &'a [u8; LOCATIONS],
-    k: Step,
-) -> u8
-    requires { ProgramFits p × Movable buffers waiting.now × Shallow lengths.now
-        × (length marks.now ≡ all_slots) × (step_fault (limits_of p) k ≡ 0) }
-    ensures { result ≡ rule_in p (lent buffers issued.now
-        waiting.now marks.now lengths.now) k }
+pub(crate) fn rule(p: &Program, s: &State, k: Step) -> u8
+    requires { Fits p.now s.now × (step_fault (limits_of p.now) k ≡ 0) }
+    ensures { result ≡ rule_of p.now s.now k }
 {
     let code = k.code;
     if code == ISSUE {
-        return issue::issue_rule(p, issued, waiting, marks, lengths, k.thread);
+        return issue::issue_rule(p, s, k.thread);
     }
     if code == MOVE {
-        return moves::move_rule(p, buffers, waiting, marks, lengths, k.thread, k.position);
+        return moves::move_rule(p, s, k.thread, k.position);
     }
-    moves::persist_rule(lengths, Line(k.location.0))
+    moves::persist_rule(s, Line(k.location.0))
 }
 
 // The state after a legal step, which was tested before.
-pub(crate) fn take_step(p: Program, s: State, k: Step) -> State
-    requires { Fits p s × (step_fault (limits_of p) k ≡ 0) × (rule_of p s k ≡ 0) }
-    ensures { result ≡ next_of p s k }
+pub(crate) fn take_step(p: &Program, s: State, k: Step) -> State
+    requires { Fits p.now s × (step_fault (limits_of p.now) k ≡ 0) × (rule_of p.now s k ≡ 0) }
+    ensures { result ≡ next_of p.now s k }
 {
     let code = k.code;
     if code == ISSUE {
@@ -135,26 +122,21 @@ pub fn start(c: Case) -> Stepped
 }
 
 // A step in a state that fits: 5 and 8, then the rules; the state goes back unchanged where it is refused.
-fn step_in(p: Program, s: State, k: Step) -> Stepped
-    requires { Fits p s }
-    ensures { result ≡ stepped_of (ptso p) s k }
+fn step_in(p: &Program, s: State, k: Step) -> Stepped
+    requires { Fits p.now s }
+    ensures { result ≡ stepped_of (ptso p.now) s k }
 {
-    let fault = checks::step_fault(p, k);
+    let fault = checks::step_fault(*p, k);
     if fault != 0 {
         return Stepped {
             ruling: Ruling::Declined(fault),
             state: s,
         };
     }
-    let u = s;
-    let b = u.buffers;
-    let broken = rule(p, b, &u.issued, &u.waiting, &u.marks, &u.lengths, k);
+    let broken = rule(p, &s, k);
     if broken != 0 {
         return Stepped {
-            ruling: Ruling::Broken(
-                broken,
-                blocker::blocker_by(p, b, &u.waiting, &u.marks, &u.lengths, k, broken),
-            ),
+            ruling: Ruling::Broken(broken, blocker::blocker_by(p, &s, k, broken)),
             state: s,
         };
     }
@@ -174,8 +156,8 @@ pub fn step(c: Case, s: State, k: Step) -> Stepped
             state: s,
         };
     }
-    let p = c.program;
-    if fit::is_misfit(p, s) {
+    let p = &c.program;
+    if fit::is_misfit(p, &s) {
         return Stepped {
             ruling: Ruling::Declined(33),
             state: s,

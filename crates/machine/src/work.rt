@@ -1,8 +1,8 @@
 // The work left, and the full length.
-ghost use Rattle.std.specs.Prelude.{◌≡◌, ◌+◌, ◌*◌, ◌<◌, ◌≤◌, get_or};
+ghost use Rattle.std.specs.Prelude.{◌≡◌, ◌+◌, ◌*◌, ◌<◌, ◌≤◌};
 ghost use Rattle.cases.specs.Sizes.{most_threads, most_instructions, most_locations, all_code};
 ghost use Rattle.cases.specs.Checks.{count_at};
-ghost use Rattle.machine.specs.View.{buffer_in, queue_len, issued_of};
+ghost use Rattle.machine.specs.View.{buffer, buffer_len, queue_len, issued_of};
 ghost use Rattle.machine.specs.Fit.{sum_to, Fits};
 ghost use Rattle.machine.specs.Work.{unissued_weight, waiting_weight, code_weight, entry_weight, weigh};
 ghost use Rattle.machine.specs.Work.{unissued_code, thread_work, work};
@@ -14,7 +14,7 @@ use cases::case::{Case, Program, Thread};
 use cases::operations::{
     COMPARE, EXCHANGE, FLUSH, FLUSH_OPT, LOAD, SFENCE, STORE_REGISTER, STORE_WORD,
 };
-use cases::sizes::{CODE, INSTRUCTIONS, LOCATIONS, THREADS};
+use cases::sizes::{INSTRUCTIONS, LOCATIONS, THREADS};
 
 // The work left, or the number of the refusal.
 #[derive(Clone, Copy)]
@@ -87,69 +87,52 @@ fn waiting_weight(w: Waiting) -> usize
     }
 }
 
-fn weigh_code(p: Program, s: State, t: Thread) -> usize
-    requires { (t.0 < most_threads) × (issued_of s t.0 ≤ count_at p t.0)
-        × (count_at p t.0 ≤ most_instructions) }
-    ensures { (result ≡ weigh code_weight (unissued_code p s t.0)) × (result ≤ 3 * most_instructions) }
+fn weigh_code(p: &Program, s: &State, t: Thread) -> usize
+    requires { (t.0 < most_threads) × (issued_of s.now t.0 ≤ count_at p.now t.0)
+        × (count_at p.now t.0 ≤ most_instructions) }
+    ensures { (result ≡ weigh code_weight (unissued_code p.now s.now t.0)) × (result ≤ 3 * most_instructions) }
 {
-    let q = p;
-    let u = s;
     let at = t.0 as usize;
-    let done = u.issued[at];
+    let done = s.issued[at];
     let base = at * INSTRUCTIONS + (done as usize);
-    let n = (q.counts[at] - done) as usize;
+    let n = (p.counts[at] - done) as usize;
     let mut weight: usize = 0;
-    let mut i = 0;
-    while i < n {
-        let x = q.code[base + i];
-        weight += unissued_weight(x.operation);
-        i += 1;
+    for i in 0..n {
+        weight += unissued_weight(p.code[base + i].operation);
     }
     weight
 }
 
-fn weigh_buffer<'a>(buffers: [Waiting; CODE], waiting: &'a [u8; THREADS], t: Thread) -> usize
-    requires { (t.0 < most_threads) × (get_or waiting.now t.0 0 ≤ most_instructions) }
-    ensures { (result ≡ weigh entry_weight (buffer_in buffers waiting.now t.0))
-        × (result ≤ 2 * most_instructions) }
+fn weigh_buffer(s: &State, t: Thread) -> usize
+    requires { (t.0 < most_threads) × (buffer_len s.now t.0 ≤ most_instructions) }
+    ensures { (result ≡ weigh entry_weight (buffer s.now t.0)) × (result ≤ 2 * most_instructions) }
 {
-    let b = buffers;
     let base = (t.0 as usize) * INSTRUCTIONS;
-    let n = waiting[t.0 as usize] as usize;
+    let n = s.waiting[t.0 as usize] as usize;
     let mut weight: usize = 0;
-    let mut i = 0;
-    while i < n {
-        let w = b[base + i];
-        weight += waiting_weight(w);
-        i += 1;
+    for i in 0..n {
+        weight += waiting_weight(s.buffers[base + i]);
     }
     weight
 }
 
-fn threads_work(p: Program, s: State) -> usize
-    requires { Fits p s }
-    ensures { (result ≡ sum_to most_threads (thread_work p s)) × (result ≤ 5 * all_code) }
+fn threads_work(p: &Program, s: &State) -> usize
+    requires { Fits p.now s.now }
+    ensures { (result ≡ sum_to most_threads (thread_work p.now s.now)) × (result ≤ 5 * all_code) }
 {
-    let u = s;
     let mut total: usize = 0;
-    let mut t: u8 = 0;
-    while (t as usize) < THREADS {
-        let b = u.buffers;
-        total += weigh_code(p, s, Thread(t)) + weigh_buffer(b, &u.waiting, Thread(t));
-        t += 1;
+    for t in 0..THREADS {
+        total += weigh_code(p, s, Thread(t as u8)) + weigh_buffer(s, Thread(t as u8));
     }
     total
 }
 
-fn queues_work(s: State) -> usize
-    ensures { (result ≡ sum_to most_locations (queue_len s)) × (result ≤ most_locations * 256) }
+fn queues_work(s: &State) -> usize
+    ensures { (result ≡ sum_to most_locations (queue_len s.now)) × (result ≤ most_locations * 256) }
 {
-    let u = s;
     let mut total: usize = 0;
-    let mut l = 0;
-    while l < LOCATIONS {
-        total += u.lengths[l] as usize;
-        l += 1;
+    for l in 0..LOCATIONS {
+        total += s.lengths[l] as usize;
     }
     total
 }
@@ -159,7 +142,7 @@ pub fn work_in(p: Program, s: State) -> usize
     requires { Fits p s }
     ensures { result ≡ work p s }
 {
-    threads_work(p, s) + queues_work(s)
+    threads_work(&p, &s) + queues_work(&s)
 }
 
 // The work left of a case in a state in memory: 32, then 33.
@@ -169,11 +152,10 @@ pub fn work_left(c: Case, s: State) -> Weighed
     if !cases::reads_back(c) {
         return Weighed::Unweighed(32);
     }
-    let p = c.program;
-    if fit::is_misfit(p, s) {
+    if fit::is_misfit(&c.program, &s) {
         return Weighed::Unweighed(33);
     }
-    Weighed::Left(work_in(p, s))
+    Weighed::Left(work_in(c.program, s))
 }
 
 // The full length of a case's program: 32 first.

@@ -8,30 +8,14 @@ use mathlib.Core.Bool.{Bool, true, false, not}
 use native.Mathlib.Omega.{arith}
 use lib.Dec.{eqb, leb, ltb}
 use borrow.Author.Tests.{lt-ltb, le-ltb, le-leb, lt-leb, leb-true, leb-false}
-use mir.Syntax.{w8}
-use mir.Val.{Fits}
 use Rattle.cases.specs.declared.case.Program.{Program}
 use Rattle.cases.specs.Choice.{both, either}
-use Rattle.cases.specs.Sizes.{most_threads, most_instructions}
+use Rattle.cases.specs.Sizes.{most_instructions}
 use Rattle.cases.specs.Checks.{count_at, lines_of}
 use Rattle.machine.specs.declared.cells.State.{State}
 use Rattle.machine.specs.Sizes.{room, first_marker}
 use Rattle.machine.specs.View.{marks_in, queue_len, buffer, buffer_len, issued_of, mark_of, line_of}
 use Rattle.machine.specs.Fit.{unissued, due, thread_misfits, queue_misfits, any_of, strayed, foreign}
-use Rattle.machine.proofs.lists.SumLaws.{sum_most}
-
--- a count is a byte: what that bounds
-module _ (p : Program) (s : State) where
-  pub unissued_most : (t : ℕ) → Fits w8 (count_at p t) → unissued p s t ≤ 255
-  unfolding unissued
-  unissued_most t h = omega arith
-
-  pub due_most : ((t : ℕ) → Fits w8 (buffer_len s t)) → ((t : ℕ) → Fits w8 (count_at p t)) → due p s ≤ 2040
-  unfolding due
-  due_most h k =
-      let a = sum_most most_threads 255 (buffer_len s) (λ t l. let e = h t in omega arith) in
-      let b = sum_most most_threads 255 (unissued p s) (λ t l. unissued_most t (k t)) in
-      omega arith
 
 -- number i of m, and n that stand there: something stands where there is no such number, or it doesn't. Of the
 -- two ways in which the code finds that it doesn't, each tells what it found.

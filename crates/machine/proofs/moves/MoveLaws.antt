@@ -2,7 +2,7 @@
 -- from what the code has at hand. Assumes nothing.
 use Prim.Native.Nat.{ℕ, ◌+◌, ◌*◌, ◌≤◌, ◌<◌}
 use mathlib.Core.Path.{◌≡◌, refl, sym, ap, ◌∙◌}
-use mathlib.Core.List.{List, [], ◌∷◌}
+use mathlib.Core.List.{List, ◌∷◌}
 use mathlib.Core.Bool.{false}
 use native.Mathlib.Omega.{arith}
 use native.Mathlib.Nat.{add-zero}
@@ -24,7 +24,7 @@ use Rattle.machine.specs.declared.cells.Entry.TheVariants.{Store, Flush, FlushOp
 use Rattle.machine.specs.Sizes.{room, all_slots, first_marker}
 use Rattle.machine.specs.View.{Slot, line_of, without, marks_in, queue_in, queue, queue_len, with_queue}
 use Rattle.machine.specs.View.{word_of, with_word, blank_waiting, buffer_in, buffer, buffer_len, with_buffer}
-use Rattle.machine.specs.Parts.{Parts, lent}
+use Rattle.machine.specs.Parts.{Parts, parts_of}
 use Rattle.machine.specs.Look.{word_or}
 use Rattle.machine.specs.Rules.{entry_at, effect_rule, effect_of, pass_rule, move_rule, move_of, persist_first}
 use Rattle.machine.specs.Rules.{settled, persist_of}
@@ -32,7 +32,6 @@ use Rattle.cases.specs.Ranges.{ProgramFits}
 use Rattle.machine.specs.Fit.{Named, Roomy}
 use Rattle.machine.proofs.lists.PartLaws.{get_or_part}
 use Rattle.machine.proofs.view.LineOfLaws.{line_low}
-use Rattle.machine.proofs.rules.LentLaws.{effect_lent}
 use Rattle.machine.proofs.view.SlotLaws.{slots_next}
 
 -- Named: what it says of each entry that names a location
@@ -92,26 +91,23 @@ module _ (b : List Waiting) (waiting : List ℕ) (t i : ℕ) (h : i < get_or wai
       → Named n (get_or b (t * most_instructions + i) blank_waiting).entry
   move_first_named z n k = move_entry_named n (rw z k)
 
-  -- move_rule: at position 0; behind it
-  module _ (p : Program) (issued marks lengths : List ℕ) (r : ℕ) where
-    abbrev parts : Parts
-    parts = lent b issued waiting marks lengths
+-- move_rule: at position 0; behind it
+module _ (p : Program) (s : State) (t i : ℕ) (h : i < buffer_len s t) (r : ℕ) where
+  pub move_first : i ≡ 0
+      → r ≡ effect_rule p (parts_of s) t (get_or s.buffers (t * most_instructions + i) blank_waiting).entry
+      → r ≡ move_rule p (parts_of s) t i
+  unfolding move_rule
+  move_first z e =
+      refuse_next _ _ _ _ (lt-leb _ _ h)
+      (pick_here _ _ _ _ (eq-eqb _ _ z) (rw (move_entry_is s.buffers s.waiting t i h) e))
 
-    pub move_first : i ≡ 0
-        → r
-        ≡ effect_rule p (lent [] [] [] marks lengths) t (get_or b (t * most_instructions + i) blank_waiting).entry
-        → r ≡ move_rule p parts t i
-    unfolding move_rule
-    move_first z e =
-        refuse_next _ _ _ _ (lt-leb _ _ h)
-        (pick_here _ _ _ _ (eq-eqb _ _ z) (rw move_entry_is (e ∙ effect_lent p parts t _)))
-
-    pub move_behind : (i ≡ 0 → ⊥)
-        → r ≡ pass_rule p (buffer_in b waiting t) i (get_or b (t * most_instructions + i) blank_waiting).entry
-        → r ≡ move_rule p parts t i
-    unfolding move_rule
-    move_behind z e =
-        refuse_next _ _ _ _ (lt-leb _ _ h) (pick_next _ _ _ _ (ne_eqb _ _ z) (rw move_entry_is e))
+  pub move_behind : (i ≡ 0 → ⊥)
+      → r ≡ pass_rule p (buffer s t) i (get_or s.buffers (t * most_instructions + i) blank_waiting).entry
+      → r ≡ move_rule p (parts_of s) t i
+  unfolding move_rule
+  move_behind z e =
+      refuse_next _ _ _ _ (lt-leb _ _ h)
+      (pick_next _ _ _ _ (ne_eqb _ _ z) (rw (move_entry_is s.buffers s.waiting t i h) e))
 
 -- move_of: the entry is taken out, then it takes effect
 pub move_taken : (p : Program) (s : State) (t i : ℕ) (u r : State) → i < buffer_len s t

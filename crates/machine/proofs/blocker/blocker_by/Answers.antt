@@ -14,11 +14,11 @@ returns-then-broken-eq23 c = rw (c.marker_place.ensures, c.marker.ensures) (sear
 
 pub entry_line-q-requires : goal.entry_line-q-requires
 entry_line-q-requires c =
-    (c.requires.0, c.requires.4 (omega arith) (omega arith), c.requires.1)
+    (c.requires.0, c.requires.3 (omega arith) (omega arith), c.requires.1)
 
 pub first_bar-requires : goal.first_bar-requires
 first_bar-requires c =
-    let here = c.requires.4 (omega arith) (omega arith) in
+    let here = c.requires.3 (omega arith) (omega arith) in
     (c.requires.0, omega arith, c.requires.1)
 
 pub returns-then-broken-eq26 : goal.returns-then-broken-eq26
@@ -27,7 +27,7 @@ returns-then-broken-eq26 c = rw (c.first_bar.ensures, c.entry_line-q.ensures) (s
 
 pub entry_line-requires : goal.entry_line-requires
 entry_line-requires c =
-    (c.requires.0, c.requires.4 (omega arith) (omega arith), c.requires.1)
+    (c.requires.0, c.requires.3 (omega arith) (omega arith), c.requires.1)
 
 pub returns-then-broken-eq27 : goal.returns-then-broken-eq27
 unfolding blocker_by

@@ -9,15 +9,19 @@ loop-t-init c = sum_start _ _ _
 pub overflow_add-n : goal.overflow_add-n
 overflow_add-n c =
     let l = c.loop-t in
-    let k : Fits w8 (buffer_len c.args.s l.t) = search rules in
+    let k : Fits w8 (buffer_len c.args.s.now l.t) = search rules in
     let w = l.invariant.few in
     omega arith
 
 pub loop-t-preserved : goal.loop-t-preserved
 loop-t-preserved c =
     let l = c.loop-t in
-    let k : Fits w8 (buffer_len c.args.s l.t) = search rules in
+    let k : Fits w8 (buffer_len c.args.s.now l.t) = search rules in
     sum_next l.invariant _ (omega arith) refl (omega arith)
 
 pub returns : goal.returns
-returns c = sum_end c.loop-t.invariant (omega arith)
+returns c =
+    let l = c.loop-t.invariant in
+    let w = l.few in
+    let h = l.far in
+    (sum_end l (omega arith), omega arith)

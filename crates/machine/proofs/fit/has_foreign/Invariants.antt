@@ -1,12 +1,8 @@
 -- `has_foreign` meets its contract. Assumes nothing.
-use Rattle.std.proofs.Common.{◌-◌}
 use Rattle.machine.specs.Fit.{foreign}
 use Rattle.machine.proofs.lists.AnyLaws.{AnySoFar}
 use Rattle.machine.proofs.fit.has_foreign.Given as goal
 
 -- the marks still to look at say what the queue's marks say
 abbrev pub invariant-loop-i : goal.invariant-loop-i
-invariant-loop-i l = AnySoFar (foreign l.p l.q.0) l.marks l.base l.n l.i
-
-abbrev pub decreases-loop-i : goal.decreases-loop-i
-decreases-loop-i l = l.n - l.i
+invariant-loop-i l = AnySoFar (foreign l.p l.q.0) l.s.marks l.base l.n l.i

@@ -8,7 +8,7 @@ use Rattle.machine.proofs.fit.has_stray.Goals as goal
 
 pub loop-i-init : goal.loop-i-init
 loop-i-init c =
-    let k : length c.args.buffers ≡ all_code = search unmapped in
+    let k : length c.args.s.now.buffers ≡ all_code = search unmapped in
     any_of_start _ _ _ _ (omega arith)
 
 pub returns-then-is_stray : goal.returns-then-is_stray

@@ -1,12 +1,8 @@
 -- `has_stray` meets its contract. Assumes nothing.
-use Rattle.std.proofs.Common.{◌-◌}
 use Rattle.machine.specs.Fit.{strayed}
 use Rattle.machine.proofs.lists.AnyLaws.{AnySoFar}
 use Rattle.machine.proofs.fit.has_stray.Given as goal
 
 -- the entries still to look at say what all that wait say
 abbrev pub invariant-loop-i : goal.invariant-loop-i
-invariant-loop-i l = AnySoFar (strayed l.locations) l.b l.base l.n l.i
-
-abbrev pub decreases-loop-i : goal.decreases-loop-i
-decreases-loop-i l = l.n - l.i
+invariant-loop-i l = AnySoFar (strayed l.locations) l.s.buffers l.base l.n l.i

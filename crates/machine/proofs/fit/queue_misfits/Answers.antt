@@ -1,20 +1,12 @@
 -- `queue_misfits` meets its contract. Assumes nothing.
-use Rattle.std.proofs.Common.{arith, lt-ltb, le-ltb, w8, Fits, rules}
-use Rattle.machine.specs.View.{queue_len}
-use Rattle.machine.proofs.fit.MisfitLaws.{due_most, queue_misfits_lacked, queue_misfits_full}
+use Rattle.std.proofs.Common.{lt-ltb, le-ltb}
+use Rattle.machine.proofs.fit.MisfitLaws.{queue_misfits_lacked, queue_misfits_full}
 use Rattle.machine.proofs.fit.MisfitLaws.{queue_misfits_rest}
 use Rattle.machine.proofs.fit.queue_misfits.Goals as goal
 
 pub returns-then-n-gt0 : goal.returns-then-n-gt0
 returns-then-n-gt0 c =
     queue_misfits_lacked _ _ _ _ c.lines_of.ensures c.if-lines_of-q.true (lt-ltb _ _ c.if-n-gt0.true)
-
-pub overflow_add-n : goal.overflow_add-n
-overflow_add-n c =
-    let a = c.args in
-    let m : Fits w8 (queue_len a.s a.q.0) = search rules in
-    let h = due_most a.p a.s (λ t. search rules) (λ t. search rules) in
-    omega arith
 
 pub returns-then-n-coming-gt-ROOM : goal.returns-then-n-coming-gt-ROOM
 returns-then-n-coming-gt-ROOM c =

@@ -18,11 +18,11 @@ enqueue-requires c = rw (c.fetch-u.ensures, c.line_of.ensures) (search rules)
 pub returns-then-u-at : goal.returns-then-u-at
 returns-then-u-at c =
     let long = sized (goal.at.returns-then-u-at c).Start in
-    compare_some c.args.p c.args.s _ c.args.x long c.requires.0 c.requires.2 _ c.fetch-u.ensures
+    compare_some c.args.p.now c.args.s _ c.args.x long c.requires.0 c.requires.2 _ c.fetch-u.ensures
     c.if-u-at.true _ _ c.line_of.ensures c.enqueue.ensures
 
 pub returns : goal.returns
 returns c =
     let long = sized (goal.at.returns c).Start in
-    compare_none c.args.p c.args.s _ c.args.x long c.requires.0 c.requires.2 _ c.fetch-u.ensures
+    compare_none c.args.p.now c.args.s _ c.args.x long c.requires.0 c.requires.2 _ c.fetch-u.ensures
     c.if-u-at.false

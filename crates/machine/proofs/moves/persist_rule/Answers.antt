@@ -3,9 +3,9 @@ use Rattle.machine.specs.Rules.{persist_rule}
 use Rattle.cases.proofs.ChoiceLaws.{choices}
 use Rattle.machine.proofs.moves.persist_rule.Goals as goal
 
-pub returns-then-lengths-q-eq0 : goal.returns-then-lengths-q-eq0
+pub returns-then-s-q-eq0 : goal.returns-then-s-q-eq0
 unfolding persist_rule
-returns-then-lengths-q-eq0 c = search choices
+returns-then-s-q-eq0 c = search choices
 
 pub returns : goal.returns
 unfolding persist_rule

@@ -7,7 +7,7 @@ use Rattle.machine.proofs.steps.take_step.Goals as goal
 
 pub issue-requires : goal.issue-requires
 issue-requires c =
-    issue_ready c.args.p c.args.s c.requires.0 c.args.k c.requires.1 c.requires.2 (omega arith)
+    issue_ready c.args.p.now c.args.s c.requires.0 c.args.k c.requires.1 c.requires.2 (omega arith)
 
 pub returns-then-code-eq-ISSUE : goal.returns-then-code-eq-ISSUE
 unfolding next_of
@@ -15,7 +15,7 @@ returns-then-code-eq-ISSUE c = search choices
 
 pub move_entry-requires : goal.move_entry-requires
 move_entry-requires c =
-    move_ready c.args.p c.args.s c.requires.0 c.args.k c.requires.1 c.requires.2 (omega arith)
+    move_ready c.args.p.now c.args.s c.requires.0 c.args.k c.requires.1 c.requires.2 (omega arith)
 
 pub returns-then-code-eq-MOVE : goal.returns-then-code-eq-MOVE
 unfolding next_of
@@ -23,7 +23,7 @@ returns-then-code-eq-MOVE c = search choices
 
 pub persist-requires : goal.persist-requires
 persist-requires c =
-    persist_ready c.args.p c.args.s c.requires.0 c.args.k c.requires.1 c.requires.2
+    persist_ready c.args.p.now c.args.s c.requires.0 c.args.k c.requires.1 c.requires.2
     (λ z. omega arith) (λ z. omega arith)
 
 pub returns : goal.returns

@@ -9,14 +9,14 @@ loop-l-init c = sum_start _ _ _
 pub overflow_add-total : goal.overflow_add-total
 overflow_add-total c =
     let l = c.loop-l in
-    let k : Fits w8 (queue_len c.args.s l.l) = search rules in
+    let k : Fits w8 (queue_len c.args.s.now l.l) = search rules in
     let w = l.invariant.few in
     omega arith
 
 pub loop-l-preserved : goal.loop-l-preserved
 loop-l-preserved c =
     let l = c.loop-l in
-    let k : Fits w8 (queue_len c.args.s l.l) = search rules in
+    let k : Fits w8 (queue_len c.args.s.now l.l) = search rules in
     sum_next l.invariant _ (omega arith) refl (omega arith)
 
 pub returns : goal.returns

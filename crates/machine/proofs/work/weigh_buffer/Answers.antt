@@ -7,7 +7,7 @@ use Rattle.machine.proofs.work.weigh_buffer.Goals as goal
 
 pub loop-i-init : goal.loop-i-init
 loop-i-init c =
-    let k : length c.args.buffers ≡ all_code = search unmapped in
+    let k : length c.args.s.now.buffers ≡ all_code = search unmapped in
     (c.requires.1, weigh_start _ _ _ _ _ (omega arith))
 
 pub overflow_add-weight : goal.overflow_add-weight

@@ -9,7 +9,7 @@ use Rattle.machine.proofs.work.weigh_code.Goals as goal
 
 pub loop-i-init : goal.loop-i-init
 loop-i-init c =
-    let k : length c.args.p.code ≡ all_code = search unmapped in
+    let k : length c.args.p.now.code ≡ all_code = search unmapped in
     (omega arith, weigh_start _ _ _ _ _ (omega arith))
 
 pub overflow_add-weight : goal.overflow_add-weight
