@@ -4,14 +4,15 @@ ghost use Rattle.std.specs.Prelude.{◌≡◌, ◌<◌, ◌≤◌};
 ghost use Rattle.cases.specs.Sizes.{most_threads, most_instructions};
 ghost use Rattle.machine.specs.View.{buffer, buffer_len};
 ghost use Rattle.machine.specs.Parts.{parts_of};
-ghost use Rattle.machine.specs.Rules.{entry_at};
+ghost use Rattle.machine.specs.Rules.{entry_at, rule_number};
 ghost use Rattle.machine.specs.Fit.{Shallow};
 ghost use Rattle.machine.specs.Blocker.{blocker_which, blocker_number, blocker_position, marker_place};
 ghost use Rattle.machine.specs.Blocker.{entry_line, blocker_by};
 
 use crate::cells::{Entry, State};
 use crate::look;
-use crate::look::Found;
+use crate::look::Place;
+use crate::rule::Rule;
 use cases::case::{Line, Program, Step, Thread};
 use cases::sizes::INSTRUCTIONS;
 
@@ -57,12 +58,12 @@ pub fn blocker_position(b: Blocker) -> u8
 }
 
 // The place of a marker that was looked for.
-fn marker_place(f: Found) -> Blocker
-    ensures { result ≡ marker_place f }
+fn marker_place(found: Option<Place>) -> Blocker
+    ensures { result ≡ marker_place found }
 {
-    match f {
-        Found::At(q, i) => Blocker::InQueue(q, i),
-        Found::Nothing => Blocker::NoEntry,
+    match found {
+        Some(m) => Blocker::InQueue(m.line, m.position),
+        None => Blocker::NoEntry,
     }
 }
 
@@ -82,29 +83,23 @@ fn entry_line(p: &Program, s: &State, t: Thread, i: u8) -> Line
 }
 
 // The first entry in the way of a step, by the rule that it breaks.
-pub(crate) fn blocker_by(p: &Program, s: &State, k: Step, broken: u8) -> Blocker
+pub(crate) fn blocker_by(p: &Program, s: &State, k: Step, broken: Rule) -> Blocker
     requires { (k.thread.0 < most_threads) × (buffer_len s.now k.thread.0 ≤ most_instructions)
         × Shallow s.now.lengths
-        × (26 ≤ broken → broken ≤ 27 → k.position < buffer_len s.now k.thread.0) }
-    ensures { result ≡ blocker_by broken p.now (parts_of s.now) k }
+        × (26 ≤ rule_number broken → rule_number broken ≤ 27 → k.position < buffer_len s.now k.thread.0) }
+    ensures { result ≡ blocker_by (rule_number broken) p.now (parts_of s.now) k }
 {
     let t = k.thread;
     let i = k.position;
-    if broken == 22 {
-        return Blocker::InBuffer(t, 0);
+    match broken {
+        Rule::BufferNotEmpty => Blocker::InBuffer(t, 0),
+        Rule::MarkerQueued => marker_place(look::marker(s, t)),
+        Rule::HeldBack => {
+            let q = entry_line(p, s, t, i);
+            Blocker::InBuffer(t, look::first_bar(p, s, t, i, q))
+        }
+        Rule::LineNotEmpty => Blocker::InQueue(entry_line(p, s, t, i), 0),
+        Rule::MarkerBeforeSfence => marker_place(look::marker(s, t)),
+        _ => Blocker::NoEntry,
     }
-    if broken == 23 {
-        return marker_place(look::marker(s, t));
-    }
-    if broken == 26 {
-        let q = entry_line(p, s, t, i);
-        return Blocker::InBuffer(t, look::first_bar(p, s, t, i, q));
-    }
-    if broken == 27 {
-        return Blocker::InQueue(entry_line(p, s, t, i), 0);
-    }
-    if broken == 28 {
-        return marker_place(look::marker(s, t));
-    }
-    Blocker::NoEntry
 }

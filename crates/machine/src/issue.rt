@@ -5,12 +5,13 @@ ghost use Rattle.cases.specs.Checks.{count_at, instruction_at};
 ghost use Rattle.machine.specs.Sizes.{room};
 ghost use Rattle.machine.specs.View.{line_of, queue_len, buffer_len, issued_of};
 ghost use Rattle.machine.specs.Parts.{parts_of};
-ghost use Rattle.machine.specs.Rules.{is_barrier, barrier_rule, operation_rule};
+ghost use Rattle.machine.specs.Rules.{broken, is_barrier, barrier_rule, operation_rule};
 ghost use Rattle.machine.specs.Rules.{issue_rule, entry_of, loaded, fetched, exchanged, compared, performed};
 ghost use Rattle.machine.specs.Rules.{issue_of, await};
 ghost use Rattle.machine.specs.Fit.{Shallow};
 
 use crate::cells::{Entry, State, Waiting};
+use crate::rule::Rule;
 use crate::{change, look};
 use cases::case::{Instruction, Program, Thread, Write};
 use cases::operations::{
@@ -22,47 +23,41 @@ use cases::sizes::{INSTRUCTIONS, REGISTERS};
 fn is_barrier(op: u8) -> bool
     ensures { result ≡ is_barrier op }
 {
-    if op == EXCHANGE {
-        return true;
-    }
-    if op == COMPARE {
-        return true;
-    }
-    op == MFENCE
+    op == EXCHANGE || op == COMPARE || op == MFENCE
 }
 
-fn barrier_rule(s: &State, t: Thread) -> u8
+fn barrier_rule(s: &State, t: Thread) -> Result<(), Rule>
     requires { (t.0 < most_threads) × Shallow s.now.lengths }
-    ensures { result ≡ barrier_rule (parts_of s.now) t.0 }
+    ensures { broken result ≡ barrier_rule (parts_of s.now) t.0 }
 {
     if 0 < s.waiting[t.0 as usize] {
-        return 22;
+        return Err(Rule::BufferNotEmpty);
     }
     if look::is_marked(s, t) {
-        return 23;
+        return Err(Rule::MarkerQueued);
     }
-    0
+    Ok(())
 }
 
-pub(crate) fn operation_rule(op: u8, s: &State, t: Thread) -> u8
+pub(crate) fn operation_rule(op: u8, s: &State, t: Thread) -> Result<(), Rule>
     requires { (t.0 < most_threads) × Shallow s.now.lengths }
-    ensures { result ≡ operation_rule op (parts_of s.now) t.0 }
+    ensures { broken result ≡ operation_rule op (parts_of s.now) t.0 }
 {
-    if is_barrier(op) {
-        return barrier_rule(s, t);
+    if !is_barrier(op) {
+        return Ok(());
     }
-    0
+    barrier_rule(s, t)
 }
 
-// The rule that issuing a thread's next instruction breaks; 0 where it is legal.
-pub(crate) fn issue_rule(p: &Program, s: &State, t: Thread) -> u8
+// May a thread's next instruction be issued?
+pub(crate) fn issue_rule(p: &Program, s: &State, t: Thread) -> Result<(), Rule>
     requires { (t.0 < most_threads) × (count_at p.now t.0 ≤ most_instructions) × Shallow s.now.lengths }
-    ensures { result ≡ issue_rule p.now (parts_of s.now) t.0 }
+    ensures { broken result ≡ issue_rule p.now (parts_of s.now) t.0 }
 {
     let at = t.0 as usize;
     let n = s.issued[at];
     if p.counts[at] <= n {
-        return 21;
+        return Err(Rule::NothingToIssue);
     }
     let x = p.code[at * INSTRUCTIONS + (n as usize)];
     operation_rule(x.operation, s, t)
@@ -74,27 +69,19 @@ fn entry_of(s: &State, t: Thread, x: Instruction) -> Entry
     ensures { result ≡ entry_of s.now.registers t.0 x }
 {
     let l = x.location;
-    let op = x.operation;
-    if op == STORE_WORD {
-        return Entry::Store(Write {
+    match x.operation {
+        STORE_WORD => Entry::Store(Write {
             location: l,
             word: x.word,
-        });
-    }
-    if op == STORE_REGISTER {
-        let word = s.registers[(t.0 as usize) * REGISTERS + (x.register.0 as usize)];
-        return Entry::Store(Write {
+        }),
+        STORE_REGISTER => Entry::Store(Write {
             location: l,
-            word: word,
-        });
+            word: s.registers[(t.0 as usize) * REGISTERS + (x.register.0 as usize)],
+        }),
+        FLUSH => Entry::Flush(l),
+        FLUSH_OPT => Entry::FlushOpt(l),
+        _ => Entry::Sfence,
     }
-    if op == FLUSH {
-        return Entry::Flush(l);
-    }
-    if op == FLUSH_OPT {
-        return Entry::FlushOpt(l);
-    }
-    Entry::Sfence
 }
 
 // The register takes the newest store of the own buffer, else the newest write in the line's queue, else the
@@ -179,20 +166,13 @@ fn perform(p: &Program, s: State, t: Thread, x: Instruction) -> State
         × (queue_len s (line_of p.now x.location.0) < room) }
     ensures { result ≡ performed p.now s t.0 x }
 {
-    let op = x.operation;
-    if op == LOAD {
-        return load(p, s, t, x);
+    match x.operation {
+        LOAD => load(p, s, t, x),
+        EXCHANGE => exchange(p, s, t, x),
+        COMPARE => compare(p, s, t, x),
+        MFENCE => s,
+        _ => join_buffer(s, t, x),
     }
-    if op == EXCHANGE {
-        return exchange(p, s, t, x);
-    }
-    if op == COMPARE {
-        return compare(p, s, t, x);
-    }
-    if op == MFENCE {
-        return s;
-    }
-    join_buffer(s, t, x)
 }
 
 // A thread's next instruction issued, where it breaks no rule.

@@ -13,9 +13,9 @@ use cases::sizes::{INSTRUCTIONS, LOCATIONS};
 
 // Where a marker stands: its queue and its position there.
 #[derive(Clone, Copy)]
-pub enum Found {
-    At(Line, u8),
-    Nothing,
+pub struct Place {
+    pub line: Line,
+    pub position: u8,
 }
 
 // The line that a location lies on; 0 for a location that no program has, so that nobody needs to ask first.
@@ -64,17 +64,20 @@ pub(crate) fn newest_store(s: &State, t: Thread, l: Location, other: u32) -> u32
 }
 
 // The first marker of a thread, by queue and then by position.
-pub(crate) fn marker(s: &State, t: Thread) -> Found
+pub(crate) fn marker(s: &State, t: Thread) -> Option<Place>
     requires { (t.0 < most_threads) × Shallow s.now.lengths }
     ensures { result ≡ marker_of s.now.marks s.now.lengths t.0 }
 {
     let mark = t.0 + MARKER;
-    let mut found = Found::Nothing;
+    let mut found = None;
     'queues: for q in 0..LOCATIONS {
         let n = s.lengths[q];
         'entries: for i in 0..n {
             if s.marks[q * ROOM + (i as usize)] == mark {
-                found = Found::At(Line(q as u8), i);
+                found = Some(Place {
+                    line: Line(q as u8),
+                    position: i,
+                });
                 break 'queues;
             }
         }
@@ -87,10 +90,7 @@ pub(crate) fn is_marked(s: &State, t: Thread) -> bool
     requires { (t.0 < most_threads) × Shallow s.now.lengths }
     ensures { result ≡ marked s.now.marks s.now.lengths t.0 }
 {
-    match marker(s, t) {
-        Found::At(_, _) => true,
-        Found::Nothing => false,
-    }
+    marker(s, t).is_some()
 }
 
 // Does an entry keep a flush-opt of the line behind it?

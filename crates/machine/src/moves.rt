@@ -5,61 +5,64 @@ ghost use Rattle.machine.specs.Sizes.{room};
 ghost use Rattle.machine.specs.View.{queue_len, buffer, buffer_len};
 ghost use Rattle.machine.specs.Parts.{parts_of};
 ghost use Rattle.machine.specs.Rules.{effect_rule, effect_of, pass_rule, entry_at, move_rule, move_of};
-ghost use Rattle.machine.specs.Rules.{persist_rule, persist_of};
+ghost use Rattle.machine.specs.Rules.{broken, persist_rule, persist_of};
 ghost use Rattle.cases.specs.Ranges.{ProgramFits};
 ghost use Rattle.machine.specs.Fit.{Named, Shallow, Roomy};
 
 use crate::cells::{Entry, State};
+use crate::rule::Rule;
 use crate::sizes::{MARKER, ROOM};
 use crate::{change, look};
 use cases::case::{Line, Program, Thread};
 use cases::sizes::{INSTRUCTIONS, LOCATIONS};
 
-// The rule that an entry's effect breaks; 0 where it is legal.
-fn effect_rule(p: &Program, s: &State, t: Thread, e: Entry) -> u8
+// May an entry take effect?
+fn effect_rule(p: &Program, s: &State, t: Thread, e: Entry) -> Result<(), Rule>
     requires { ProgramFits p.now × (t.0 < most_threads) × Named most_locations e × Shallow s.now.lengths }
-    ensures { result ≡ effect_rule p.now (parts_of s.now) t.0 e }
+    ensures { broken result ≡ effect_rule p.now (parts_of s.now) t.0 e }
 {
     match e {
-        Entry::Store(_) => 0,
         Entry::Flush(l) => {
             let q = look::line_of(p, l);
-            if 0 < s.lengths[q.0 as usize] { 27 } else { 0 }
-        }
-        Entry::FlushOpt(_) => 0,
-        Entry::Sfence => { if look::is_marked(s, t) { 28 } else { 0 } }
-    }
-}
-
-// The rule that an entry breaks by going before others; 0 where it is legal.
-fn pass_rule(p: &Program, s: &State, t: Thread, i: u8, e: Entry) -> u8
-    requires { (t.0 < most_threads) × (i ≤ buffer_len s.now t.0)
-        × (buffer_len s.now t.0 ≤ most_instructions) }
-    ensures { result ≡ pass_rule p.now (buffer s.now t.0) i e }
-{
-    match e {
-        Entry::Store(_) => 25,
-        Entry::Flush(_) => 25,
-        Entry::FlushOpt(l) => {
-            if look::first_bar(p, s, t, i, look::line_of(p, l)) < i {
-                26
-            } else {
-                0
+            if 0 < s.lengths[q.0 as usize] {
+                return Err(Rule::LineNotEmpty);
             }
         }
-        Entry::Sfence => 25,
+        Entry::Sfence => {
+            if look::is_marked(s, t) {
+                return Err(Rule::MarkerBeforeSfence);
+            }
+        }
+        Entry::Store(_) => {}
+        Entry::FlushOpt(_) => {}
     }
+    Ok(())
 }
 
-// The rule that moving the entry at a position breaks; 0 where it is legal.
-pub(crate) fn move_rule(p: &Program, s: &State, t: Thread, i: u8) -> u8
+// May an entry go before the others?
+fn pass_rule(p: &Program, s: &State, t: Thread, i: u8, e: Entry) -> Result<(), Rule>
+    requires { (t.0 < most_threads) × (i ≤ buffer_len s.now t.0)
+        × (buffer_len s.now t.0 ≤ most_instructions) }
+    ensures { broken result ≡ pass_rule p.now (buffer s.now t.0) i e }
+{
+    let Entry::FlushOpt(l) = e else {
+        return Err(Rule::OnlyFlushOpt);
+    };
+    if look::first_bar(p, s, t, i, look::line_of(p, l)) < i {
+        return Err(Rule::HeldBack);
+    }
+    Ok(())
+}
+
+// May the entry at a position be moved?
+pub(crate) fn move_rule(p: &Program, s: &State, t: Thread, i: u8) -> Result<(), Rule>
     requires { ProgramFits p.now × (t.0 < most_threads) × (buffer_len s.now t.0 ≤ most_instructions)
         × Named most_locations (entry_at (buffer s.now t.0) 0) × Shallow s.now.lengths }
-    ensures { result ≡ move_rule p.now (parts_of s.now) t.0 i }
+    ensures { broken result ≡ move_rule p.now (parts_of s.now) t.0 i }
 {
     let at = t.0 as usize;
     if s.waiting[at] <= i {
-        return 24;
+        return Err(Rule::NothingThere);
     }
     let e = s.buffers[at * INSTRUCTIONS + (i as usize)].entry;
     if i == 0 {
@@ -101,15 +104,15 @@ pub(crate) fn move_entry(p: &Program, s: State, t: Thread, i: u8) -> State
     take_effect(p, u, t, e)
 }
 
-// The rule that persisting the oldest entry of a line's queue breaks; 0 where it is legal.
-pub(crate) fn persist_rule(s: &State, q: Line) -> u8
+// May the oldest entry of a line's queue be persisted?
+pub(crate) fn persist_rule(s: &State, q: Line) -> Result<(), Rule>
     requires { q.0 < most_locations }
-    ensures { result ≡ persist_rule (parts_of s.now) q.0 }
+    ensures { broken result ≡ persist_rule (parts_of s.now) q.0 }
 {
     if s.lengths[q.0 as usize] == 0 {
-        return 29;
+        return Err(Rule::NothingQueued);
     }
-    0
+    Ok(())
 }
 
 // The oldest entry of a line's queue persisted, where there is one.

@@ -11,7 +11,8 @@ use cases::case::Case;
 use cases::reader;
 
 // Legal with the number of steps; illegal with the rule, the index and the first entry in the way; refused with
-// the number and the offset.
+// the number and the offset. The rule and the refusal are 01's numbers, which the answers' definitions (`verdict_no`)
+// and theorems of proofs/Promises.antt say.
 #[derive(Clone, Copy)]
 pub enum Verdict {
     Legal(usize),
@@ -79,10 +80,13 @@ fn judge_run(c: &Case) -> Judged
     let mut s = steps::start_of(c.program);
     for i in 0..n {
         let k = c.run.steps[i];
-        let broken = steps::rule(p, &s, k);
-        if broken != 0 {
+        if let Err(broken) = steps::rule(p, &s, k) {
             return Judged {
-                verdict: Verdict::Illegal(broken, i, blocker::blocker_by(p, &s, k, broken)),
+                verdict: Verdict::Illegal(
+                    broken.number(),
+                    i,
+                    blocker::blocker_by(p, &s, k, broken),
+                ),
                 state: s,
             };
         }

@@ -1,13 +1,14 @@
 // A step by its code, and a single step given with a case and a state in memory.
 ghost use Rattle.std.specs.Prelude.{◌≡◌};
 ghost use Rattle.cases.specs.Checks.{limits_of, step_fault};
-ghost use Rattle.machine.specs.Rules.{rule_of, next_of, start_of};
+ghost use Rattle.machine.specs.Rules.{broken, rule_of, next_of, start_of};
 ghost use Rattle.machine.specs.Fit.{Fits};
 ghost use Rattle.machine.specs.Judge.{ruling_no, ruling_blocker, stepped_of, step_of, started_of};
 ghost use Rattle.machine.specs.Ptso.{ptso};
 
 use crate::blocker::Blocker;
 use crate::cells::{Entry, State, Waiting};
+use crate::rule::Rule;
 use crate::sizes::{ALL_REGISTERS, SLOTS};
 use crate::{blocker, fit, issue, moves};
 use cases::case::{Case, Line, Location, Program, Step, Write};
@@ -15,7 +16,8 @@ use cases::checks;
 use cases::operations::{ISSUE, MOVE};
 use cases::sizes::{CODE, LOCATIONS, THREADS};
 
-// What is said of a step: legal, a rule broken and the first entry in the way, or the input refused.
+// What is said of a step: legal, a rule broken and the first entry in the way, or the input refused. The rule and the
+// refusal are 01's numbers, which the answers' definitions (`ruling_no`) and theorems of proofs/Promises.antt say.
 #[derive(Clone, Copy)]
 pub enum Ruling {
     Allowed,
@@ -74,19 +76,16 @@ pub fn start_of(p: Program) -> State
     }
 }
 
-// The rule that a step breaks; 0 where it is legal.
-pub(crate) fn rule(p: &Program, s: &State, k: Step) -> u8
+// May a step be taken?
+pub(crate) fn rule(p: &Program, s: &State, k: Step) -> Result<(), Rule>
     requires { Fits p.now s.now × (step_fault (limits_of p.now) k ≡ 0) }
-    ensures { result ≡ rule_of p.now s.now k }
+    ensures { broken result ≡ rule_of p.now s.now k }
 {
-    let code = k.code;
-    if code == ISSUE {
-        return issue::issue_rule(p, s, k.thread);
+    match k.code {
+        ISSUE => issue::issue_rule(p, s, k.thread),
+        MOVE => moves::move_rule(p, s, k.thread, k.position),
+        _ => moves::persist_rule(s, Line(k.location.0)),
     }
-    if code == MOVE {
-        return moves::move_rule(p, s, k.thread, k.position);
-    }
-    moves::persist_rule(s, Line(k.location.0))
 }
 
 // The state after a legal step, which was tested before.
@@ -94,14 +93,11 @@ pub(crate) fn take_step(p: &Program, s: State, k: Step) -> State
     requires { Fits p.now s × (step_fault (limits_of p.now) k ≡ 0) × (rule_of p.now s k ≡ 0) }
     ensures { result ≡ next_of p.now s k }
 {
-    let code = k.code;
-    if code == ISSUE {
-        return issue::issue(p, s, k.thread);
+    match k.code {
+        ISSUE => issue::issue(p, s, k.thread),
+        MOVE => moves::move_entry(p, s, k.thread, k.position),
+        _ => moves::persist(s, Line(k.location.0)),
     }
-    if code == MOVE {
-        return moves::move_entry(p, s, k.thread, k.position);
-    }
-    moves::persist(s, Line(k.location.0))
 }
 
 // Where a case's runs start: 32 first.
@@ -133,10 +129,9 @@ fn step_in(p: &Program, s: State, k: Step) -> Stepped
             state: s,
         };
     }
-    let broken = rule(p, &s, k);
-    if broken != 0 {
+    if let Err(broken) = rule(p, &s, k) {
         return Stepped {
-            ruling: Ruling::Broken(broken, blocker::blocker_by(p, &s, k, broken)),
+            ruling: Ruling::Broken(broken.number(), blocker::blocker_by(p, &s, k, broken)),
             state: s,
         };
     }

@@ -2,6 +2,7 @@
 -- from what the code has at hand. Assumes nothing.
 use Prim.Native.Nat.{ℕ, ◌+◌, ◌*◌, ◌≤◌, ◌<◌}
 use mathlib.Core.Path.{◌≡◌, refl, sym, ap, ◌∙◌}
+use mathlib.Core.Logic.{◌≢◌}
 use mathlib.Core.List.{List, ◌∷◌}
 use mathlib.Core.Bool.{false}
 use native.Mathlib.Omega.{arith}
@@ -20,7 +21,7 @@ use borrow.Author.Tests.{eq-eqb, ne_eqb, lt-leb, lt-ltb, le-ltb}
 use Rattle.machine.specs.declared.cells.State.{State}
 use Rattle.machine.specs.declared.cells.Waiting.{Waiting}
 use Rattle.machine.specs.declared.cells.Entry.{Entry}
-use Rattle.machine.specs.declared.cells.Entry.TheVariants.{Store, Flush, FlushOpt}
+use Rattle.machine.specs.declared.cells.Entry.TheVariants.{Store, Flush, FlushOpt, Sfence}
 use Rattle.machine.specs.Sizes.{room, all_slots, first_marker}
 use Rattle.machine.specs.View.{Slot, line_of, without, marks_in, queue_in, queue, queue_len, with_queue}
 use Rattle.machine.specs.View.{word_of, with_word, blank_waiting, buffer_in, buffer, buffer_len, with_buffer}
@@ -65,6 +66,15 @@ module _ (p : Program) (x : Parts) (t : ℕ) (l : Location) (e : Entry) (is : e 
   pub move_flush_free : get_or x.lengths q 0 ≤ 0 → 0 ≡ effect_rule p x t e
   unfolding effect_rule
   move_flush_free h = rw (is, ← goes) (refuse_next _ 0 27 0 (le-ltb _ _ h) refl)
+
+-- pass_rule: what is no flush-opt does not go before others
+pub move_held_back : (p : Program) (b : List Waiting) (i : ℕ) (e : Entry) → ((l : Location) → e ≢ FlushOpt l)
+    → 25 ≡ pass_rule p b i e
+unfolding pass_rule
+move_held_back p b i (Store w) h = refl
+move_held_back p b i (Flush l) h = refl
+move_held_back p b i (FlushOpt l) h = absurd (h l refl)
+move_held_back p b i Sfence h = refl
 
 -- Roomy: there is room for an entry in the queue of a location; taking an entry out of a buffer leaves it
 pub roomy_is : (p : Program) → ProgramFits p → (s : State) → Roomy s → (l : ℕ) → l < most_locations → (q : ℕ)

@@ -20,7 +20,7 @@ use Rattle.cases.proofs.Promises.{thread_low}
 use Rattle.machine.specs.declared.cells.State.{State}
 use Rattle.machine.specs.declared.cells.Entry.{Entry}
 use Rattle.machine.specs.declared.cells.Entry.TheVariants.{Store, Flush, FlushOpt, Sfence}
-use Rattle.machine.specs.declared.look.Found.TheVariants.{Nothing}
+use Rattle.std.specs.Prelude.{None}
 use Rattle.machine.specs.View.{part, line_of, marks_in, queue, queue_len, buffer_in, buffer, buffer_len}
 use Rattle.machine.specs.View.{issued_of}
 use Rattle.machine.specs.Parts.{Parts, parts_of}
@@ -41,7 +41,7 @@ use Rattle.machine.proofs.steps.StepFaultLaws.{issue_fault, move_fault, persist_
 -- Where no queue holds anything: no marker is found, every entry may take effect, every operation may be issued
 -- with an empty buffer
 module _ (x : Parts) (none : (q : ℕ) → q < most_locations → get_or x.lengths q 0 ≡ 0) (t : ℕ) where
-  empty_none : (k q : ℕ) → q + k ≤ most_locations → marker_from x.marks x.lengths t k q ≡ Nothing
+  empty_none : (k q : ℕ) → q + k ≤ most_locations → marker_from x.marks x.lengths t k q ≡ None
   unfolding marker_from marker_among marks_in part
   empty_none zero q h = refl
   empty_none (suc k) q h = rw (none q (omega arith)) (empty_none k (suc q) (omega arith))

@@ -1,43 +1,53 @@
 -- `blocker_by` meets its contract. Assumes nothing.
 use Rattle.std.proofs.Common.{arith}
-use Rattle.cases.proofs.ChoiceLaws.{choices}
+use Rattle.cases.specs.Choice.{pick}
 use Rattle.machine.specs.Blocker.{blocker_by}
+use Rattle.machine.proofs.blocker.BlockerLaws.{blocker_none}
 use Rattle.machine.proofs.blocker.blocker_by.Goals as goal
 
-pub returns-then-broken-eq22 : goal.returns-then-broken-eq22
-unfolding blocker_by
-returns-then-broken-eq22 c = search choices
+pub returns-in-BufferNotEmpty : goal.returns-in-BufferNotEmpty
+unfolding blocker_by pick
+returns-in-BufferNotEmpty c = rw c.in-BufferNotEmpty.is
 
-pub returns-then-broken-eq23 : goal.returns-then-broken-eq23
-unfolding blocker_by
-returns-then-broken-eq23 c = rw (c.marker_place.ensures, c.marker.ensures) (search choices)
+pub returns-in-MarkerQueued : goal.returns-in-MarkerQueued
+unfolding blocker_by pick
+returns-in-MarkerQueued c = rw (c.in-MarkerQueued.is, c.marker_place.ensures, c.marker.ensures)
 
 pub entry_line-q-requires : goal.entry_line-q-requires
 entry_line-q-requires c =
-    (c.requires.0, c.requires.3 (omega arith) (omega arith), c.requires.1)
+    let waits = rw c.in-HeldBack.is at c.requires.3 in
+    (c.requires.0, waits (omega arith) (omega arith), c.requires.1)
 
 pub first_bar-requires : goal.first_bar-requires
 first_bar-requires c =
-    let here = c.requires.3 (omega arith) (omega arith) in
+    let waits = rw c.in-HeldBack.is at c.requires.3 in
+    let here = waits (omega arith) (omega arith) in
     (c.requires.0, omega arith, c.requires.1)
 
-pub returns-then-broken-eq26 : goal.returns-then-broken-eq26
-unfolding blocker_by
-returns-then-broken-eq26 c = rw (c.first_bar.ensures, c.entry_line-q.ensures) (search choices)
+pub returns-in-HeldBack : goal.returns-in-HeldBack
+unfolding blocker_by pick
+returns-in-HeldBack c = rw (c.in-HeldBack.is, c.first_bar.ensures, c.entry_line-q.ensures)
 
 pub entry_line-requires : goal.entry_line-requires
 entry_line-requires c =
-    (c.requires.0, c.requires.3 (omega arith) (omega arith), c.requires.1)
+    let waits = rw c.in-LineNotEmpty.is at c.requires.3 in
+    (c.requires.0, waits (omega arith) (omega arith), c.requires.1)
 
-pub returns-then-broken-eq27 : goal.returns-then-broken-eq27
-unfolding blocker_by
-returns-then-broken-eq27 c = rw (← c.entry_line.ensures) (search choices)
+pub returns-in-LineNotEmpty : goal.returns-in-LineNotEmpty
+unfolding blocker_by pick
+returns-in-LineNotEmpty c = rw (c.in-LineNotEmpty.is, ← c.entry_line.ensures)
 
-pub returns-then-broken-eq28 : goal.returns-then-broken-eq28
-unfolding blocker_by
-returns-then-broken-eq28 c =
-    rw (c.marker_place-then-broken-eq28.ensures, c.marker-then-broken-eq28.ensures) (search choices depth 9)
+pub returns-in-MarkerBeforeSfence : goal.returns-in-MarkerBeforeSfence
+unfolding blocker_by pick
+returns-in-MarkerBeforeSfence c =
+    rw (
+      c.in-MarkerBeforeSfence.is,
+      c.marker_place-in-MarkerBeforeSfence.ensures,
+      c.marker-in-MarkerBeforeSfence.ensures,
+    )
 
-pub returns : goal.returns
-unfolding blocker_by
-returns c = search choices depth 9
+pub returns-in_default : goal.returns-in_default
+returns-in_default c =
+    let n = c.in_default in
+    blocker_none _ _ _ _ n.not-BufferNotEmpty n.not-MarkerQueued n.not-HeldBack n.not-LineNotEmpty
+    n.not-MarkerBeforeSfence

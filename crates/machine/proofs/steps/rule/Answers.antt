@@ -1,5 +1,6 @@
 -- `rule` meets its contract: each kind of step has what its rule asks for. Assumes nothing.
 use Rattle.std.proofs.Common.{arith}
+use Rattle.cases.specs.Choice.{pick}
 use Rattle.cases.proofs.ChoiceLaws.{choices}
 use Rattle.machine.specs.Rules.{rule_of, rule_in}
 use Rattle.machine.proofs.rules.ReadyLaws.{issue_rule_ready, move_rule_ready, persist_low}
@@ -8,21 +9,21 @@ use Rattle.machine.proofs.steps.rule.Goals as goal
 pub issue_rule-requires : goal.issue_rule-requires
 issue_rule-requires c = issue_rule_ready _ _ c.requires.0 _ c.requires.1 (omega arith)
 
-pub returns-then-code-eq-ISSUE : goal.returns-then-code-eq-ISSUE
-unfolding rule_of rule_in
-returns-then-code-eq-ISSUE c = search choices
+pub returns-in-0 : goal.returns-in-0
+unfolding rule_of rule_in pick
+returns-in-0 c = rw c.in-0.is c.issue_rule.ensures
 
 pub move_rule-requires : goal.move_rule-requires
 move_rule-requires c = move_rule_ready _ _ c.requires.0 _ c.requires.1 (omega arith)
 
-pub returns-then-code-eq-MOVE : goal.returns-then-code-eq-MOVE
-unfolding rule_of rule_in
-returns-then-code-eq-MOVE c = search choices
+pub returns-in-1 : goal.returns-in-1
+unfolding rule_of rule_in pick
+returns-in-1 c = rw c.in-1.is c.move_rule.ensures
 
 pub persist_rule-requires : goal.persist_rule-requires
 persist_rule-requires c =
     persist_low _ c.requires.0.program c.args.k c.requires.1 (λ z. omega arith) (λ z. omega arith)
 
-pub returns : goal.returns
+pub returns-in_default : goal.returns-in_default
 unfolding rule_of rule_in
-returns c = search choices
+returns-in_default c = search choices

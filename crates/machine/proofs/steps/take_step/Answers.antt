@@ -1,5 +1,6 @@
 -- `take_step` meets its contract: each kind of step has what its function asks for. Assumes nothing.
 use Rattle.std.proofs.Common.{arith}
+use Rattle.cases.specs.Choice.{pick}
 use Rattle.cases.proofs.ChoiceLaws.{choices}
 use Rattle.machine.specs.Rules.{next_of}
 use Rattle.machine.proofs.rules.ReadyLaws.{issue_ready, move_ready, persist_ready}
@@ -9,23 +10,23 @@ pub issue-requires : goal.issue-requires
 issue-requires c =
     issue_ready c.args.p.now c.args.s c.requires.0 c.args.k c.requires.1 c.requires.2 (omega arith)
 
-pub returns-then-code-eq-ISSUE : goal.returns-then-code-eq-ISSUE
-unfolding next_of
-returns-then-code-eq-ISSUE c = search choices
+pub returns-in-0 : goal.returns-in-0
+unfolding next_of pick
+returns-in-0 c = rw c.in-0.is c.issue.ensures
 
 pub move_entry-requires : goal.move_entry-requires
 move_entry-requires c =
     move_ready c.args.p.now c.args.s c.requires.0 c.args.k c.requires.1 c.requires.2 (omega arith)
 
-pub returns-then-code-eq-MOVE : goal.returns-then-code-eq-MOVE
-unfolding next_of
-returns-then-code-eq-MOVE c = search choices
+pub returns-in-1 : goal.returns-in-1
+unfolding next_of pick
+returns-in-1 c = rw c.in-1.is c.move_entry.ensures
 
 pub persist-requires : goal.persist-requires
 persist-requires c =
     persist_ready c.args.p.now c.args.s c.requires.0 c.args.k c.requires.1 c.requires.2
     (λ z. omega arith) (λ z. omega arith)
 
-pub returns : goal.returns
+pub returns-in_default : goal.returns-in_default
 unfolding next_of
-returns c = search choices
+returns-in_default c = search choices
