@@ -17,6 +17,14 @@ pub struct Waiting {
     pub entry: Entry,
 }
 
+// What stands where no entry waits.
+pub(crate) const BLANK: Waiting = Waiting {
+    entry: Entry::Store(Write {
+        location: Location(0),
+        word: 0,
+    }),
+};
+
 // Line q's queue holds the first lengths[q] slots from q * ROOM on, a slot a word and a mark side by side: the
 // mark of a write is its location, that of a marker MARKER and its thread. Buffer t holds the first waiting[t]
 // entries from t * INSTRUCTIONS on, and register r of thread t stands at t * REGISTERS + r.

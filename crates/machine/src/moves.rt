@@ -9,7 +9,7 @@ ghost use Rattle.machine.specs.Rules.{broken, persist_rule, persist_of};
 ghost use Rattle.cases.specs.Ranges.{ProgramFits};
 ghost use Rattle.machine.specs.Fit.{Named, Shallow, Roomy};
 
-use crate::cells::{Entry, State};
+use crate::cells::{BLANK, Entry, State};
 use crate::rule::Rule;
 use crate::sizes::{MARKER, ROOM};
 use crate::{change, look};
@@ -95,11 +95,13 @@ pub(crate) fn move_entry(p: &Program, s: State, t: Thread, i: u8) -> State
     let at = t.0 as usize;
     let base = at * INSTRUCTIONS;
     let n = u.waiting[at];
-    let b = u.buffers;
-    let w = b[base + (i as usize)];
-    let e = w.entry;
-    let closed = change::close_entries(b, base + (i as usize), base + (n as usize));
-    u.buffers = closed;
+    let e = u.buffers[base + (i as usize)].entry;
+    change::close(
+        &mut u.buffers,
+        base + (i as usize),
+        base + (n as usize),
+        BLANK,
+    );
     u.waiting[at] = n - 1;
     take_effect(p, u, t, e)
 }
@@ -127,8 +129,8 @@ pub(crate) fn persist(s: State, q: Line) -> State
     let word = u.held[base];
     let to = u.marks[base] as usize;
     let end = base + (n as usize);
-    change::close_words(&mut u.held, base, end);
-    change::close_marks(&mut u.marks, base, end);
+    change::close(&mut u.held, base, end, 0);
+    change::close(&mut u.marks, base, end, 0);
     u.lengths[at] = n - 1;
     // A marker's mark is no location.
     if LOCATIONS <= to {

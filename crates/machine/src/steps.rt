@@ -7,11 +7,11 @@ ghost use Rattle.machine.specs.Judge.{ruling_no, ruling_blocker, stepped_of, ste
 ghost use Rattle.machine.specs.Ptso.{ptso};
 
 use crate::blocker::Blocker;
-use crate::cells::{Entry, State, Waiting};
+use crate::cells::{BLANK, State};
 use crate::rule::Rule;
 use crate::sizes::{ALL_REGISTERS, SLOTS};
 use crate::{blocker, fit, issue, moves};
-use cases::case::{Case, Line, Location, Program, Step, Write};
+use cases::case::{Case, Line, Program, Step};
 use cases::checks;
 use cases::operations::{ISSUE, MOVE};
 use cases::sizes::{CODE, LOCATIONS, THREADS};
@@ -58,18 +58,12 @@ pub fn start_of(p: Program) -> State
     ensures { result ≡ start_of p }
 {
     let first = p.first;
-    let blank = Waiting {
-        entry: Entry::Store(Write {
-            location: Location(0),
-            word: 0,
-        }),
-    };
     State {
         words: first,
         held: [0u32; SLOTS],
         marks: [0u8; SLOTS],
         lengths: [0u8; LOCATIONS],
-        buffers: [blank; CODE],
+        buffers: [BLANK; CODE],
         waiting: [0u8; THREADS],
         registers: [0u32; ALL_REGISTERS],
         issued: [0u8; THREADS],
