@@ -16,20 +16,24 @@ use cases::operations::{
 };
 use cases::sizes::{INSTRUCTIONS, LOCATIONS, THREADS};
 
-// The work left, or the number of the refusal.
-#[derive(Clone, Copy)]
-pub enum Weighed {
-    Left(usize),
-    Unweighed(u8),
+// Why the work is not told: the case is none that can be read, or the state doesn't fit it.
+#[derive(Clone, Copy, PartialEq, Eq)]
+pub enum Unweighed {
+    Unreadable,
+    Misfit,
 }
+
+// The work left, or why it is not told.
+pub type Weighed = Result<usize, Unweighed>;
 
 // The refusal's number, 0 where there is none.
 pub fn weighed_number(w: Weighed) -> u8
     ensures { result ≡ weighed_no w }
 {
     match w {
-        Weighed::Left(_) => 0,
-        Weighed::Unweighed(n) => n,
+        Ok(_) => 0,
+        Err(Unweighed::Unreadable) => 32,
+        Err(Unweighed::Misfit) => 33,
     }
 }
 
@@ -37,10 +41,7 @@ pub fn weighed_number(w: Weighed) -> u8
 pub fn weighed_work(w: Weighed) -> usize
     ensures { result ≡ weighed_work w }
 {
-    match w {
-        Weighed::Left(n) => n,
-        Weighed::Unweighed(_) => 0,
-    }
+    w.unwrap_or(0)
 }
 
 // The weight of an instruction that is not issued, by its operation.
@@ -150,12 +151,12 @@ pub fn work_left(c: Case, s: State) -> Weighed
     ensures { result ≡ work_of c s }
 {
     if !cases::reads_back(c) {
-        return Weighed::Unweighed(32);
+        return Err(Unweighed::Unreadable);
     }
     if fit::is_misfit(&c.program, &s) {
-        return Weighed::Unweighed(33);
+        return Err(Unweighed::Misfit);
     }
-    Weighed::Left(work_in(c.program, s))
+    Ok(work_in(c.program, s))
 }
 
 // The full length of a case's program: 32 first.
@@ -163,8 +164,8 @@ pub fn full_length(c: Case) -> Weighed
     ensures { result ≡ full_of c }
 {
     if !cases::reads_back(c) {
-        return Weighed::Unweighed(32);
+        return Err(Unweighed::Unreadable);
     }
     let p = c.program;
-    Weighed::Left(work_in(p, steps::start_of(p)))
+    Ok(work_in(p, steps::start_of(p)))
 }

@@ -12,7 +12,7 @@ use Rattle.cases.specs.declared.case.Case.{Case}
 use Rattle.cases.specs.Choice.{pick}
 use Rattle.cases.specs.Writing.{reads_back}
 use Rattle.machine.specs.declared.cells.State.{State}
-use Rattle.machine.specs.declared.work.Weighed.TheVariants.{Left}
+use Rattle.std.specs.Prelude.{Ok}
 use Rattle.machine.specs.View.{part, without}
 use Rattle.machine.specs.Rules.{start_of}
 use Rattle.machine.specs.Fit.{misfits}
@@ -104,10 +104,10 @@ module _ {A : Type 0} {f : A → ℕ} {xs : List A} {base n most weight i : ℕ}
 -- what is told of a case that passes 32: with a state that passes 33, and of its full length
 module _ (c : Case) (readable : reads_back c ≡ true) where
   pub work_told : (s : State) → misfits c.program s ≡ false → (n : ℕ) → n ≡ work c.program s
-      → Left n ≡ work_of c s
+      → Ok n ≡ work_of c s
   unfolding work_of pick
   work_told s h n e = rw (readable, h, e)
 
-  pub full_told : (s : State) → s ≡ start_of c.program → (n : ℕ) → n ≡ work c.program s → Left n ≡ full_of c
+  pub full_told : (s : State) → s ≡ start_of c.program → (n : ℕ) → n ≡ work c.program s → Ok n ≡ full_of c
   unfolding full_of full_length pick
   full_told s h n e = rw (readable, e, h)
