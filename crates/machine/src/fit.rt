@@ -1,5 +1,6 @@
 // Refusal 33: does a state in memory fit its program? Anything of the types may be given.
-ghost use Rattle.std.specs.Prelude.{◌≡◌, ◌*◌, ◌<◌, ◌≤◌};
+ghost use Rattle.std.specs.Prelude.{◌≡◌, ◌*◌, ◌^◌, ◌<◌, ◌≤◌, length, sum};
+ghost use Rattle.std.specs.List.{list_any};
 ghost use Rattle.cases.specs.Sizes.{most_threads, most_instructions, most_locations};
 ghost use Rattle.machine.specs.Sizes.{room};
 ghost use Rattle.machine.specs.View.{marks_in, queue_len, buffer, buffer_len};
@@ -29,16 +30,9 @@ fn is_stray(w: Waiting, locations: u8) -> bool
 // Does one of a thread's waiting entries?
 fn has_stray(s: &State, t: Thread, locations: u8) -> bool
     requires { (t.0 < most_threads) × (buffer_len s.now t.0 ≤ most_instructions) }
-    ensures { result ≡ any_of (strayed locations) (buffer s.now t.0) }
+    ensures { result ≡ list_any (strayed locations) (buffer s.now t.0) }
 {
-    let base = (t.0 as usize) * INSTRUCTIONS;
-    let n = s.waiting[t.0 as usize] as usize;
-    for i in 0..n {
-        if is_stray(s.buffers[base + i], locations) {
-            return true;
-        }
-    }
-    false
+    s.buffer(t).iter().any(|w| is_stray(*w, locations))
 }
 
 // Does a mark not belong in a line's queue: the thread or the location of none, or a location of another line?
@@ -57,16 +51,9 @@ fn is_foreign(p: &Program, q: Line, mark: u8) -> bool
 // Does one of a queue's marks?
 fn has_foreign(p: &Program, s: &State, q: Line) -> bool
     requires { (q.0 < most_locations) × (queue_len s.now q.0 ≤ room) }
-    ensures { result ≡ any_of (foreign p.now q.0) (marks_in s.now.marks s.now.lengths q.0) }
+    ensures { result ≡ list_any (foreign p.now q.0) (marks_in s.now.marks s.now.lengths q.0) }
 {
-    let base = (q.0 as usize) * ROOM;
-    let n = s.lengths[q.0 as usize] as usize;
-    for i in 0..n {
-        if is_foreign(p, q, s.marks[base + i]) {
-            return true;
-        }
-    }
-    false
+    s.queued(q).iter().any(|m| is_foreign(p, q, *m))
 }
 
 // How many of a thread's instructions are not issued; 0 where more are issued than it has.
@@ -108,15 +95,13 @@ fn threads_misfit(p: &Program, s: &State) -> bool
     false
 }
 
-// All entries in store buffers.
-fn all_waiting(s: &State) -> usize
-    ensures { (result ≡ sum_to most_threads (buffer_len s.now)) × (result ≤ 255 * most_threads) }
+// All of these counts, of entries in buffers or in queues.
+pub(crate) fn total(counts: &[u8]) -> usize
+    requires { length counts.now ≤ 256 }
+    ensures is { result ≡ sum counts.now }
+    ensures few { result ≤ length counts.now * 255 }
 {
-    let mut n: usize = 0;
-    for t in 0..THREADS {
-        n += s.waiting[t] as usize;
-    }
-    n
+    counts.iter().map(|n| *n as usize).sum()
 }
 
 // All instructions that are not issued.
@@ -148,7 +133,7 @@ fn queue_misfits(p: &Program, s: &State, q: Line, coming: usize) -> bool
 fn queues_misfit(p: &Program, s: &State) -> bool
     ensures { result ≡ any_from 0 most_locations (queue_misfits p.now s.now) }
 {
-    let coming = all_waiting(s) + all_unissued(p, s);
+    let coming = total(&s.waiting) + all_unissued(p, s);
     for q in 0..LOCATIONS {
         if queue_misfits(p, s, Line(q as u8), coming) {
             return true;

@@ -1,5 +1,5 @@
 // The work left, and the full length.
-ghost use Rattle.std.specs.Prelude.{◌≡◌, ◌+◌, ◌*◌, ◌<◌, ◌≤◌};
+ghost use Rattle.std.specs.Prelude.{◌≡◌, ◌+◌, ◌*◌, ◌<◌, ◌≤◌, length, sum_by};
 ghost use Rattle.cases.specs.Sizes.{most_threads, most_instructions, most_locations, all_code};
 ghost use Rattle.cases.specs.Checks.{count_at};
 ghost use Rattle.machine.specs.View.{buffer, buffer_len, queue_len, issued_of};
@@ -10,7 +10,7 @@ ghost use Rattle.machine.specs.Judge.{weighed_no, weighed_work, work_of, full_of
 
 use crate::cells::{Entry, State, Waiting};
 use crate::{fit, steps};
-use cases::case::{Case, Program, Thread};
+use cases::case::{Case, Instruction, Program, Thread};
 use cases::operations::{
     COMPARE, EXCHANGE, FLUSH, FLUSH_OPT, LOAD, SFENCE, STORE_REGISTER, STORE_WORD,
 };
@@ -88,33 +88,42 @@ fn waiting_weight(w: Waiting) -> usize
     }
 }
 
+// The instructions of a thread that are not issued yet.
+fn unissued<'a>(p: &'a Program, s: &State, t: Thread) -> &'a [Instruction]
+    requires { (t.0 < most_threads) × (issued_of s.now t.0 ≤ count_at p.now t.0)
+        × (count_at p.now t.0 ≤ most_instructions) }
+    ensures is { result.now ≡ unissued_code p.now s.now t.0 }
+    ensures few { length result.now ≤ most_instructions }
+{
+    let at = t.0 as usize;
+    let base = at * INSTRUCTIONS;
+    &p.code[base + (s.issued[at] as usize)..base + (p.counts[at] as usize)]
+}
+
 fn weigh_code(p: &Program, s: &State, t: Thread) -> usize
     requires { (t.0 < most_threads) × (issued_of s.now t.0 ≤ count_at p.now t.0)
         × (count_at p.now t.0 ≤ most_instructions) }
-    ensures { (result ≡ weigh code_weight (unissued_code p.now s.now t.0)) × (result ≤ 3 * most_instructions) }
+    ensures { result ≡ sum_by code_weight (unissued_code p.now s.now t.0) }
 {
-    let at = t.0 as usize;
-    let done = s.issued[at];
-    let base = at * INSTRUCTIONS + (done as usize);
-    let n = (p.counts[at] - done) as usize;
-    let mut weight: usize = 0;
-    for i in 0..n {
-        weight += unissued_weight(p.code[base + i].operation);
-    }
-    weight
+    unissued(p, s, t)
+        .iter()
+        .map(|x| unissued_weight(x.operation))
+        .sum()
 }
 
 fn weigh_buffer(s: &State, t: Thread) -> usize
     requires { (t.0 < most_threads) × (buffer_len s.now t.0 ≤ most_instructions) }
-    ensures { (result ≡ weigh entry_weight (buffer s.now t.0)) × (result ≤ 2 * most_instructions) }
+    ensures { result ≡ sum_by entry_weight (buffer s.now t.0) }
 {
-    let base = (t.0 as usize) * INSTRUCTIONS;
-    let n = s.waiting[t.0 as usize] as usize;
-    let mut weight: usize = 0;
-    for i in 0..n {
-        weight += waiting_weight(s.buffers[base + i]);
-    }
-    weight
+    s.buffer(t).iter().map(|w| waiting_weight(*w)).sum()
+}
+
+fn thread_work(p: &Program, s: &State, t: Thread) -> usize
+    requires { (t.0 < most_threads) × (issued_of s.now t.0 ≤ count_at p.now t.0)
+        × (count_at p.now t.0 ≤ most_instructions) × (buffer_len s.now t.0 ≤ most_instructions) }
+    ensures { (result ≡ thread_work p.now s.now t.0) × (result ≤ 5 * most_instructions) }
+{
+    weigh_code(p, s, t) + weigh_buffer(s, t)
 }
 
 fn threads_work(p: &Program, s: &State) -> usize
@@ -123,17 +132,7 @@ fn threads_work(p: &Program, s: &State) -> usize
 {
     let mut total: usize = 0;
     for t in 0..THREADS {
-        total += weigh_code(p, s, Thread(t as u8)) + weigh_buffer(s, Thread(t as u8));
-    }
-    total
-}
-
-fn queues_work(s: &State) -> usize
-    ensures { (result ≡ sum_to most_locations (queue_len s.now)) × (result ≤ most_locations * 256) }
-{
-    let mut total: usize = 0;
-    for l in 0..LOCATIONS {
-        total += s.lengths[l] as usize;
+        total += thread_work(p, s, Thread(t as u8));
     }
     total
 }
@@ -143,7 +142,7 @@ pub fn work_in(p: Program, s: State) -> usize
     requires { Fits p s }
     ensures { result ≡ work p s }
 {
-    threads_work(&p, &s) + queues_work(&s)
+    threads_work(&p, &s) + fit::total(&s.lengths)
 }
 
 // The work left of a case in a state in memory: 32, then 33.

@@ -1,5 +1,6 @@
 -- `thread_misfits` meets its contract. Assumes nothing.
-use Rattle.std.proofs.Common.{lt-ltb, le-ltb}
+use Rattle.std.proofs.Common.{◌∙◌, lt-ltb, le-ltb}
+use Rattle.machine.proofs.lists.AnyLaws.{any_of_is}
 use Rattle.machine.proofs.fit.MisfitLaws.{thread_misfits_over, thread_misfits_lacked}
 use Rattle.machine.proofs.fit.MisfitLaws.{thread_misfits_full, thread_misfits_rest}
 use Rattle.machine.proofs.fit.thread_misfits.Goals as goal
@@ -19,4 +20,4 @@ returns-then-n-unissued_of-gt-INSTRUCTIONS c =
 pub returns : goal.returns
 returns c =
     thread_misfits_rest _ _ _ c.if-p-at.false c.else-p-t.either (λ w. le-ltb _ _ w.1) (λ w. w) _
-    c.unissued_of.ensures.0 c.if-n-unissued_of-gt-INSTRUCTIONS.false _ c.has_stray.ensures
+    c.unissued_of.ensures.0 c.if-n-unissued_of-gt-INSTRUCTIONS.false _ (c.has_stray.ensures ∙ any_of_is _ _)
