@@ -87,12 +87,7 @@ fn thread_misfits(p: &Program, s: &State, t: Thread) -> bool
 fn threads_misfit(p: &Program, s: &State) -> bool
     ensures { result ≡ any_from 0 most_threads (thread_misfits p.now s.now) }
 {
-    for t in 0..THREADS {
-        if thread_misfits(p, s, Thread(t as u8)) {
-            return true;
-        }
-    }
-    false
+    (0..THREADS).any(|t| thread_misfits(p, s, Thread(t as u8)))
 }
 
 // All of these counts, of entries in buffers or in queues.

@@ -11,7 +11,7 @@ use native.Mathlib.Numerals.{add-one}
 use Rattle.cases.specs.Choice.{either}
 use Rattle.cases.proofs.ChoiceLaws.{either_false}
 use Rattle.machine.specs.Fit.{any_from, any_of}
-use Rattle.std.specs.List.{list_any}
+use Rattle.std.specs.List.{list_any, range_with_len}
 
 -- a test that is true of none of the n numbers from i on is false of each, and back
 pub any_none : (f : ℕ → Bool) (i n k : ℕ) → any_from i n f ≡ false → i ≤ k → k < i + n → f k ≡ false
@@ -58,7 +58,17 @@ module _ {f : ℕ → Bool} {n i : ℕ} (o : AskedSoFar f n i) where
   unfolding any_from
   any_end h = let e : n - i ≡ 0 = omega arith in rw e at o.rest
 
--- the library's test of a list is `any_of`
+-- the library's test of the n numbers from i on is `any_from`, that of a list `any_of`
+pub any_from_is : (f : ℕ → Bool) (i n : ℕ) → list_any f (range_with_len i n) ≡ any_from i n f
+unfolding any_from either
+any_from_is f i zero = refl
+any_from_is f i (suc n) = rw add-one (go (f i) (any_from_is f (suc i) n))
+  where
+    go : (b : Bool) → list_any f (range_with_len (suc i) n) ≡ any_from (suc i) n f
+        → (b || list_any f (range_with_len (suc i) n)) ≡ either b (any_from (suc i) n f)
+    go true e = refl
+    go false e = e
+
 pub any_of_is : {A : Type 0} (f : A → Bool) (xs : List A) → list_any f xs ≡ any_of f xs
 unfolding any_of either
 any_of_is f [] = refl
