@@ -107,6 +107,7 @@ pub(crate) fn move_entry(p: &Program, s: State, t: Thread, i: u8) -> State
 }
 
 // May the oldest entry of a line's queue be persisted?
+#[tactic(auto, using(cases::proofs::ChoiceLaws::choices), unfolding(crate::specs::Rules::persist_rule, cases::specs::Choice::refuse))]
 pub(crate) fn persist_rule(s: &State, q: Line) -> Result<(), Rule>
     requires { q.0 < most_locations }
     ensures { broken result ≡ persist_rule (parts_of s.now) q.0 }

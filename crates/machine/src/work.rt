@@ -45,37 +45,19 @@ pub fn weighed_work(w: Weighed) -> usize
 }
 
 // The weight of an instruction that is not issued, by its operation.
+#[tactic(auto, using(cases::proofs::ChoiceLaws::choices), unfolding(crate::specs::Work::unissued_weight, cases::specs::Choice::pick))]
 fn unissued_weight(op: u8) -> usize
     ensures { (result ≡ unissued_weight op) × (result ≤ 3) }
 {
-    if op == STORE_WORD {
-        return 3;
+    match op {
+        STORE_WORD | STORE_REGISTER | FLUSH_OPT => 3,
+        EXCHANGE | FLUSH | SFENCE | COMPARE => 2,
+        _ => 1,
     }
-    if op == STORE_REGISTER {
-        return 3;
-    }
-    if op == LOAD {
-        return 1;
-    }
-    if op == EXCHANGE {
-        return 2;
-    }
-    if op == FLUSH {
-        return 2;
-    }
-    if op == FLUSH_OPT {
-        return 3;
-    }
-    if op == SFENCE {
-        return 2;
-    }
-    if op == COMPARE {
-        return 2;
-    }
-    1
 }
 
 // The weight of an entry that waits.
+#[tactic(auto, using(cases::proofs::ChoiceLaws::choices), unfolding(crate::specs::Work::waiting_weight))]
 fn waiting_weight(w: Waiting) -> usize
     ensures { (result ≡ waiting_weight w.entry) × (result ≤ 2) }
 {
