@@ -25,6 +25,7 @@ pub(crate) fn enqueue(s: State, q: Line, word: u32, mark: u8) -> State
 }
 
 // The elements behind `from`, up to `end`, each one down, and the last of them blank.
+#[tactic(auto, using(crate::proofs::lists::PutLaws::shift_is), unfolding(crate::specs::View::close_gap))]
 pub(crate) fn close<T: Copy>(row: &mut [T], from: usize, end: usize, blank: T)
     requires { (from < end) × (end ≤ length row.old) }
     ensures { row.new ≡ close_gap blank from end row.old }

@@ -107,6 +107,7 @@ fn load(p: &Program, s: State, t: Thread, x: Instruction) -> State
 }
 
 // The register takes the newest write in the line's queue, else the persistent word.
+#[tactic(auto, unfolding(crate::specs::Rules::fetched, crate::specs::View::with_register, crate::specs::Look::queued_word))]
 fn fetch(p: &Program, s: State, t: Thread, x: Instruction) -> State
     requires { (t.0 < most_threads) × (x.location.0 < most_locations) × (x.register.0 < most_registers)
         × (line_of p.now x.location.0 < most_locations)
@@ -122,6 +123,7 @@ fn fetch(p: &Program, s: State, t: Thread, x: Instruction) -> State
 }
 
 // The register takes the old word; the instruction's goes to the queue's end.
+#[tactic(auto, unfolding(crate::specs::Rules::exchanged, crate::specs::Rules::fetched, crate::specs::View::with_register))]
 fn exchange(p: &Program, s: State, t: Thread, x: Instruction) -> State
     requires { (t.0 < most_threads) × (x.location.0 < most_locations) × (x.register.0 < most_registers)
         × (line_of p.now x.location.0 < most_locations)
@@ -182,6 +184,7 @@ fn perform(p: &Program, s: State, t: Thread, x: Instruction) -> State
 }
 
 // A thread's next instruction issued, where it breaks no rule.
+#[tactic(auto, unfolding(crate::specs::Rules::issue_of, crate::specs::View::with_issued))]
 pub(crate) fn issue(p: &Program, s: State, t: Thread) -> State
     requires { (t.0 < most_threads) × (issued_of s t.0 < most_instructions)
         × (buffer_len s t.0 < most_instructions)

@@ -19,6 +19,7 @@ pub struct Place {
 }
 
 // The line that a location lies on; 0 for a location that no program has, so that nobody needs to ask first.
+#[tactic(auto, using(crate::proofs::view::LineOfLaws::line_beyond), unfolding(crate::specs::View::line_of))]
 pub(crate) fn line_of(p: &Program, l: Location) -> Line
     ensures { result.0 ≡ line_of p.now l.0 }
 {
@@ -86,6 +87,7 @@ pub(crate) fn marker(s: &State, t: Thread) -> Option<Place>
 }
 
 // Does some queue hold a marker of the thread?
+#[tactic(auto, unfolding(crate::specs::Look::marked))]
 pub(crate) fn is_marked(s: &State, t: Thread) -> bool
     requires { (t.0 < most_threads) × Shallow s.now.lengths }
     ensures { result ≡ marked s.now.marks s.now.lengths t.0 }

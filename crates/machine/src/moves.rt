@@ -17,6 +17,7 @@ use cases::case::{Line, Program, Thread};
 use cases::sizes::{INSTRUCTIONS, LOCATIONS};
 
 // May an entry take effect?
+#[tactic(auto, using(cases::proofs::ChoiceLaws::choices), unfolding(crate::specs::Rules::effect_rule, cases::specs::Choice::refuse))]
 fn effect_rule(p: &Program, s: &State, t: Thread, e: Entry) -> Result<(), Rule>
     requires { ProgramFits p.now × (t.0 < most_threads) × Named most_locations e × Shallow s.now.lengths }
     ensures { broken result ≡ effect_rule p.now (parts_of s.now) t.0 e }
@@ -40,6 +41,7 @@ fn effect_rule(p: &Program, s: &State, t: Thread, e: Entry) -> Result<(), Rule>
 }
 
 // May an entry go before the others?
+#[tactic(auto, using(cases::proofs::ChoiceLaws::choices), unfolding(crate::specs::Rules::pass_rule, cases::specs::Choice::refuse))]
 fn pass_rule(p: &Program, s: &State, t: Thread, i: u8, e: Entry) -> Result<(), Rule>
     requires { (t.0 < most_threads) × (i ≤ buffer_len s.now t.0)
         × (buffer_len s.now t.0 ≤ most_instructions) }
@@ -72,6 +74,7 @@ pub(crate) fn move_rule(p: &Program, s: &State, t: Thread, i: u8) -> Result<(), 
 }
 
 // What an entry that has left its buffer does.
+#[tactic(auto, unfolding(crate::specs::Rules::effect_of))]
 fn take_effect(p: &Program, s: State, t: Thread, e: Entry) -> State
     requires { ProgramFits p.now × (t.0 < most_threads) × Named most_locations e × Roomy s }
     ensures { result ≡ effect_of p.now s t.0 e }

@@ -60,6 +60,7 @@ pub fn verdict_blocker(v: Verdict) -> Blocker
 }
 
 // Where reading or 32 stops the judge, the empty case's start goes along.
+#[tactic(auto, unfolding(crate::specs::Judge::stopped, crate::specs::Judge::judged))]
 fn stop(number: u8, offset: usize) -> Judged
     ensures { result ≡ stopped number offset }
 {
@@ -99,6 +100,7 @@ fn judge_run(c: &Case) -> Judged
 }
 
 // The run of a case in memory: 32 first.
+#[tactic(auto, using(cases::proofs::ChoiceLaws::choices), unfolding(crate::specs::Judge::judge_of, cases::specs::Choice::pick))]
 pub fn judge(c: Case) -> Judged
     ensures { result ≡ judge_of c }
 {
@@ -109,6 +111,7 @@ pub fn judge(c: Case) -> Judged
 }
 
 // The run of a case as bytes: reading first.
+#[tactic(auto, using(cases::proofs::ChoiceLaws::choices), unfolding(crate::specs::Judge::judge_bytes, cases::specs::Choice::pick))]
 pub fn judge_bytes(bytes: &[u8]) -> Judged
     ensures { result ≡ judge_bytes bytes.now }
 {

@@ -128,6 +128,7 @@ pub fn work_in(p: Program, s: State) -> usize
 }
 
 // The work left of a case in a state in memory: 32, then 33.
+#[tactic(auto, using(cases::proofs::ChoiceLaws::choices), unfolding(crate::specs::Judge::work_of, cases::specs::Choice::pick))]
 pub fn work_left(c: Case, s: State) -> Weighed
     ensures { result ≡ work_of c s }
 {
@@ -141,6 +142,7 @@ pub fn work_left(c: Case, s: State) -> Weighed
 }
 
 // The full length of a case's program: 32 first.
+#[tactic(auto, using(cases::proofs::ChoiceLaws::choices), unfolding(crate::specs::Judge::full_of, crate::specs::Model::full_length, cases::specs::Choice::pick))]
 pub fn full_length(c: Case) -> Weighed
     ensures { result ≡ full_of c }
 {

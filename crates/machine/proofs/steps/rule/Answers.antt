@@ -9,21 +9,9 @@ use Rattle.machine.proofs.steps.rule.Goals as goal
 pub issue_rule-requires : goal.issue_rule-requires
 issue_rule-requires c = issue_rule_ready _ _ c.requires.0 _ c.requires.1 (omega arith)
 
-pub returns-in-0 : goal.returns-in-0
-unfolding rule_of rule_in pick
-returns-in-0 c = rw c.in-0.is c.issue_rule.ensures
-
 pub move_rule-requires : goal.move_rule-requires
 move_rule-requires c = move_rule_ready _ _ c.requires.0 _ c.requires.1 (omega arith)
-
-pub returns-in-1 : goal.returns-in-1
-unfolding rule_of rule_in pick
-returns-in-1 c = rw c.in-1.is c.move_rule.ensures
 
 pub persist_rule-requires : goal.persist_rule-requires
 persist_rule-requires c =
     persist_low _ c.requires.0.program c.args.k c.requires.1 (λ z. omega arith) (λ z. omega arith)
-
-pub returns-in_default : goal.returns-in_default
-unfolding rule_of rule_in
-returns-in_default c = search choices

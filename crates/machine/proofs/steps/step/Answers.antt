@@ -7,21 +7,9 @@ use Rattle.cases.proofs.ArrayLaws.{unmapped}
 use Rattle.machine.proofs.fit.FitTestLaws.{readable_fits}
 use Rattle.machine.proofs.steps.step.Goals as goal
 
-pub returns-then-not-reads_back : goal.returns-then-not-reads_back
-unfolding judge.step_of judge.told
-returns-then-not-reads_back c = search choices
-
-pub returns-then-is_misfit : goal.returns-then-is_misfit
-unfolding judge.step_of judge.told
-returns-then-is_misfit c = search choices
-
 pub step_in-requires : goal.step_in-requires
 step_in-requires c =
     let sized : Sized c.args.s = search (rules, unmapped) in
     readable_fits _ (told_true _ _ c.reads_back.ensures c.if-not-reads_back.false) _
     sized
     (told _ _ _ c.is_misfit.ensures c.if-is_misfit.false)
-
-pub returns : goal.returns
-unfolding judge.step_of
-returns c = search choices

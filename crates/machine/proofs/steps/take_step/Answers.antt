@@ -10,23 +10,11 @@ pub issue-requires : goal.issue-requires
 issue-requires c =
     issue_ready c.args.p.now c.args.s c.requires.0 c.args.k c.requires.1 c.requires.2 (omega arith)
 
-pub returns-in-0 : goal.returns-in-0
-unfolding next_of pick
-returns-in-0 c = rw c.in-0.is c.issue.ensures
-
 pub move_entry-requires : goal.move_entry-requires
 move_entry-requires c =
     move_ready c.args.p.now c.args.s c.requires.0 c.args.k c.requires.1 c.requires.2 (omega arith)
-
-pub returns-in-1 : goal.returns-in-1
-unfolding next_of pick
-returns-in-1 c = rw c.in-1.is c.move_entry.ensures
 
 pub persist-requires : goal.persist-requires
 persist-requires c =
     persist_ready c.args.p.now c.args.s c.requires.0 c.args.k c.requires.1 c.requires.2
     (λ z. omega arith) (λ z. omega arith)
-
-pub returns-in_default : goal.returns-in_default
-unfolding next_of
-returns-in_default c = search choices
