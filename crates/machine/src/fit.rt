@@ -15,7 +15,7 @@ use cases::checks;
 use cases::sizes::{INSTRUCTIONS, LOCATIONS, THREADS};
 
 // Does an entry name a location that the program lacks?
-#[tactic(auto, using(cases::proofs::ChoiceLaws::choices), unfolding(crate::specs::Fit::strays))]
+#[tactic(auto, unfolding(crate::specs::Fit::strays))]
 fn is_stray(w: Waiting, locations: u8) -> bool
     ensures { result ≡ strays locations w.entry }
 {
@@ -139,7 +139,7 @@ fn queues_misfit(p: &Program, s: &State) -> bool
 }
 
 // Refusal 33.
-#[tactic(auto, using(cases::proofs::ChoiceLaws::choices), unfolding(crate::specs::Fit::misfits, cases::specs::Choice::either))]
+#[tactic(auto, using(cases::proofs::ChoiceLaws::choices), unfolding(crate::specs::Fit::misfits))]
 pub(crate) fn is_misfit(p: &Program, s: &State) -> bool
     ensures { result ≡ misfits p.now s.now }
 {

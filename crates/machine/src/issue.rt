@@ -20,14 +20,14 @@ use cases::operations::{
 use cases::sizes::{INSTRUCTIONS, REGISTERS};
 
 // Does an operation need what went before it to be done? Exchange, compare and mfence do.
-#[tactic(auto, using(cases::proofs::ChoiceLaws::choices), unfolding(crate::specs::Rules::is_barrier, cases::specs::Choice::either))]
+#[tactic(auto, using(cases::proofs::ChoiceLaws::choices), unfolding(crate::specs::Rules::is_barrier))]
 fn is_barrier(op: u8) -> bool
     ensures { result ≡ is_barrier op }
 {
     matches!(op, EXCHANGE | COMPARE | MFENCE)
 }
 
-#[tactic(auto, using(cases::proofs::ChoiceLaws::choices), unfolding(crate::specs::Rules::barrier_rule, cases::specs::Choice::refuse))]
+#[tactic(auto, using(cases::proofs::ChoiceLaws::choices), unfolding(crate::specs::Rules::barrier_rule))]
 fn barrier_rule(s: &State, t: Thread) -> Result<(), Rule>
     requires { (t.0 < most_threads) × Shallow s.now.lengths }
     ensures { broken result ≡ barrier_rule (parts_of s.now) t.0 }
@@ -41,7 +41,7 @@ fn barrier_rule(s: &State, t: Thread) -> Result<(), Rule>
     Ok(())
 }
 
-#[tactic(auto, using(cases::proofs::ChoiceLaws::choices), unfolding(crate::specs::Rules::operation_rule, cases::specs::Choice::pick))]
+#[tactic(auto, using(cases::proofs::ChoiceLaws::choices), unfolding(crate::specs::Rules::operation_rule))]
 pub(crate) fn operation_rule(op: u8, s: &State, t: Thread) -> Result<(), Rule>
     requires { (t.0 < most_threads) × Shallow s.now.lengths }
     ensures { broken result ≡ operation_rule op (parts_of s.now) t.0 }
@@ -53,7 +53,7 @@ pub(crate) fn operation_rule(op: u8, s: &State, t: Thread) -> Result<(), Rule>
 }
 
 // May a thread's next instruction be issued?
-#[tactic(auto, using(cases::proofs::ChoiceLaws::choices), unfolding(crate::specs::Rules::issue_rule, cases::specs::Choice::refuse))]
+#[tactic(auto, using(cases::proofs::ChoiceLaws::choices), unfolding(crate::specs::Rules::issue_rule))]
 pub(crate) fn issue_rule(p: &Program, s: &State, t: Thread) -> Result<(), Rule>
     requires { (t.0 < most_threads) × (count_at p.now t.0 ≤ most_instructions) × Shallow s.now.lengths }
     ensures { broken result ≡ issue_rule p.now (parts_of s.now) t.0 }
@@ -68,7 +68,7 @@ pub(crate) fn issue_rule(p: &Program, s: &State, t: Thread) -> Result<(), Rule>
 }
 
 // The entry that a store, flush, flush-opt or sfence leaves in the buffer; a store's word is fixed now.
-#[tactic(auto, using(cases::proofs::ChoiceLaws::choices), unfolding(crate::specs::Rules::entry_of, cases::specs::Choice::pick))]
+#[tactic(auto, using(cases::proofs::ChoiceLaws::choices), unfolding(crate::specs::Rules::entry_of))]
 fn entry_of(s: &State, t: Thread, x: Instruction) -> Entry
     requires { (t.0 < most_threads) × (x.register.0 < most_registers) }
     ensures { result ≡ entry_of s.now.registers t.0 x }
@@ -167,7 +167,7 @@ fn join_buffer(s: State, t: Thread, x: Instruction) -> State
 }
 
 // What an instruction does as it is issued; those that wait are told apart in `entry_of`.
-#[tactic(auto, using(cases::proofs::ChoiceLaws::choices), unfolding(crate::specs::Rules::performed, cases::specs::Choice::pick))]
+#[tactic(auto, using(cases::proofs::ChoiceLaws::choices), unfolding(crate::specs::Rules::performed))]
 fn perform(p: &Program, s: State, t: Thread, x: Instruction) -> State
     requires { (t.0 < most_threads) × (x.location.0 < most_locations) × (x.register.0 < most_registers)
         × (buffer_len s t.0 < most_instructions) × (line_of p.now x.location.0 < most_locations)

@@ -96,7 +96,7 @@ pub(crate) fn is_marked(s: &State, t: Thread) -> bool
 }
 
 // Does an entry keep a flush-opt of the line behind it?
-#[tactic(auto, using(cases::proofs::ChoiceLaws::choices), unfolding(crate::specs::Look::bars))]
+#[tactic(auto, unfolding(crate::specs::Look::bars))]
 fn is_bar(p: &Program, w: Waiting, q: Line) -> bool
     ensures { result ≡ bars p.now q.0 w.entry }
 {

@@ -17,7 +17,7 @@ use cases::case::{Line, Program, Thread};
 use cases::sizes::{INSTRUCTIONS, LOCATIONS};
 
 // May an entry take effect?
-#[tactic(auto, using(cases::proofs::ChoiceLaws::choices), unfolding(crate::specs::Rules::effect_rule, cases::specs::Choice::refuse))]
+#[tactic(auto, using(cases::proofs::ChoiceLaws::choices), unfolding(crate::specs::Rules::effect_rule))]
 fn effect_rule(p: &Program, s: &State, t: Thread, e: Entry) -> Result<(), Rule>
     requires { ProgramFits p.now × (t.0 < most_threads) × Named most_locations e × Shallow s.now.lengths }
     ensures { broken result ≡ effect_rule p.now (parts_of s.now) t.0 e }
@@ -41,7 +41,7 @@ fn effect_rule(p: &Program, s: &State, t: Thread, e: Entry) -> Result<(), Rule>
 }
 
 // May an entry go before the others?
-#[tactic(auto, using(cases::proofs::ChoiceLaws::choices), unfolding(crate::specs::Rules::pass_rule, cases::specs::Choice::refuse))]
+#[tactic(auto, using(cases::proofs::ChoiceLaws::choices), unfolding(crate::specs::Rules::pass_rule))]
 fn pass_rule(p: &Program, s: &State, t: Thread, i: u8, e: Entry) -> Result<(), Rule>
     requires { (t.0 < most_threads) × (i ≤ buffer_len s.now t.0)
         × (buffer_len s.now t.0 ≤ most_instructions) }
@@ -110,7 +110,7 @@ pub(crate) fn move_entry(p: &Program, s: State, t: Thread, i: u8) -> State
 }
 
 // May the oldest entry of a line's queue be persisted?
-#[tactic(auto, using(cases::proofs::ChoiceLaws::choices), unfolding(crate::specs::Rules::persist_rule, cases::specs::Choice::refuse))]
+#[tactic(auto, using(cases::proofs::ChoiceLaws::choices), unfolding(crate::specs::Rules::persist_rule))]
 pub(crate) fn persist_rule(s: &State, q: Line) -> Result<(), Rule>
     requires { q.0 < most_locations }
     ensures { broken result ≡ persist_rule (parts_of s.now) q.0 }

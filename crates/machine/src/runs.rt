@@ -100,7 +100,7 @@ fn judge_run(c: &Case) -> Judged
 }
 
 // The run of a case in memory: 32 first.
-#[tactic(auto, using(cases::proofs::ChoiceLaws::choices), unfolding(crate::specs::Judge::judge_of, cases::specs::Choice::pick))]
+#[tactic(auto, using(cases::proofs::ChoiceLaws::choices), unfolding(crate::specs::Judge::judge_of))]
 pub fn judge(c: Case) -> Judged
     ensures { result ≡ judge_of c }
 {
@@ -111,7 +111,7 @@ pub fn judge(c: Case) -> Judged
 }
 
 // The run of a case as bytes: reading first.
-#[tactic(auto, using(cases::proofs::ChoiceLaws::choices), unfolding(crate::specs::Judge::judge_bytes, cases::specs::Choice::pick))]
+#[tactic(auto, using(cases::proofs::ChoiceLaws::choices), unfolding(crate::specs::Judge::judge_bytes))]
 pub fn judge_bytes(bytes: &[u8]) -> Judged
     ensures { result ≡ judge_bytes bytes.now }
 {

@@ -72,7 +72,7 @@ pub fn start_of(p: Program) -> State
 }
 
 // May a step be taken?
-#[tactic(auto, using(cases::proofs::ChoiceLaws::choices), unfolding(crate::specs::Rules::rule_of, crate::specs::Rules::rule_in, cases::specs::Choice::pick))]
+#[tactic(auto, using(cases::proofs::ChoiceLaws::choices), unfolding(crate::specs::Rules::rule_of, crate::specs::Rules::rule_in))]
 pub(crate) fn rule(p: &Program, s: &State, k: Step) -> Result<(), Rule>
     requires { Fits p.now s.now × (step_fault (limits_of p.now) k ≡ 0) }
     ensures { broken result ≡ rule_of p.now s.now k }
@@ -85,7 +85,7 @@ pub(crate) fn rule(p: &Program, s: &State, k: Step) -> Result<(), Rule>
 }
 
 // The state after a legal step, which was tested before.
-#[tactic(auto, using(cases::proofs::ChoiceLaws::choices), unfolding(crate::specs::Rules::next_of, cases::specs::Choice::pick))]
+#[tactic(auto, using(cases::proofs::ChoiceLaws::choices), unfolding(crate::specs::Rules::next_of))]
 pub(crate) fn take_step(p: &Program, s: State, k: Step) -> State
     requires { Fits p.now s × (step_fault (limits_of p.now) k ≡ 0) × (rule_of p.now s k ≡ 0) }
     ensures { result ≡ next_of p.now s k }
@@ -98,7 +98,7 @@ pub(crate) fn take_step(p: &Program, s: State, k: Step) -> State
 }
 
 // Where a case's runs start: 32 first.
-#[tactic(auto, using(cases::proofs::ChoiceLaws::choices), unfolding(crate::specs::Judge::started_of, crate::specs::Judge::told, cases::specs::Choice::pick))]
+#[tactic(auto, using(cases::proofs::ChoiceLaws::choices), unfolding(crate::specs::Judge::started_of, crate::specs::Judge::told))]
 pub fn start(c: Case) -> Stepped
     ensures { result ≡ started_of c }
 {
@@ -140,7 +140,7 @@ fn step_in(p: &Program, s: State, k: Step) -> Stepped
 }
 
 // A single step with a case and a state in memory: 32, 33, then what is said of it there.
-#[tactic(auto, using(cases::proofs::ChoiceLaws::choices), unfolding(crate::specs::Judge::step_of, crate::specs::Judge::told, cases::specs::Choice::pick))]
+#[tactic(auto, using(cases::proofs::ChoiceLaws::choices), unfolding(crate::specs::Judge::step_of, crate::specs::Judge::told))]
 pub fn step(c: Case, s: State, k: Step) -> Stepped
     ensures { result ≡ step_of c s k }
 {

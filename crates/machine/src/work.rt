@@ -45,7 +45,7 @@ pub fn weighed_work(w: Weighed) -> usize
 }
 
 // The weight of an instruction that is not issued, by its operation.
-#[tactic(auto, using(cases::proofs::ChoiceLaws::choices), unfolding(crate::specs::Work::unissued_weight, cases::specs::Choice::pick))]
+#[tactic(auto, using(cases::proofs::ChoiceLaws::choices), unfolding(crate::specs::Work::unissued_weight))]
 fn unissued_weight(op: u8) -> usize
     ensures { (result ≡ unissued_weight op) × (result ≤ 3) }
 {
@@ -57,7 +57,7 @@ fn unissued_weight(op: u8) -> usize
 }
 
 // The weight of an entry that waits.
-#[tactic(auto, using(cases::proofs::ChoiceLaws::choices), unfolding(crate::specs::Work::waiting_weight))]
+#[tactic(auto, unfolding(crate::specs::Work::waiting_weight))]
 fn waiting_weight(w: Waiting) -> usize
     ensures { (result ≡ waiting_weight w.entry) × (result ≤ 2) }
 {
@@ -128,7 +128,7 @@ pub fn work_in(p: Program, s: State) -> usize
 }
 
 // The work left of a case in a state in memory: 32, then 33.
-#[tactic(auto, using(cases::proofs::ChoiceLaws::choices), unfolding(crate::specs::Judge::work_of, cases::specs::Choice::pick))]
+#[tactic(auto, using(cases::proofs::ChoiceLaws::choices), unfolding(crate::specs::Judge::work_of))]
 pub fn work_left(c: Case, s: State) -> Weighed
     ensures { result ≡ work_of c s }
 {
@@ -142,7 +142,7 @@ pub fn work_left(c: Case, s: State) -> Weighed
 }
 
 // The full length of a case's program: 32 first.
-#[tactic(auto, using(cases::proofs::ChoiceLaws::choices), unfolding(crate::specs::Judge::full_of, crate::specs::Model::full_length, cases::specs::Choice::pick))]
+#[tactic(auto, using(cases::proofs::ChoiceLaws::choices), unfolding(crate::specs::Judge::full_of, crate::specs::Model::full_length))]
 pub fn full_length(c: Case) -> Weighed
     ensures { result ≡ full_of c }
 {

@@ -1,8 +1,5 @@
 -- `effect_rule` meets its contract. Assumes nothing.
-use Rattle.std.proofs.Common.{arith}
-use Rattle.machine.specs.Rules.{effect_rule}
-use Rattle.cases.proofs.ChoiceLaws.{choices}
-use Rattle.machine.proofs.moves.MoveLaws.{move_flush_low, move_flush_held, move_flush_free}
+use Rattle.machine.proofs.moves.MoveLaws.{move_flush_low}
 use Rattle.machine.proofs.moves.effect_rule.Goals as goal
 
 pub bounds-s-q : goal.bounds-s-q

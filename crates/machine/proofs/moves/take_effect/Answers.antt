@@ -1,5 +1,4 @@
 -- `take_effect` meets its contract. Assumes nothing.
-use Rattle.machine.specs.Rules.{effect_of}
 use Rattle.machine.proofs.moves.MoveLaws.{move_store_named, move_flush_opt_named, roomy_is}
 use Rattle.machine.proofs.moves.take_effect.Goals as goal
 

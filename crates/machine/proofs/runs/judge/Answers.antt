@@ -1,7 +1,6 @@
 -- `judge` meets its contract. Assumes nothing.
-use Rattle.cases.proofs.ChoiceLaws.{choices, told_true}
+use Rattle.cases.proofs.ChoiceLaws.{told_true}
 use Rattle.cases.proofs.Promises.{readable_ranged}
-use Rattle.machine.specs.Judge.{judge_of}
 use Rattle.machine.proofs.runs.judge.Goals as goal
 
 pub judge_run-requires : goal.judge_run-requires

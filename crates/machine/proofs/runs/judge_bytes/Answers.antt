@@ -1,6 +1,4 @@
 -- `judge_bytes` meets its contract: what reads is judged, what doesn't stops it. Assumes nothing.
-use Rattle.cases.proofs.ChoiceLaws.{choices}
-use Rattle.machine.specs.Judge.{judge_bytes}
 use Rattle.machine.proofs.runs.JudgeLoopLaws.{read_case}
 use Rattle.machine.proofs.runs.judge_bytes.Goals as goal
 

@@ -1,8 +1,5 @@
 -- `rule` meets its contract: each kind of step has what its rule asks for. Assumes nothing.
 use Rattle.std.proofs.Common.{arith}
-use Rattle.cases.specs.Choice.{pick}
-use Rattle.cases.proofs.ChoiceLaws.{choices}
-use Rattle.machine.specs.Rules.{rule_of, rule_in}
 use Rattle.machine.proofs.rules.ReadyLaws.{issue_rule_ready, move_rule_ready, persist_low}
 use Rattle.machine.proofs.steps.rule.Goals as goal
 

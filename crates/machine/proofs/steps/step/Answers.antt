@@ -1,8 +1,7 @@
 -- `step` meets its contract: 32, then 33, each with the state as it was. Assumes nothing.
 use Rattle.std.proofs.Common.{rules}
-use Rattle.cases.proofs.ChoiceLaws.{choices, told, told_true}
+use Rattle.cases.proofs.ChoiceLaws.{told, told_true}
 use Rattle.machine.specs.Fit.{Sized}
-use Rattle.machine.specs.Judge as judge
 use Rattle.cases.proofs.ArrayLaws.{unmapped}
 use Rattle.machine.proofs.fit.FitTestLaws.{readable_fits}
 use Rattle.machine.proofs.steps.step.Goals as goal

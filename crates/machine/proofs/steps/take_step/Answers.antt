@@ -1,8 +1,5 @@
 -- `take_step` meets its contract: each kind of step has what its function asks for. Assumes nothing.
 use Rattle.std.proofs.Common.{arith}
-use Rattle.cases.specs.Choice.{pick}
-use Rattle.cases.proofs.ChoiceLaws.{choices}
-use Rattle.machine.specs.Rules.{next_of}
 use Rattle.machine.proofs.rules.ReadyLaws.{issue_ready, move_ready, persist_ready}
 use Rattle.machine.proofs.steps.take_step.Goals as goal
 

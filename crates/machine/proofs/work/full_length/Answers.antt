@@ -1,8 +1,6 @@
 -- `full_length` meets its contract. Assumes nothing.
-use Rattle.machine.specs.Judge.{full_of}
-use Rattle.cases.proofs.ChoiceLaws.{choices, told_true}
+use Rattle.cases.proofs.ChoiceLaws.{told_true}
 use Rattle.machine.proofs.fit.FitTestLaws.{readable_start}
-use Rattle.machine.proofs.work.WeighLaws.{full_told}
 use Rattle.machine.proofs.work.full_length.Goals as goal
 
 pub work_in-requires : goal.work_in-requires

@@ -1,11 +1,9 @@
 -- `work_left` meets its contract. Assumes nothing.
 use Rattle.std.proofs.Common.{rules}
 use Rattle.machine.specs.Fit.{Sized}
-use Rattle.machine.specs.Judge.{work_of}
-use Rattle.cases.proofs.ChoiceLaws.{choices, told, told_true}
+use Rattle.cases.proofs.ChoiceLaws.{told, told_true}
 use Rattle.cases.proofs.ArrayLaws.{unmapped}
 use Rattle.machine.proofs.fit.FitTestLaws.{readable_fits}
-use Rattle.machine.proofs.work.WeighLaws.{work_told}
 use Rattle.machine.proofs.work.work_left.Goals as goal
 
 pub work_in-requires : goal.work_in-requires
