@@ -14,7 +14,6 @@ use crate::look;
 use crate::look::Place;
 use crate::rule::Rule;
 use cases::case::{Line, Program, Step, Thread};
-use cases::sizes::INSTRUCTIONS;
 
 // Where it stands: a thread's buffer or a line's queue, and the position there.
 #[derive(Clone, Copy)]
@@ -73,8 +72,8 @@ fn entry_line(p: &Program, s: &State, t: Thread, i: u8) -> Line
         × (buffer_len s.now t.0 ≤ most_instructions) }
     ensures { result.0 ≡ entry_line p.now (entry_at (buffer s.now t.0) i) }
 {
-    let e = s.buffers[(t.0 as usize) * INSTRUCTIONS + (i as usize)].entry;
-    match e {
+    let w = s.buffer(t)[i as usize];
+    match w.entry {
         Entry::Store(x) => look::line_of(p, x.location),
         Entry::Flush(l) => look::line_of(p, l),
         Entry::FlushOpt(l) => look::line_of(p, l),

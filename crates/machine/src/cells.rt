@@ -50,6 +50,7 @@ impl State {
     pub(crate) fn buffer(&self, t: Thread) -> &[Waiting]
         requires { (t.0 < most_threads) × (buffer_len self.now t.0 ≤ most_instructions) }
         ensures is { result.now ≡ buffer self.now t.0 }
+        ensures many { length result.now ≡ buffer_len self.now t.0 }
         ensures few { length result.now ≤ most_instructions }
     {
         let base = (t.0 as usize) * INSTRUCTIONS;

@@ -62,15 +62,13 @@ pub(crate) fn move_rule(p: &Program, s: &State, t: Thread, i: u8) -> Result<(), 
         × Named most_locations (entry_at (buffer s.now t.0) 0) × Shallow s.now.lengths }
     ensures { broken result ≡ move_rule p.now (parts_of s.now) t.0 i }
 {
-    let at = t.0 as usize;
-    if s.waiting[at] <= i {
+    let Some(w) = s.buffer(t).get(i as usize) else {
         return Err(Rule::NothingThere);
-    }
-    let e = s.buffers[at * INSTRUCTIONS + (i as usize)].entry;
+    };
     if i == 0 {
-        return effect_rule(p, s, t, e);
+        return effect_rule(p, s, t, w.entry);
     }
-    pass_rule(p, s, t, i, e)
+    pass_rule(p, s, t, i, w.entry)
 }
 
 // What an entry that has left its buffer does.

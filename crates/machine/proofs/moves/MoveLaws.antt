@@ -84,27 +84,21 @@ module _ (b : List Waiting) (waiting : List ℕ) (t i : ℕ) (h : i < get_or wai
       → Named n (get_or b (t * most_instructions + i) blank_waiting).entry
   move_entry_named n k = rw move_entry_is at k
 
-  pub move_first_named : i ≡ 0 → (n : ℕ) → Named n (entry_at (buffer_in b waiting t) 0)
-      → Named n (get_or b (t * most_instructions + i) blank_waiting).entry
-  move_first_named z n k = move_entry_named n (rw z k)
+-- move_rule: the entry that moves is e; at position 0, and behind it
+pub move_first_named : (s : State) (t i : ℕ) (e : Entry) → entry_at (buffer s t) i ≡ e → i ≡ 0 → (n : ℕ)
+    → Named n (entry_at (buffer s t) 0)
+    → Named n e
+move_first_named s t i e is z n k = rw (← is, z) k
 
--- move_rule: at position 0; behind it
-module _ (p : Program) (s : State) (t i : ℕ) (h : i < buffer_len s t) (r : ℕ) where
-  pub move_first : i ≡ 0
-      → r ≡ effect_rule p (parts_of s) t (get_or s.buffers (t * most_instructions + i) blank_waiting).entry
-      → r ≡ move_rule p (parts_of s) t i
-  unfolding move_rule
-  move_first z e =
-      refuse_next _ _ _ _ (lt-leb _ _ h)
-      (pick_here _ _ _ _ (eq-eqb _ _ z) (rw (move_entry_is s.buffers s.waiting t i h) e))
+module _ (p : Program) (s : State) (t i : ℕ) (h : i < buffer_len s t) (e : Entry) (is : entry_at (buffer s t) i ≡ e)
+  where
+    pub move_first : i ≡ 0 → (r : ℕ) → r ≡ effect_rule p (parts_of s) t e → r ≡ move_rule p (parts_of s) t i
+    unfolding move_rule
+    move_first z r d = refuse_next _ _ _ _ (lt-leb _ _ h) (pick_here _ _ _ _ (eq-eqb _ _ z) (rw is d))
 
-  pub move_behind : (i ≡ 0 → ⊥)
-      → r ≡ pass_rule p (buffer s t) i (get_or s.buffers (t * most_instructions + i) blank_waiting).entry
-      → r ≡ move_rule p (parts_of s) t i
-  unfolding move_rule
-  move_behind z e =
-      refuse_next _ _ _ _ (lt-leb _ _ h)
-      (pick_next _ _ _ _ (ne_eqb _ _ z) (rw (move_entry_is s.buffers s.waiting t i h) e))
+    pub move_behind : (i ≡ 0 → ⊥) → (r : ℕ) → r ≡ pass_rule p (buffer s t) i e → r ≡ move_rule p (parts_of s) t i
+    unfolding move_rule
+    move_behind z r d = refuse_next _ _ _ _ (lt-leb _ _ h) (pick_next _ _ _ _ (ne_eqb _ _ z) (rw is d))
 
 -- move_of: the entry is taken out, then it takes effect
 pub move_taken : (p : Program) (s : State) (t i : ℕ) (u r : State) → i < buffer_len s t
