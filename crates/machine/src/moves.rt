@@ -34,8 +34,7 @@ fn effect_rule(p: &Program, s: &State, t: Thread, e: Entry) -> Result<(), Rule>
                 return Err(Rule::MarkerBeforeSfence);
             }
         }
-        Entry::Store(_) => {}
-        Entry::FlushOpt(_) => {}
+        Entry::Store(_) | Entry::FlushOpt(_) => {}
     }
     Ok(())
 }

@@ -1,21 +1,26 @@
-// The rules of document 01, by what breaks each.
+// The rules of document 01 that a step can break; specs/Rules.antt quotes each where it is said.
 ghost use Rattle.std.specs.Prelude.{◌≡◌};
 ghost use Rattle.machine.specs.Rules.{rule_number};
 
-// A thread's next instruction: it has none left; exchange, compare and mfence with something in the own buffer, with
-// a marker of the own in a queue. A move: there is no such entry; what goes before others is no flush-opt, or is held
-// back by one of them; a flush whose queue is not empty; an sfence with a marker of its thread in a queue. A persist
-// of an empty queue.
 #[derive(Clone, Copy, PartialEq, Eq)]
 pub enum Rule {
+    // Issue: the thread has no instruction left.
     NothingToIssue,
+    // Exchange, compare or mfence: something waits in the own buffer.
     BufferNotEmpty,
+    // The same three: a queue holds a marker of the thread.
     MarkerQueued,
+    // Move: nothing waits at that position.
     NothingThere,
+    // What goes before others is no flush-opt.
     OnlyFlushOpt,
+    // A flush-opt: an entry before it keeps it back.
     HeldBack,
+    // A flush: its line's queue holds something.
     LineNotEmpty,
+    // An sfence: a queue holds a marker of the thread.
     MarkerBeforeSfence,
+    // Persist: the queue is empty.
     NothingQueued,
 }
 
