@@ -50,8 +50,7 @@ pub fn blocker_position(b: Blocker) -> u8
     ensures { result ≡ blocker_position b }
 {
     match b {
-        Blocker::InBuffer(_, i) => i,
-        Blocker::InQueue(_, i) => i,
+        Blocker::InBuffer(_, i) | Blocker::InQueue(_, i) => i,
         Blocker::NoEntry => 0,
     }
 }
@@ -67,6 +66,7 @@ fn marker_place(found: Option<Place>) -> Blocker
 }
 
 // The line of an entry that waits: an sfence's is never asked for.
+#[tactic(auto, unfolding(crate::specs::Blocker::entry_line))]
 fn entry_line(p: &Program, s: &State, t: Thread, i: u8) -> Line
     requires { (t.0 < most_threads) × (i < buffer_len s.now t.0)
         × (buffer_len s.now t.0 ≤ most_instructions) }
@@ -75,13 +75,13 @@ fn entry_line(p: &Program, s: &State, t: Thread, i: u8) -> Line
     let w = s.buffer(t)[i as usize];
     match w.entry {
         Entry::Store(x) => look::line_of(p, x.location),
-        Entry::Flush(l) => look::line_of(p, l),
-        Entry::FlushOpt(l) => look::line_of(p, l),
+        Entry::Flush(l) | Entry::FlushOpt(l) => look::line_of(p, l),
         Entry::Sfence => Line(0),
     }
 }
 
 // The first entry in the way of a step, by the rule that it breaks.
+#[tactic(auto, using(crate::proofs::blocker::BlockerLaws::blocker_none), unfolding(crate::specs::Blocker::blocker_by, cases::specs::Choice::pick))]
 pub(crate) fn blocker_by(p: &Program, s: &State, k: Step, broken: Rule) -> Blocker
     requires { (k.thread.0 < most_threads) × (buffer_len s.now k.thread.0 ≤ most_instructions)
         × Shallow s.now.lengths
@@ -92,13 +92,12 @@ pub(crate) fn blocker_by(p: &Program, s: &State, k: Step, broken: Rule) -> Block
     let i = k.position;
     match broken {
         Rule::BufferNotEmpty => Blocker::InBuffer(t, 0),
-        Rule::MarkerQueued => marker_place(look::marker(s, t)),
+        Rule::MarkerQueued | Rule::MarkerBeforeSfence => marker_place(look::marker(s, t)),
         Rule::HeldBack => {
             let q = entry_line(p, s, t, i);
             Blocker::InBuffer(t, look::first_bar(p, s, t, i, q))
         }
         Rule::LineNotEmpty => Blocker::InQueue(entry_line(p, s, t, i), 0),
-        Rule::MarkerBeforeSfence => marker_place(look::marker(s, t)),
         _ => Blocker::NoEntry,
     }
 }

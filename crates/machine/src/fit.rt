@@ -22,8 +22,7 @@ fn is_stray(w: Waiting, locations: u8) -> bool
     let e = w.entry;
     match e {
         Entry::Store(x) => locations <= x.location.0,
-        Entry::Flush(l) => locations <= l.0,
-        Entry::FlushOpt(l) => locations <= l.0,
+        Entry::Flush(l) | Entry::FlushOpt(l) => locations <= l.0,
         Entry::Sfence => false,
     }
 }

@@ -78,9 +78,8 @@ fn take_effect(p: &Program, s: State, t: Thread, e: Entry) -> State
 {
     match e {
         Entry::Store(w) => change::enqueue(s, look::line_of(p, w.location), w.word, w.location.0),
-        Entry::Flush(_) => s,
         Entry::FlushOpt(l) => change::enqueue(s, look::line_of(p, l), 0, t.0 + MARKER),
-        Entry::Sfence => s,
+        Entry::Flush(_) | Entry::Sfence => s,
     }
 }
 

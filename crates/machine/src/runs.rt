@@ -53,9 +53,8 @@ pub fn verdict_blocker(v: Verdict) -> Blocker
     ensures { result ≡ verdict_blocker v }
 {
     match v {
-        Verdict::Legal(_) => Blocker::NoEntry,
         Verdict::Illegal(_, _, b) => b,
-        Verdict::Refused(_, _) => Blocker::NoEntry,
+        Verdict::Legal(_) | Verdict::Refused(_, _) => Blocker::NoEntry,
     }
 }
 

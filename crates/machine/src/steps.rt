@@ -37,8 +37,7 @@ pub fn ruling_number(r: Ruling) -> u8
 {
     match r {
         Ruling::Allowed => 103,
-        Ruling::Broken(n, _) => n,
-        Ruling::Declined(n) => n,
+        Ruling::Broken(n, _) | Ruling::Declined(n) => n,
     }
 }
 
@@ -47,9 +46,8 @@ pub fn ruling_blocker(r: Ruling) -> Blocker
     ensures { result ≡ ruling_blocker r }
 {
     match r {
-        Ruling::Allowed => Blocker::NoEntry,
         Ruling::Broken(_, b) => b,
-        Ruling::Declined(_) => Blocker::NoEntry,
+        Ruling::Allowed | Ruling::Declined(_) => Blocker::NoEntry,
     }
 }
 

@@ -63,10 +63,8 @@ fn waiting_weight(w: Waiting) -> usize
 {
     let e = w.entry;
     match e {
-        Entry::Store(_) => 2,
-        Entry::Flush(_) => 1,
-        Entry::FlushOpt(_) => 2,
-        Entry::Sfence => 1,
+        Entry::Store(_) | Entry::FlushOpt(_) => 2,
+        Entry::Flush(_) | Entry::Sfence => 1,
     }
 }
 
