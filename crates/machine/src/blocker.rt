@@ -81,7 +81,7 @@ fn entry_line(p: &Program, s: &State, t: Thread, i: u8) -> Line
 }
 
 // The first entry in the way of a step, by the rule that it breaks.
-#[tactic(auto, using(crate::proofs::blocker::BlockerLaws::blocker_none), unfolding(crate::specs::Blocker::blocker_by, cases::specs::Choice::pick))]
+#[tactic(auto, unfolding(crate::specs::Blocker::blocker_by, cases::specs::Choice::pick))]
 pub(crate) fn blocker_by(p: &Program, s: &State, k: Step, broken: Rule) -> Blocker
     requires { (k.thread.0 < most_threads) × (buffer_len s.now k.thread.0 ≤ most_instructions)
         × Shallow s.now.lengths

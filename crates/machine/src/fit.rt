@@ -36,6 +36,7 @@ fn has_stray(s: &State, t: Thread, locations: u8) -> bool
 }
 
 // Does a mark not belong in a line's queue: the thread or the location of none, or a location of another line?
+#[tactic(auto, using(cases::proofs::ChoiceLaws::choices), unfolding(crate::specs::Fit::foreign))]
 fn is_foreign(p: &Program, q: Line, mark: u8) -> bool
     ensures { result ≡ foreign p.now q.0 mark }
 {
@@ -66,6 +67,7 @@ fn unissued_of(p: &Program, s: &State, t: Thread) -> usize
 }
 
 // Is there something in a thread's part of the state that doesn't fit?
+#[tactic(auto, using(cases::proofs::ChoiceLaws::choices, crate::proofs::lists::AnyLaws::any_of_is), unfolding(crate::specs::Fit::thread_misfits))]
 fn thread_misfits(p: &Program, s: &State, t: Thread) -> bool
     requires { t.0 < most_threads }
     ensures { result ≡ thread_misfits p.now s.now t.0 }
@@ -111,6 +113,7 @@ fn all_unissued(p: &Program, s: &State) -> usize
 }
 
 // Is there something in a queue that doesn't fit? What may still come into it is given.
+#[tactic(auto, using(cases::proofs::ChoiceLaws::choices, crate::proofs::lists::AnyLaws::any_of_is), unfolding(crate::specs::Fit::queue_misfits))]
 fn queue_misfits(p: &Program, s: &State, q: Line, coming: usize) -> bool
     requires { (q.0 < most_locations) × (coming ≡ due p.now s.now) × (coming ≤ 510 * most_threads) }
     ensures { result ≡ queue_misfits p.now s.now q.0 }

@@ -1,26 +1,20 @@
 -- The blocker as the code finds it: what its function asks for, and that what it answers is the state's. Assumes
 -- nothing.
 use Prim.Native.Nat.{ℕ, ◌≤◌, ◌<◌}
-use mathlib.Core.Path.{◌≡◌, refl}
-use mathlib.Core.Logic.{◌⊎◌, inl, inr, ◌≢◌}
+use mathlib.Core.Path.{◌≡◌}
+use mathlib.Core.Logic.{◌⊎◌, inl, inr}
 use native.Mathlib.Omega.{arith}
 use lib.ListN.{get_or}
 use Rattle.cases.specs.declared.case.Step.{Step}
 use Rattle.cases.specs.declared.case.Program.{Program}
 use Rattle.cases.specs.Checks.{limits_of, step_fault}
-use Rattle.cases.specs.Choice.{pick}
 use Rattle.cases.specs.Sizes.{most_threads, most_instructions}
 use Rattle.cases.proofs.Promises.{thread_low}
 use Rattle.machine.specs.declared.cells.State.{State}
 use Rattle.machine.specs.declared.blocker.Blocker.{Blocker}
-use Rattle.machine.specs.declared.blocker.Blocker.TheVariants.{NoEntry}
-use Rattle.machine.specs.declared.rule.Rule.{Rule}
-use Rattle.machine.specs.declared.rule.Rule.TheVariants.{NothingToIssue, BufferNotEmpty, MarkerQueued, NothingThere}
-use Rattle.machine.specs.declared.rule.Rule.TheVariants.{OnlyFlushOpt, HeldBack, LineNotEmpty, MarkerBeforeSfence}
-use Rattle.machine.specs.declared.rule.Rule.TheVariants.{NothingQueued}
 use Rattle.machine.specs.View.{buffer_len}
-use Rattle.machine.specs.Parts.{Parts, parts_of}
-use Rattle.machine.specs.Rules.{rule_number, rule_of}
+use Rattle.machine.specs.Parts.{parts_of}
+use Rattle.machine.specs.Rules.{rule_of}
 use Rattle.machine.specs.Blocker.{blocker_by, blocker_in, blocker_of}
 use Rattle.machine.specs.Fit.{Fits, Shallow}
 use Rattle.machine.specs.Next.{persist_step}
@@ -29,21 +23,6 @@ use Rattle.machine.proofs.fit.FitLaws.{fits_buffer_within}
 use Rattle.machine.proofs.rules.ReadyLaws.{shallow}
 use Rattle.machine.proofs.steps.StepFaultLaws.{StepKinds, step_kinds, fault_none}
 use Rattle.machine.proofs.blocker.BrokenLaws.{issue_numbers, move_waits, persist_numbers}
-
--- a rule that names no entry
-pub blocker_none : (r : Rule) (p : Program) (x : Parts) (k : Step) → r ≢ BufferNotEmpty → r ≢ MarkerQueued → r ≢ HeldBack
-    → r ≢ LineNotEmpty → r ≢ MarkerBeforeSfence
-    → NoEntry ≡ blocker_by (rule_number r) p x k
-unfolding blocker_by pick
-blocker_none NothingToIssue p x k a b c d e = refl
-blocker_none BufferNotEmpty p x k a b c d e = absurd (a refl)
-blocker_none MarkerQueued p x k a b c d e = absurd (b refl)
-blocker_none NothingThere p x k a b c d e = refl
-blocker_none OnlyFlushOpt p x k a b c d e = refl
-blocker_none HeldBack p x k a b c d e = absurd (c refl)
-blocker_none LineNotEmpty p x k a b c d e = absurd (d refl)
-blocker_none MarkerBeforeSfence p x k a b c d e = absurd (e refl)
-blocker_none NothingQueued p x k a b c d e = refl
 
 module _ (p : Program) (s : State) (fit : Fits p s) (k : Step) (faultless : step_fault (limits_of p) k ≡ 0) where
   -- a persist's thread is 0
