@@ -58,6 +58,7 @@ fn has_foreign(p: &Program, s: &State, q: Line) -> bool
 }
 
 // How many of a thread's instructions are not issued; 0 where more are issued than it has.
+#[tactic(auto, unfolding(crate::specs::Fit::unissued))]
 fn unissued_of(p: &Program, s: &State, t: Thread) -> usize
     requires { t.0 < most_threads }
     ensures { (result ≡ unissued p.now s.now t.0) × (result ≤ 255) }

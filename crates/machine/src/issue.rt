@@ -91,6 +91,7 @@ fn entry_of(s: &State, t: Thread, x: Instruction) -> Entry
 
 // The register takes the newest store of the own buffer, else the newest write in the line's queue, else the
 // persistent word.
+#[tactic(auto, unfolding(crate::specs::Rules::loaded, crate::specs::View::with_register, crate::specs::Look::load_of, crate::specs::Look::queued_word))]
 fn load(p: &Program, s: State, t: Thread, x: Instruction) -> State
     requires { (t.0 < most_threads) × (x.location.0 < most_locations) × (x.register.0 < most_registers)
         × (buffer_len s t.0 ≤ most_instructions) × (line_of p.now x.location.0 < most_locations)
@@ -135,6 +136,7 @@ fn exchange(p: &Program, s: State, t: Thread, x: Instruction) -> State
 }
 
 // Where the word read is the register's, an exchange; else the register takes it, and nothing is written.
+#[tactic(auto, unfolding(crate::specs::Rules::fetched, crate::specs::View::with_register))]
 fn compare(p: &Program, s: State, t: Thread, x: Instruction) -> State
     requires { (t.0 < most_threads) × (x.location.0 < most_locations) × (x.register.0 < most_registers)
         × (line_of p.now x.location.0 < most_locations)
@@ -152,6 +154,7 @@ fn compare(p: &Program, s: State, t: Thread, x: Instruction) -> State
 }
 
 // The instruction's entry joins the end of the thread's buffer.
+#[tactic(auto, using(crate::proofs::change::ChangeLaws::await_is))]
 fn join_buffer(s: State, t: Thread, x: Instruction) -> State
     requires { (t.0 < most_threads) × (x.register.0 < most_registers)
         × (buffer_len s t.0 < most_instructions) }

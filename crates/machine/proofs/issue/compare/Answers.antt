@@ -1,8 +1,6 @@
 -- `compare` meets its contract. Assumes nothing.
 use Rattle.std.proofs.Common.{◌≡◌, length, rules}
 use Rattle.machine.specs.Sizes.{all_registers}
-use Rattle.machine.specs.View.{with_register}
-use Rattle.machine.specs.Rules.{fetched}
 use Rattle.machine.proofs.steps.IssueLaws.{compare_some, compare_none}
 use Rattle.machine.proofs.issue.compare.Goals as goal
 use Rattle.machine.proofs.issue.compare.Goals.{Start}
@@ -10,10 +8,6 @@ use Rattle.machine.proofs.issue.compare.Goals.{Start}
 -- as many registers as their array is long
 sized : (c : Start) → length c.args.s.registers ≡ all_registers
 sized c = search rules
-
-pub enqueue-requires : goal.enqueue-requires
-unfolding fetched with_register
-enqueue-requires c = rw (c.fetch-u.ensures, c.line_of.ensures) (search rules)
 
 pub returns-then-u-at : goal.returns-then-u-at
 returns-then-u-at c =
