@@ -1,5 +1,4 @@
-// The first entry that stands in the way of a step that breaks a rule. Asked only once a rule is broken: what is
-// legal stays a number, which is all that a walk over millions of steps needs.
+// The first entry that stands in the way of a step that breaks a rule. Asked only once a rule is broken.
 ghost use Rattle.std.specs.Prelude.{◌≡◌, ◌<◌, ◌≤◌};
 ghost use Rattle.cases.specs.Sizes.{most_threads, most_instructions};
 ghost use Rattle.machine.specs.View.{buffer, buffer_len};

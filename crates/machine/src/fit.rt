@@ -1,5 +1,5 @@
 // Refusal 33: does a state in memory fit its program? Anything of the types may be given.
-ghost use Rattle.std.specs.Prelude.{◌≡◌, ◌*◌, ◌^◌, ◌<◌, ◌≤◌, length, sum};
+ghost use Rattle.std.specs.Prelude.{◌≡◌, ◌*◌, ◌<◌, ◌≤◌, length, sum};
 ghost use Rattle.std.specs.List.{list_any};
 ghost use Rattle.cases.specs.Sizes.{most_threads, most_instructions, most_locations};
 ghost use Rattle.machine.specs.Sizes.{room};
@@ -19,8 +19,7 @@ use cases::sizes::{INSTRUCTIONS, LOCATIONS, THREADS};
 fn is_stray(w: Waiting, locations: u8) -> bool
     ensures { result ≡ strays locations w.entry }
 {
-    let e = w.entry;
-    match e {
+    match w.entry {
         Entry::Store(x) => locations <= x.location.0,
         Entry::Flush(l) | Entry::FlushOpt(l) => locations <= l.0,
         Entry::Sfence => false,

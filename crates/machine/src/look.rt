@@ -100,8 +100,7 @@ pub(crate) fn is_marked(s: &State, t: Thread) -> bool
 fn is_bar(p: &Program, w: Waiting, q: Line) -> bool
     ensures { result ≡ bars p.now q.0 w.entry }
 {
-    let e = w.entry;
-    match e {
+    match w.entry {
         Entry::Store(x) => line_of(p, x.location).0 == q.0,
         Entry::Flush(m) => line_of(p, m).0 == q.0,
         Entry::FlushOpt(_) => false,

@@ -11,8 +11,8 @@ use cases::case::Case;
 use cases::reader;
 
 // Legal with the number of steps; illegal with the rule, the index and the first entry in the way; refused with
-// the number and the offset. The rule and the refusal are 01's numbers, which the answers' definitions (`verdict_no`)
-// and theorems of proofs/Promises.antt say.
+// the number and the offset. The rule and the refusal are 01's numbers: `verdict_no` and theorems
+// (`judge_illegal` of proofs/Promises.antt) speak of them.
 #[derive(Clone, Copy)]
 pub enum Verdict {
     Legal(usize),

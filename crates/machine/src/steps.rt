@@ -17,7 +17,7 @@ use cases::operations::{ISSUE, MOVE};
 use cases::sizes::{CODE, LOCATIONS, THREADS};
 
 // What is said of a step: legal, a rule broken and the first entry in the way, or the input refused. The rule and the
-// refusal are 01's numbers, which the answers' definitions (`ruling_no`) and theorems of proofs/Promises.antt say.
+// refusal are 01's numbers: `ruling_no` and theorems (`step_refuses_unchanged` of demands) speak of them.
 #[derive(Clone, Copy)]
 pub enum Ruling {
     Allowed,

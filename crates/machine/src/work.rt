@@ -1,8 +1,8 @@
 // The work left, and the full length.
 ghost use Rattle.std.specs.Prelude.{◌≡◌, ◌+◌, ◌*◌, ◌<◌, ◌≤◌, length, sum_by};
-ghost use Rattle.cases.specs.Sizes.{most_threads, most_instructions, most_locations, all_code};
+ghost use Rattle.cases.specs.Sizes.{most_threads, most_instructions, all_code};
 ghost use Rattle.cases.specs.Checks.{count_at};
-ghost use Rattle.machine.specs.View.{buffer, buffer_len, queue_len, issued_of};
+ghost use Rattle.machine.specs.View.{buffer, buffer_len, issued_of};
 ghost use Rattle.machine.specs.Fit.{sum_to, Fits};
 ghost use Rattle.machine.specs.Work.{unissued_weight, waiting_weight, code_weight, entry_weight, weigh};
 ghost use Rattle.machine.specs.Work.{unissued_code, thread_work, work};
@@ -61,8 +61,7 @@ fn unissued_weight(op: u8) -> usize
 fn waiting_weight(w: Waiting) -> usize
     ensures { (result ≡ waiting_weight w.entry) × (result ≤ 2) }
 {
-    let e = w.entry;
-    match e {
+    match w.entry {
         Entry::Store(_) | Entry::FlushOpt(_) => 2,
         Entry::Flush(_) | Entry::Sfence => 1,
     }
@@ -98,6 +97,7 @@ fn weigh_buffer(s: &State, t: Thread) -> usize
     s.buffer(t).iter().map(|w| waiting_weight(*w)).sum()
 }
 
+// The work left in a thread.
 fn thread_work(p: &Program, s: &State, t: Thread) -> usize
     requires { (t.0 < most_threads) × (issued_of s.now t.0 ≤ count_at p.now t.0)
         × (count_at p.now t.0 ≤ most_instructions) × (buffer_len s.now t.0 ≤ most_instructions) }
