@@ -7,6 +7,7 @@ use mathlib.Core.Bool.{true, false, not}
 use mathlib.Core.List.{List, []}
 use lib.ListN.{length, drop}
 use lib.Dec.{eqb, ltb}
+use Rattle.std.specs.Prelude.{Err}
 use Rattle.cases.specs.declared.case.Step.{Step}
 use Rattle.cases.specs.declared.case.Case.{Case}
 use Rattle.cases.specs.declared.draft.Draft.{Draft}
@@ -29,7 +30,7 @@ use Rattle.cases.proofs.ChoiceLaws.{pick_true, false_not}
 use Rattle.cases.specs.Sizes.{step_size}
 use Rattle.machine.specs.declared.cells.State.{State}
 use Rattle.machine.specs.declared.steps.Ruling.TheVariants.{Allowed, Broken, Declined}
-use Rattle.machine.specs.declared.work.Weighed.TheVariants.{Unweighed}
+use Rattle.machine.specs.declared.work.Unweighed.TheVariants.{Unreadable}
 use Rattle.machine.specs.Rules.{rule_of, next_of, start_of}
 use Rattle.machine.specs.Blocker.{blocker_of}
 use Rattle.machine.specs.Fit.{misfits}
@@ -195,6 +196,6 @@ module _ (c : Case) (unreadable : reads_back c ≡ false) where
   unfolding step_of
   unchecked_stepping s k = pick_true _ _ _ (false_not _ unreadable)
 
-  pub unchecked_weighing : (s : State) → (work_of c s ≡ Unweighed 32) × (full_of c ≡ Unweighed 32)
+  pub unchecked_weighing : (s : State) → (work_of c s ≡ Err Unreadable) × (full_of c ≡ Err Unreadable)
   unfolding work_of full_of
   unchecked_weighing s = (pick_true _ _ _ (false_not _ unreadable), pick_true _ _ _ (false_not _ unreadable))

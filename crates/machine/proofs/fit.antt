@@ -5,7 +5,5 @@ pub mod FitLaws
 pub mod StartLaws
 -- Spare: room for one more; taken, counted, register, await, enqueue; unissued, marks
 pub mod SpareLaws
--- thread-misfits, queue-misfits, foreign: the chains of tests; due, unissued at most
-pub mod MisfitLaws
 -- fits_is, is_fits: the test and the facts; readable
 pub mod FitTestLaws

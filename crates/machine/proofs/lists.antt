@@ -3,7 +3,7 @@
 pub mod PartLaws
 -- put, part_put, shift, length_without: a list put into another, one left out; get_or behind it
 pub mod PutLaws
--- any, none_any: a test is true of one number, or of one on a list; AskedSoFar, AnySoFar
+-- any, none_any: a test is true of one number, or of one on a list; AskedSoFar
 pub mod AnyLaws
 -- all, none_all: what holds of each on a list
 pub mod AllLaws
@@ -11,5 +11,5 @@ pub mod AllLaws
 pub mod ListedLaws
 -- stands, within_stands, some_stands: what stands at a position of a list
 pub mod StandsLaws
--- sum, some_or_none: sums, and the loops that sum; SummedSoFar
+-- sum, some_or_none: sums, the loops that sum, and the library's sum; SummedSoFar
 pub mod SumLaws

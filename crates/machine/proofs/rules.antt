@@ -1,7 +1,5 @@
 -- The rules (specs/Rules).
--- rule, effect, issue, move: what is lent is all that a rule looks at
-pub mod LentLaws
--- issue_ready, move_ready, persist_ready, rule_ready: what functions ask for; shallow, movable, head_named
+-- issue_ready, move_ready, persist_ready, issue_rule_ready, move_rule_ready: what functions ask for; shallow, head_named
 pub mod ReadyLaws
 -- rule, issue_between, move_between, persist_between: its number is in the table; Between, InTable
 pub mod RuleLaws

@@ -1,7 +1,7 @@
 -- A step (specs/Rules, Model): what it names, what a legal one keeps, lowers and changes, and that there is one.
 -- fault, issue_fault, move_fault, persist_fault, step_kinds: the checks 5 and 8; InRange, StepKinds
 pub mod StepFaultLaws
--- issue_fits, issue_work and issue_left; load, compare
+-- issue_fits, issue_work and issue_left; compare
 pub mod IssueLaws
 -- move_fits, persist_work, step_fits and their like
 pub mod StepLaws

@@ -8,7 +8,7 @@
 --   blocker_by r p x k       the first entry in the way of the step k, by the rule r that it breaks
 --   blocker_in, blocker_of p s k   the same with its rule, over the parts that rules look at, in a state
 -- Assumes nothing.
-use Rattle.std.specs.Prelude.{ℕ, List, take, eqb}
+use Rattle.std.specs.Prelude.{ℕ, Option, Some, None, List, take, eqb}
 use Rattle.cases.specs.declared.case.Step.{Step}
 use Rattle.cases.specs.declared.case.Program.{Program}
 use Rattle.cases.specs.Choice.{pick}
@@ -16,8 +16,7 @@ use Rattle.machine.specs.declared.cells.State.{State}
 use Rattle.machine.specs.declared.cells.Waiting.{Waiting}
 use Rattle.machine.specs.declared.cells.Entry.{Entry}
 use Rattle.machine.specs.declared.cells.Entry.TheVariants.{Store, Flush, FlushOpt, Sfence}
-use Rattle.machine.specs.declared.look.Found.{Found}
-use Rattle.machine.specs.declared.look.Found.TheVariants.{At, Nothing}
+use Rattle.machine.specs.declared.look.Place.{Place}
 use Rattle.machine.specs.declared.blocker.Blocker.{Blocker}
 use Rattle.machine.specs.declared.blocker.Blocker.TheVariants.{InBuffer, InQueue, NoEntry}
 use Rattle.machine.specs.View.{line_of, buffer_in}
@@ -40,9 +39,9 @@ blocker_position (InBuffer t i) = i
 blocker_position (InQueue q i) = i
 blocker_position NoEntry = 0
 
-abbrev pub marker_place : Found → Blocker
-marker_place (At q i) = InQueue q i
-marker_place Nothing = NoEntry
+abbrev pub marker_place : Option Place → Blocker
+marker_place (Some m) = InQueue m.line m.position
+marker_place None = NoEntry
 
 unfoldable pub entry_line : Program → Entry → ℕ
 entry_line p (Store w) = line_of p w.location.0

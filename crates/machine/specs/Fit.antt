@@ -25,8 +25,7 @@ use Rattle.machine.specs.declared.cells.Waiting.{Waiting}
 use Rattle.machine.specs.declared.cells.Entry.{Entry}
 use Rattle.machine.specs.declared.cells.Entry.TheVariants.{Store, Flush, FlushOpt, Sfence}
 use Rattle.machine.specs.Sizes.{room, all_slots, all_registers, first_marker}
-use Rattle.machine.specs.View.{mark_of, line_of, queue_len, marks_in, buffer_in, buffer, buffer_len, issued_of}
-use Rattle.machine.specs.Rules.{entry_at}
+use Rattle.machine.specs.View.{mark_of, line_of, queue_len, marks_in, buffer, buffer_len, issued_of}
 
 unfoldable pub sum_to : ℕ → (ℕ → ℕ) → ℕ
 sum_to zero f = 0
@@ -141,9 +140,3 @@ Shallow lengths = (q : ℕ) → q < most_locations → get_or lengths q 0 ≤ ro
 -- no queue is full
 unfoldable pub Roomy : State → Type 0
 Roomy s = (q : ℕ) → q < most_locations → queue_len s q < room
-
--- every thread's buffer is within its depth, and its first entry names a location that there is
-unfoldable pub Movable : List Waiting → List ℕ → Type 0
-Movable buffers waiting =
-    (t : ℕ) → t < most_threads
-    → (get_or waiting t 0 ≤ most_instructions) × Named most_locations (entry_at (buffer_in buffers waiting t) 0)

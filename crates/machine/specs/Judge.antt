@@ -4,10 +4,11 @@
 --   told r s, judged v s   an answer with its state
 --   stepped_of m s k, step_of c s k   a single step, of a machine, of a case
 --   work_of, full_of    the work left, and the full length, as they are told
---   weighed_no, weighed_work   of such an answer: 01's number, and the work left
+--   Weighed, unweighed_no   such an answer; 01's number of a refusal
+--   weighed_no, weighed_work   of such an answer: 01's number, 0 where it is told, and the work left
 --   judge_from m i s ks, judge_run c, judge_of c, judge_bytes s   a run; i steps are taken already
 -- Assumes nothing.
-use Rattle.std.specs.Prelude.{ℕ, suc, not, List, [], ◌∷◌, take, eqb}
+use Rattle.std.specs.Prelude.{ℕ, suc, not, Result, Ok, Err, List, [], ◌∷◌, take, eqb}
 use Rattle.cases.specs.declared.case.Step.{Step}
 use Rattle.cases.specs.declared.case.Case.{Case}
 use Rattle.cases.specs.Choice.{pick}
@@ -23,8 +24,8 @@ use Rattle.machine.specs.declared.steps.Stepped.{Stepped}
 use Rattle.machine.specs.declared.runs.Verdict.{Verdict}
 use Rattle.machine.specs.declared.runs.Verdict.TheVariants.{Legal, Illegal, Refused}
 use Rattle.machine.specs.declared.runs.Judged.{Judged}
-use Rattle.machine.specs.declared.work.Weighed.{Weighed}
-use Rattle.machine.specs.declared.work.Weighed.TheVariants.{Left, Unweighed}
+use Rattle.machine.specs.declared.work.Unweighed.{Unweighed}
+use Rattle.machine.specs.declared.work.Unweighed.TheVariants.{Unreadable, Misfit}
 use Rattle.machine.specs.Model.{Model, full_length}
 use Rattle.machine.specs.Rules.{start_of}
 use Rattle.machine.specs.Ptso.{ptso}
@@ -66,22 +67,29 @@ started_of c =
     (told Allowed (start_of c.program))
 
 -- the work left in a state of a case: 0 and the work, or the refusal's number
+abbrev pub Weighed : Type 0
+Weighed = Result ℕ Unweighed
+
+abbrev pub unweighed_no : Unweighed → ℕ
+unweighed_no Unreadable = 32
+unweighed_no Misfit = 33
+
 abbrev pub weighed_no : Weighed → ℕ
-weighed_no (Left n) = 0
-weighed_no (Unweighed m) = m
+weighed_no (Ok n) = 0
+weighed_no (Err u) = unweighed_no u
 
 abbrev pub weighed_work : Weighed → ℕ
-weighed_work (Left n) = n
-weighed_work (Unweighed m) = 0
+weighed_work (Ok n) = n
+weighed_work (Err u) = 0
 
 unfoldable pub work_of : Case → State → Weighed
 work_of c s =
-    pick (not (reads_back c)) (Unweighed 32)
-    (pick ((ptso c.program).misfits s) (Unweighed 33)
-    (Left ((ptso c.program).left s)))
+    pick (not (reads_back c)) (Err Unreadable)
+    (pick ((ptso c.program).misfits s) (Err Misfit)
+    (Ok ((ptso c.program).left s)))
 
 unfoldable pub full_of : Case → Weighed
-full_of c = pick (not (reads_back c)) (Unweighed 32) (Left (full_length (ptso c.program)))
+full_of c = pick (not (reads_back c)) (Err Unreadable) (Ok (full_length (ptso c.program)))
 
 -- "The judge answers legal (103) with the end state, or the rule number, the index of the first illegal step
 -- from 0, and the state before it." With P4 the first entry in the way goes along.

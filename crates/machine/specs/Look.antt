@@ -5,11 +5,12 @@
 --   queued_word p s l         what stands for location l where no store buffer is looked at
 --   load_of p s t l           what a load takes
 --   marker_of marks lengths t the first marker of thread t, by queue and then by position
+--   place_at q i              position i of queue q
 --   is_at, found_queue, found_position   of what it answers: whether there is one, and where; 0 and 0 where not
 --   bars p q e                the entry e keeps a flush-opt of line q behind it
 --   first_bar p q b           the position of the first entry of b that does; how many there are where none does
 -- Assumes nothing.
-use Rattle.std.specs.Prelude.{ℕ, zero, suc, Bool, true, false, List, [], ◌∷◌, eqb}
+use Rattle.std.specs.Prelude.{ℕ, zero, suc, Bool, true, false, Option, Some, None, List, [], ◌∷◌, eqb}
 use Rattle.cases.specs.declared.case.Program.{Program}
 use Rattle.cases.specs.Choice.{pick}
 use Rattle.cases.specs.Sizes.{most_locations}
@@ -17,8 +18,7 @@ use Rattle.machine.specs.declared.cells.State.{State}
 use Rattle.machine.specs.declared.cells.Waiting.{Waiting}
 use Rattle.machine.specs.declared.cells.Entry.{Entry}
 use Rattle.machine.specs.declared.cells.Entry.TheVariants.{Store, Flush, FlushOpt, Sfence}
-use Rattle.machine.specs.declared.look.Found.{Found}
-use Rattle.machine.specs.declared.look.Found.TheVariants.{At, Nothing}
+use Rattle.machine.specs.declared.look.Place.{Place}
 use Rattle.machine.specs.View.{Slot, mark_of, line_of, queue, buffer, word_of, marks_in}
 
 -- a write's word where it is of location l; else the word before
@@ -50,32 +50,35 @@ load_of p s t l = newest_store l (buffer s t) (queued_word p s l)
 
 -- "Looking for a thread's marker goes through every queue and stops at the first one found." The marks of
 -- queue q from position i on, and what comes after that queue.
-unfoldable pub marker_among : ℕ → ℕ → ℕ → List ℕ → Found → Found
+abbrev pub place_at : ℕ → ℕ → Place
+place_at q i = record { line = record { 0 = q }; position = i }
+
+unfoldable pub marker_among : ℕ → ℕ → ℕ → List ℕ → Option Place → Option Place
 marker_among t q i [] after = after
 marker_among t q i (m ∷ ms) after =
-    pick (eqb m (mark_of t)) (At (record { 0 = q }) i) (marker_among t q (suc i) ms after)
+    pick (eqb m (mark_of t)) (Some (place_at q i)) (marker_among t q (suc i) ms after)
 
 -- the k queues from queue q on
-unfoldable pub marker_from : List ℕ → List ℕ → ℕ → ℕ → ℕ → Found
-marker_from marks lengths t zero q = Nothing
+unfoldable pub marker_from : List ℕ → List ℕ → ℕ → ℕ → ℕ → Option Place
+marker_from marks lengths t zero q = None
 marker_from marks lengths t (suc k) q =
     marker_among t q 0 (marks_in marks lengths q) (marker_from marks lengths t k (suc q))
 
-unfoldable pub marker_of : List ℕ → List ℕ → ℕ → Found
+unfoldable pub marker_of : List ℕ → List ℕ → ℕ → Option Place
 marker_of marks lengths t = marker_from marks lengths t most_locations 0
 
-abbrev pub is_at : Found → Bool
-is_at (At q i) = true
-is_at Nothing = false
+abbrev pub is_at : Option Place → Bool
+is_at (Some m) = true
+is_at None = false
 
 -- its queue and its position there
-abbrev pub found_queue : Found → ℕ
-found_queue (At q i) = q.0
-found_queue Nothing = 0
+abbrev pub found_queue : Option Place → ℕ
+found_queue (Some m) = m.line.0
+found_queue None = 0
 
-abbrev pub found_position : Found → ℕ
-found_position (At q i) = i
-found_position Nothing = 0
+abbrev pub found_position : Option Place → ℕ
+found_position (Some m) = m.position
+found_position None = 0
 
 -- some queue holds a marker of thread t
 unfoldable pub marked : List ℕ → List ℕ → ℕ → Bool

@@ -1,6 +1,8 @@
 -- Document 01, "The machine's steps": for each step the rule it breaks, 0 where it is legal, and what it does.
 -- A rule looks at the parts of a state that rules look at (Parts) and at no other; what a legal step does is
 -- said apart.
+--   rule_number r              01's number of a rule
+--   broken x                   that of the rule which a test of the code says is broken; 0 where it says that none is
 --   enqueue s q h, await       the state with one more at a queue's end, at a buffer's end
 --   is_barrier op              exchange, compare and mfence
 --   operation_rule             the rule against issuing an operation: 22, 23
@@ -17,7 +19,7 @@
 --   next_of p s k              what a legal step does, by its code
 --   start_of p                 where a run starts
 -- Assumes nothing.
-use Rattle.std.specs.Prelude.{ℕ, ◌+◌, Bool, not, List, [], ◌∷◌, ◌++◌, get_or, take, replicate, eqb, leb, ltb}
+use Rattle.std.specs.Prelude.{ℕ, ◌+◌, Bool, not, Result, Ok, Err, List, [], ◌∷◌, ◌++◌, get_or, take, replicate, eqb, leb, ltb}
 use Rattle.cases.specs.declared.case.Instruction.{Instruction}
 use Rattle.cases.specs.declared.case.Step.{Step}
 use Rattle.cases.specs.declared.case.Program.{Program}
@@ -30,12 +32,32 @@ use Rattle.machine.specs.declared.cells.State.{State}
 use Rattle.machine.specs.declared.cells.Waiting.{Waiting}
 use Rattle.machine.specs.declared.cells.Entry.{Entry}
 use Rattle.machine.specs.declared.cells.Entry.TheVariants.{Store, Flush, FlushOpt, Sfence}
+use Rattle.machine.specs.declared.rule.Rule.{Rule}
+use Rattle.machine.specs.declared.rule.Rule.TheVariants.{NothingToIssue, BufferNotEmpty, MarkerQueued, NothingThere}
+use Rattle.machine.specs.declared.rule.Rule.TheVariants.{OnlyFlushOpt, HeldBack, LineNotEmpty, MarkerBeforeSfence}
+use Rattle.machine.specs.declared.rule.Rule.TheVariants.{NothingQueued}
 use Rattle.machine.specs.Sizes.{all_slots, all_registers, first_marker}
 use Rattle.machine.specs.View.{Slot, line_of, write_slot, marker_slot, without, queue, with_queue}
 use Rattle.machine.specs.View.{blank_waiting, buffer_in, buffer, with_buffer, with_word, register_in}
 use Rattle.machine.specs.View.{with_register, issued_of, with_issued}
 use Rattle.machine.specs.Parts.{Parts, parts_of}
 use Rattle.machine.specs.Look.{queued_word, load_of, marked, first_bar}
+
+-- the numbers that 01 gives its rules, each quoted below where it is said
+abbrev pub rule_number : Rule → ℕ
+rule_number NothingToIssue = 21
+rule_number BufferNotEmpty = 22
+rule_number MarkerQueued = 23
+rule_number NothingThere = 24
+rule_number OnlyFlushOpt = 25
+rule_number HeldBack = 26
+rule_number LineNotEmpty = 27
+rule_number MarkerBeforeSfence = 28
+rule_number NothingQueued = 29
+
+abbrev pub broken : Result (Unit {0}) Rule → ℕ
+broken (Ok u) = 0
+broken (Err r) = rule_number r
 
 unfoldable pub enqueue : State → ℕ → Slot → State
 enqueue s q h = with_queue s q (queue s q ++ (h ∷ []))

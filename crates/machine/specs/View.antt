@@ -11,7 +11,7 @@
 --   queue, with_queue         the entries of a line's queue, oldest first; the state with others there
 --   buffer, with_buffer       the entries of a store buffer, oldest first; the state with others there
 --   queue_len, buffer_len     how many
---   queue_in, marks_in, buffer_in, register_in   the same over a state's arrays, where only those are lent
+--   queue_in, marks_in, buffer_in, register_in   the same over a state's arrays
 --   word_of, with_word, with_register, issued_of, with_issued   persistent words, registers, issued counts
 -- Assumes nothing.
 use Rattle.std.specs.Prelude.{ℕ, ◌+◌, ◌*◌, ◌-◌, List, [], ◌∷◌, ◌++◌, length, get_or, set, take, drop, replicate}

@@ -1,21 +1,18 @@
-// The first entry that stands in the way of a step that breaks a rule. Asked only once a rule is broken: what is
-// legal stays a number, which is all that a walk over millions of steps needs.
-ghost use Rattle.std.specs.Prelude.{◌≡◌, [], ◌<◌, ◌≤◌, length, get_or};
+// The first entry that stands in the way of a step that breaks a rule. Asked only once a rule is broken.
+ghost use Rattle.std.specs.Prelude.{◌≡◌, ◌<◌, ◌≤◌};
 ghost use Rattle.cases.specs.Sizes.{most_threads, most_instructions};
-ghost use Rattle.machine.specs.Sizes.{all_slots};
-ghost use Rattle.machine.specs.View.{buffer_in};
-ghost use Rattle.machine.specs.Parts.{lent};
-ghost use Rattle.machine.specs.Rules.{entry_at};
+ghost use Rattle.machine.specs.View.{buffer, buffer_len};
+ghost use Rattle.machine.specs.Parts.{parts_of};
+ghost use Rattle.machine.specs.Rules.{entry_at, rule_number};
 ghost use Rattle.machine.specs.Fit.{Shallow};
 ghost use Rattle.machine.specs.Blocker.{blocker_which, blocker_number, blocker_position, marker_place};
 ghost use Rattle.machine.specs.Blocker.{entry_line, blocker_by};
 
-use crate::cells::{Entry, Waiting};
+use crate::cells::{Entry, State};
 use crate::look;
-use crate::look::Found;
-use crate::sizes::SLOTS;
+use crate::look::Place;
+use crate::rule::Rule;
 use cases::case::{Line, Program, Step, Thread};
-use cases::sizes::{CODE, INSTRUCTIONS, LOCATIONS, THREADS};
 
 // Where it stands: a thread's buffer or a line's queue, and the position there.
 #[derive(Clone, Copy)]
@@ -52,78 +49,54 @@ pub fn blocker_position(b: Blocker) -> u8
     ensures { result ≡ blocker_position b }
 {
     match b {
-        Blocker::InBuffer(_, i) => i,
-        Blocker::InQueue(_, i) => i,
+        Blocker::InBuffer(_, i) | Blocker::InQueue(_, i) => i,
         Blocker::NoEntry => 0,
     }
 }
 
 // The place of a marker that was looked for.
-fn marker_place(f: Found) -> Blocker
-    ensures { result ≡ marker_place f }
+fn marker_place(found: Option<Place>) -> Blocker
+    ensures { result ≡ marker_place found }
 {
-    match f {
-        Found::At(q, i) => Blocker::InQueue(q, i),
-        Found::Nothing => Blocker::NoEntry,
+    match found {
+        Some(m) => Blocker::InQueue(m.line, m.position),
+        None => Blocker::NoEntry,
     }
 }
 
 // The line of an entry that waits: an sfence's is never asked for.
-fn entry_line<'a>(
-    p: Program,
-    buffers: [Waiting; CODE],
-    waiting: &'a [u8; THREADS],
-    t: Thread,
-    i: u8,
-) -> Line
-    requires { (t.0 < most_threads) × (i < get_or waiting.now t.0 0)
-        × (get_or waiting.now t.0 0 ≤ most_instructions) }
-    ensures { result.0 ≡ entry_line p (entry_at (buffer_in buffers waiting.now t.0) i) }
+#[tactic(auto, unfolding(crate::specs::Blocker::entry_line))]
+fn entry_line(p: &Program, s: &State, t: Thread, i: u8) -> Line
+    requires { (t.0 < most_threads) × (i < buffer_len s.now t.0)
+        × (buffer_len s.now t.0 ≤ most_instructions) }
+    ensures { result.0 ≡ entry_line p.now (entry_at (buffer s.now t.0) i) }
 {
-    let b = buffers;
-    let w = b[(t.0 as usize) * INSTRUCTIONS + (i as usize)];
-    let e = w.entry;
-    match e {
+    let w = s.buffer(t)[i as usize];
+    match w.entry {
         Entry::Store(x) => look::line_of(p, x.location),
-        Entry::Flush(l) => look::line_of(p, l),
-        Entry::FlushOpt(l) => look::line_of(p, l),
+        Entry::Flush(l) | Entry::FlushOpt(l) => look::line_of(p, l),
         Entry::Sfence => Line(0),
     }
 }
 
 // The first entry in the way of a step, by the rule that it breaks.
-pub(crate) fn blocker_by<'a>(
-    p: Program,
-    buffers: [Waiting; CODE],
-    waiting: &'a [u8; THREADS],
-    marks: &'a [u8; SLOTS],
-    lengths: &'a [u8; LOCATIONS],
-    k: Step,
-    broken: u8,
-) -> Blocker
-    requires { (k.thread.0 < most_threads) × (get_or waiting.now k.thread.0 0 ≤ most_instructions)
-        × Shallow lengths.now × (length marks.now ≡ all_slots)
-        × (26 ≤ broken → broken ≤ 27 → k.position < get_or waiting.now k.thread.0 0) }
-    ensures { result ≡ blocker_by broken p
-        (lent buffers [] waiting.now marks.now lengths.now) k }
+#[tactic(auto, unfolding(crate::specs::Blocker::blocker_by, cases::specs::Choice::pick))]
+pub(crate) fn blocker_by(p: &Program, s: &State, k: Step, broken: Rule) -> Blocker
+    requires { (k.thread.0 < most_threads) × (buffer_len s.now k.thread.0 ≤ most_instructions)
+        × Shallow s.now.lengths
+        × (26 ≤ rule_number broken → rule_number broken ≤ 27 → k.position < buffer_len s.now k.thread.0) }
+    ensures { result ≡ blocker_by (rule_number broken) p.now (parts_of s.now) k }
 {
     let t = k.thread;
     let i = k.position;
-    if broken == 22 {
-        return Blocker::InBuffer(t, 0);
+    match broken {
+        Rule::BufferNotEmpty => Blocker::InBuffer(t, 0),
+        Rule::MarkerQueued | Rule::MarkerBeforeSfence => marker_place(look::marker(s, t)),
+        Rule::HeldBack => {
+            let q = entry_line(p, s, t, i);
+            Blocker::InBuffer(t, look::first_bar(p, s, t, i, q))
+        }
+        Rule::LineNotEmpty => Blocker::InQueue(entry_line(p, s, t, i), 0),
+        _ => Blocker::NoEntry,
     }
-    if broken == 23 {
-        return marker_place(look::marker(marks, lengths, t));
-    }
-    if broken == 26 {
-        let q = entry_line(p, buffers, waiting, t, i);
-        return Blocker::InBuffer(t, look::first_bar(p, buffers, waiting, t, i, q));
-    }
-    if broken == 27 {
-        return Blocker::InQueue(entry_line(p, buffers, waiting, t, i), 0);
-    }
-    if broken == 28 {
-        return marker_place(look::marker(marks, lengths, t));
-    }
-    Blocker::NoEntry
 }

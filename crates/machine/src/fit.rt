@@ -1,58 +1,43 @@
 // Refusal 33: does a state in memory fit its program? Anything of the types may be given.
-ghost use Rattle.std.specs.Prelude.{◌≡◌, ◌+◌, ◌<◌, ◌≤◌, length, get_or};
+ghost use Rattle.std.specs.Prelude.{◌≡◌, ◌*◌, ◌<◌, ◌≤◌, length, sum};
+ghost use Rattle.std.specs.List.{list_any};
 ghost use Rattle.cases.specs.Sizes.{most_threads, most_instructions, most_locations};
-ghost use Rattle.machine.specs.Sizes.{room, all_slots};
-ghost use Rattle.machine.specs.View.{marks_in, buffer_in, buffer_len};
+ghost use Rattle.machine.specs.Sizes.{room};
+ghost use Rattle.machine.specs.View.{marks_in, queue_len, buffer, buffer_len};
 ghost use Rattle.machine.specs.Fit.{sum_to, any_from, any_of, strays, strayed, foreign, unissued, due};
 ghost use Rattle.machine.specs.Fit.{thread_misfits, queue_misfits, misfits};
 
 use crate::cells::{Entry, State, Waiting};
 use crate::look;
-use crate::sizes::{MARKER, ROOM, SLOTS};
+use crate::sizes::{MARKER, ROOM};
 use cases::case::{Line, Location, Program, Thread};
 use cases::checks;
-use cases::sizes::{CODE, INSTRUCTIONS, LOCATIONS, THREADS};
+use cases::sizes::{INSTRUCTIONS, LOCATIONS, THREADS};
 
 // Does an entry name a location that the program lacks?
+#[tactic(auto, unfolding(crate::specs::Fit::strays))]
 fn is_stray(w: Waiting, locations: u8) -> bool
     ensures { result ≡ strays locations w.entry }
 {
-    let e = w.entry;
-    match e {
+    match w.entry {
         Entry::Store(x) => locations <= x.location.0,
-        Entry::Flush(l) => locations <= l.0,
-        Entry::FlushOpt(l) => locations <= l.0,
+        Entry::Flush(l) | Entry::FlushOpt(l) => locations <= l.0,
         Entry::Sfence => false,
     }
 }
 
 // Does one of a thread's waiting entries?
-fn has_stray<'a>(
-    buffers: [Waiting; CODE],
-    waiting: &'a [u8; THREADS],
-    t: Thread,
-    locations: u8,
-) -> bool
-    requires { (t.0 < most_threads) × (get_or waiting.now t.0 0 ≤ most_instructions) }
-    ensures { result ≡ any_of (strayed locations) (buffer_in buffers waiting.now t.0) }
+fn has_stray(s: &State, t: Thread, locations: u8) -> bool
+    requires { (t.0 < most_threads) × (buffer_len s.now t.0 ≤ most_instructions) }
+    ensures { result ≡ list_any (strayed locations) (buffer s.now t.0) }
 {
-    let b = buffers;
-    let base = (t.0 as usize) * INSTRUCTIONS;
-    let n = waiting[t.0 as usize] as usize;
-    let mut i = 0;
-    while i < n {
-        let w = b[base + i];
-        if is_stray(w, locations) {
-            return true;
-        }
-        i += 1;
-    }
-    false
+    s.buffer(t).iter().any(|w| is_stray(*w, locations))
 }
 
 // Does a mark not belong in a line's queue: the thread or the location of none, or a location of another line?
-fn is_foreign(p: Program, q: Line, mark: u8) -> bool
-    ensures { result ≡ foreign p q.0 mark }
+#[tactic(auto, using(cases::proofs::ChoiceLaws::choices), unfolding(crate::specs::Fit::foreign))]
+fn is_foreign(p: &Program, q: Line, mark: u8) -> bool
+    ensures { result ≡ foreign p.now q.0 mark }
 {
     if MARKER <= mark {
         return p.threads <= mark - MARKER;
@@ -64,142 +49,101 @@ fn is_foreign(p: Program, q: Line, mark: u8) -> bool
 }
 
 // Does one of a queue's marks?
-fn has_foreign<'a>(
-    p: Program,
-    marks: &'a [u8; SLOTS],
-    lengths: &'a [u8; LOCATIONS],
-    q: Line,
-) -> bool
-    requires { (q.0 < most_locations) × (get_or lengths.now q.0 0 ≤ room)
-        × (length marks.now ≡ all_slots) }
-    ensures { result ≡ any_of (foreign p q.0) (marks_in marks.now lengths.now q.0) }
+fn has_foreign(p: &Program, s: &State, q: Line) -> bool
+    requires { (q.0 < most_locations) × (queue_len s.now q.0 ≤ room) }
+    ensures { result ≡ list_any (foreign p.now q.0) (marks_in s.now.marks s.now.lengths q.0) }
 {
-    let base = (q.0 as usize) * ROOM;
-    let n = lengths[q.0 as usize] as usize;
-    let mut i = 0;
-    while i < n {
-        if is_foreign(p, q, marks[base + i]) {
-            return true;
-        }
-        i += 1;
-    }
-    false
+    s.queued(q).iter().any(|m| is_foreign(p, q, *m))
 }
 
 // How many of a thread's instructions are not issued; 0 where more are issued than it has.
-fn unissued_of(p: Program, s: State, t: Thread) -> usize
+#[tactic(auto, unfolding(crate::specs::Fit::unissued))]
+fn unissued_of(p: &Program, s: &State, t: Thread) -> usize
     requires { t.0 < most_threads }
-    ensures { result ≡ unissued p s t.0 }
+    ensures { (result ≡ unissued p.now s.now t.0) × (result ≤ 255) }
 {
-    let q = p;
-    let u = s;
     let at = t.0 as usize;
-    let count = q.counts[at];
-    let done = u.issued[at];
-    if count <= done {
-        return 0;
-    }
-    (count - done) as usize
+    p.counts[at].saturating_sub(s.issued[at]) as usize
 }
 
 // Is there something in a thread's part of the state that doesn't fit?
-fn thread_misfits(p: Program, s: State, t: Thread) -> bool
+#[tactic(auto, using(cases::proofs::ChoiceLaws::choices, crate::proofs::lists::AnyLaws::any_of_is), unfolding(crate::specs::Fit::thread_misfits))]
+fn thread_misfits(p: &Program, s: &State, t: Thread) -> bool
     requires { t.0 < most_threads }
-    ensures { result ≡ thread_misfits p s t.0 }
+    ensures { result ≡ thread_misfits p.now s.now t.0 }
 {
-    let q = p;
-    let u = s;
     let at = t.0 as usize;
-    let n = u.waiting[at];
-    if q.counts[at] < u.issued[at] {
+    let n = s.waiting[at];
+    if p.counts[at] < s.issued[at] {
         return true;
     }
-    if q.threads <= t.0 && 0 < n {
+    if p.threads <= t.0 && 0 < n {
         return true;
     }
     if INSTRUCTIONS < (n as usize) + unissued_of(p, s, t) {
         return true;
     }
-    let b = u.buffers;
-    has_stray(b, &u.waiting, t, q.locations)
+    has_stray(s, t, p.locations)
 }
 
-fn threads_misfit(p: Program, s: State) -> bool
-    ensures { result ≡ any_from 0 most_threads (thread_misfits p s) }
+fn threads_misfit(p: &Program, s: &State) -> bool
+    ensures { result ≡ any_from 0 most_threads (thread_misfits p.now s.now) }
 {
-    let mut t: u8 = 0;
-    while (t as usize) < THREADS {
-        if thread_misfits(p, s, Thread(t)) {
-            return true;
-        }
-        t += 1;
-    }
-    false
+    (0..THREADS).any(|t| thread_misfits(p, s, Thread(t as u8)))
 }
 
-// All entries in store buffers.
-fn all_waiting(s: State) -> usize
-    ensures { result ≡ sum_to most_threads (buffer_len s) }
+// All of these counts, of entries in buffers or in queues.
+pub(crate) fn total(counts: &[u8]) -> usize
+    requires { length counts.now ≤ 256 }
+    ensures is { result ≡ sum counts.now }
+    ensures few { result ≤ length counts.now * 255 }
 {
-    let u = s;
-    let mut n: usize = 0;
-    let mut t = 0;
-    while t < THREADS {
-        n += u.waiting[t] as usize;
-        t += 1;
-    }
-    n
+    counts.iter().map(|n| *n as usize).sum()
 }
 
 // All instructions that are not issued.
-fn all_unissued(p: Program, s: State) -> usize
-    ensures { result ≡ sum_to most_threads (unissued p s) }
+fn all_unissued(p: &Program, s: &State) -> usize
+    ensures { (result ≡ sum_to most_threads (unissued p.now s.now)) × (result ≤ 255 * most_threads) }
 {
     let mut n: usize = 0;
-    let mut t: u8 = 0;
-    while (t as usize) < THREADS {
-        n += unissued_of(p, s, Thread(t));
-        t += 1;
+    for t in 0..THREADS {
+        n += unissued_of(p, s, Thread(t as u8));
     }
     n
 }
 
 // Is there something in a queue that doesn't fit? What may still come into it is given.
-fn queue_misfits(p: Program, s: State, q: Line, coming: usize) -> bool
-    requires { (q.0 < most_locations) × (coming ≡ due p s) }
-    ensures { result ≡ queue_misfits p s q.0 }
+#[tactic(auto, using(cases::proofs::ChoiceLaws::choices, crate::proofs::lists::AnyLaws::any_of_is), unfolding(crate::specs::Fit::queue_misfits))]
+fn queue_misfits(p: &Program, s: &State, q: Line, coming: usize) -> bool
+    requires { (q.0 < most_locations) × (coming ≡ due p.now s.now) × (coming ≤ 510 * most_threads) }
+    ensures { result ≡ queue_misfits p.now s.now q.0 }
 {
-    let u = s;
-    let n = u.lengths[q.0 as usize];
-    if checks::lines_of(p) <= q.0 && 0 < n {
+    let n = s.lengths[q.0 as usize];
+    if checks::lines_of(*p) <= q.0 && 0 < n {
         return true;
     }
     if ROOM < (n as usize) + coming {
         return true;
     }
-    has_foreign(p, &u.marks, &u.lengths, q)
+    has_foreign(p, s, q)
 }
 
-fn queues_misfit(p: Program, s: State) -> bool
-    ensures { result ≡ any_from 0 most_locations (queue_misfits p s) }
+fn queues_misfit(p: &Program, s: &State) -> bool
+    ensures { result ≡ any_from 0 most_locations (queue_misfits p.now s.now) }
 {
-    let coming = all_waiting(s) + all_unissued(p, s);
-    let mut q: u8 = 0;
-    while (q as usize) < LOCATIONS {
-        if queue_misfits(p, s, Line(q), coming) {
+    let coming = total(&s.waiting) + all_unissued(p, s);
+    for q in 0..LOCATIONS {
+        if queue_misfits(p, s, Line(q as u8), coming) {
             return true;
         }
-        q += 1;
     }
     false
 }
 
 // Refusal 33.
-pub(crate) fn is_misfit(p: Program, s: State) -> bool
-    ensures { result ≡ misfits p s }
+#[tactic(auto, using(cases::proofs::ChoiceLaws::choices), unfolding(crate::specs::Fit::misfits))]
+pub(crate) fn is_misfit(p: &Program, s: &State) -> bool
+    ensures { result ≡ misfits p.now s.now }
 {
-    if threads_misfit(p, s) {
-        return true;
-    }
-    queues_misfit(p, s)
+    threads_misfit(p, s) || queues_misfit(p, s)
 }

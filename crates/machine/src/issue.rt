@@ -1,178 +1,151 @@
 // Issue: which rule a thread's next instruction breaks, and what it does.
-ghost use Rattle.std.specs.Prelude.{◌≡◌, ◌+◌, ◌<◌, ◌≤◌, [], length};
+ghost use Rattle.std.specs.Prelude.{◌≡◌, ◌+◌, ◌<◌, ◌≤◌};
 ghost use Rattle.cases.specs.Sizes.{most_threads, most_instructions, most_locations, most_registers};
 ghost use Rattle.cases.specs.Checks.{count_at, instruction_at};
-ghost use Rattle.machine.specs.Sizes.{room, all_slots};
+ghost use Rattle.machine.specs.Sizes.{room};
 ghost use Rattle.machine.specs.View.{line_of, queue_len, buffer_len, issued_of};
-ghost use Rattle.machine.specs.Parts.{lent};
-ghost use Rattle.machine.specs.Rules.{is_barrier, barrier_rule, operation_rule};
+ghost use Rattle.machine.specs.Parts.{parts_of};
+ghost use Rattle.machine.specs.Rules.{broken, is_barrier, barrier_rule, operation_rule};
 ghost use Rattle.machine.specs.Rules.{issue_rule, entry_of, loaded, fetched, exchanged, compared, performed};
 ghost use Rattle.machine.specs.Rules.{issue_of, await};
 ghost use Rattle.machine.specs.Fit.{Shallow};
 
 use crate::cells::{Entry, State, Waiting};
-use crate::sizes::{ALL_REGISTERS, SLOTS};
+use crate::rule::Rule;
 use crate::{change, look};
 use cases::case::{Instruction, Program, Thread, Write};
 use cases::operations::{
     COMPARE, EXCHANGE, FLUSH, FLUSH_OPT, LOAD, MFENCE, STORE_REGISTER, STORE_WORD,
 };
-use cases::sizes::{INSTRUCTIONS, LOCATIONS, REGISTERS, THREADS};
+use cases::sizes::{INSTRUCTIONS, REGISTERS};
 
 // Does an operation need what went before it to be done? Exchange, compare and mfence do.
+#[tactic(auto, using(cases::proofs::ChoiceLaws::choices), unfolding(crate::specs::Rules::is_barrier))]
 fn is_barrier(op: u8) -> bool
     ensures { result ≡ is_barrier op }
 {
-    if op == EXCHANGE {
-        return true;
-    }
-    if op == COMPARE {
-        return true;
-    }
-    op == MFENCE
+    matches!(op, EXCHANGE | COMPARE | MFENCE)
 }
 
-fn barrier_rule<'a>(
-    waiting: &'a [u8; THREADS],
-    marks: &'a [u8; SLOTS],
-    lengths: &'a [u8; LOCATIONS],
-    t: Thread,
-) -> u8
-    requires { (t.0 < most_threads) × Shallow lengths.now × (length marks.now ≡ all_slots) }
-    ensures { result ≡ barrier_rule
-        (lent [] [] waiting.now marks.now lengths.now) t.0 }
+#[tactic(auto, using(cases::proofs::ChoiceLaws::choices), unfolding(crate::specs::Rules::barrier_rule))]
+fn barrier_rule(s: &State, t: Thread) -> Result<(), Rule>
+    requires { (t.0 < most_threads) × Shallow s.now.lengths }
+    ensures { broken result ≡ barrier_rule (parts_of s.now) t.0 }
 {
-    if 0 < waiting[t.0 as usize] {
-        return 22;
+    if 0 < s.waiting[t.0 as usize] {
+        return Err(Rule::BufferNotEmpty);
     }
-    if look::is_marked(marks, lengths, t) {
-        return 23;
+    if look::is_marked(s, t) {
+        return Err(Rule::MarkerQueued);
     }
-    0
+    Ok(())
 }
 
-pub(crate) fn operation_rule<'a>(
-    op: u8,
-    waiting: &'a [u8; THREADS],
-    marks: &'a [u8; SLOTS],
-    lengths: &'a [u8; LOCATIONS],
-    t: Thread,
-) -> u8
-    requires { (t.0 < most_threads) × Shallow lengths.now × (length marks.now ≡ all_slots) }
-    ensures { result ≡ operation_rule op
-        (lent [] [] waiting.now marks.now lengths.now) t.0 }
+#[tactic(auto, using(cases::proofs::ChoiceLaws::choices), unfolding(crate::specs::Rules::operation_rule))]
+pub(crate) fn operation_rule(op: u8, s: &State, t: Thread) -> Result<(), Rule>
+    requires { (t.0 < most_threads) × Shallow s.now.lengths }
+    ensures { broken result ≡ operation_rule op (parts_of s.now) t.0 }
 {
-    if is_barrier(op) {
-        return barrier_rule(waiting, marks, lengths, t);
+    if !is_barrier(op) {
+        return Ok(());
     }
-    0
+    barrier_rule(s, t)
 }
 
-// The rule that issuing a thread's next instruction breaks; 0 where it is legal.
-pub(crate) fn issue_rule<'a>(
-    p: Program,
-    issued: &'a [u8; THREADS],
-    waiting: &'a [u8; THREADS],
-    marks: &'a [u8; SLOTS],
-    lengths: &'a [u8; LOCATIONS],
-    t: Thread,
-) -> u8
-    requires { (t.0 < most_threads) × (count_at p t.0 ≤ most_instructions) × Shallow lengths.now
-        × (length marks.now ≡ all_slots) }
-    ensures { result ≡ issue_rule p (lent [] issued.now
-        waiting.now marks.now lengths.now) t.0 }
+// May a thread's next instruction be issued?
+#[tactic(auto, using(cases::proofs::ChoiceLaws::choices), unfolding(crate::specs::Rules::issue_rule))]
+pub(crate) fn issue_rule(p: &Program, s: &State, t: Thread) -> Result<(), Rule>
+    requires { (t.0 < most_threads) × (count_at p.now t.0 ≤ most_instructions) × Shallow s.now.lengths }
+    ensures { broken result ≡ issue_rule p.now (parts_of s.now) t.0 }
 {
-    let q = p;
     let at = t.0 as usize;
-    let n = issued[at];
-    if q.counts[at] <= n {
-        return 21;
+    let n = s.issued[at];
+    if p.counts[at] <= n {
+        return Err(Rule::NothingToIssue);
     }
-    let x = q.code[at * INSTRUCTIONS + (n as usize)];
-    operation_rule(x.operation, waiting, marks, lengths, t)
+    let x = p.code[at * INSTRUCTIONS + (n as usize)];
+    operation_rule(x.operation, s, t)
 }
 
 // The entry that a store, flush, flush-opt or sfence leaves in the buffer; a store's word is fixed now.
-fn entry_of<'a>(registers: &'a [u32; ALL_REGISTERS], t: Thread, x: Instruction) -> Entry
+#[tactic(auto, using(cases::proofs::ChoiceLaws::choices), unfolding(crate::specs::Rules::entry_of))]
+fn entry_of(s: &State, t: Thread, x: Instruction) -> Entry
     requires { (t.0 < most_threads) × (x.register.0 < most_registers) }
-    ensures { result ≡ entry_of registers.now t.0 x }
+    ensures { result ≡ entry_of s.now.registers t.0 x }
 {
     let l = x.location;
-    let op = x.operation;
-    if op == STORE_WORD {
-        return Entry::Store(Write {
+    match x.operation {
+        STORE_WORD => Entry::Store(Write {
             location: l,
             word: x.word,
-        });
-    }
-    if op == STORE_REGISTER {
-        let word = registers[(t.0 as usize) * REGISTERS + (x.register.0 as usize)];
-        return Entry::Store(Write {
+        }),
+        STORE_REGISTER => Entry::Store(Write {
             location: l,
-            word: word,
-        });
+            word: s.registers[(t.0 as usize) * REGISTERS + (x.register.0 as usize)],
+        }),
+        FLUSH => Entry::Flush(l),
+        FLUSH_OPT => Entry::FlushOpt(l),
+        _ => Entry::Sfence,
     }
-    if op == FLUSH {
-        return Entry::Flush(l);
-    }
-    if op == FLUSH_OPT {
-        return Entry::FlushOpt(l);
-    }
-    Entry::Sfence
 }
 
 // The register takes the newest store of the own buffer, else the newest write in the line's queue, else the
 // persistent word.
-fn load(p: Program, s: State, t: Thread, x: Instruction) -> State
+#[tactic(auto, unfolding(crate::specs::Rules::loaded, crate::specs::View::with_register, crate::specs::Look::load_of, crate::specs::Look::queued_word))]
+fn load(p: &Program, s: State, t: Thread, x: Instruction) -> State
     requires { (t.0 < most_threads) × (x.location.0 < most_locations) × (x.register.0 < most_registers)
-        × (buffer_len s t.0 ≤ most_instructions) × (line_of p x.location.0 < most_locations)
-        × (queue_len s (line_of p x.location.0) ≤ room) }
-    ensures { result ≡ loaded p s t.0 x }
+        × (buffer_len s t.0 ≤ most_instructions) × (line_of p.now x.location.0 < most_locations)
+        × (queue_len s (line_of p.now x.location.0) ≤ room) }
+    ensures { result ≡ loaded p.now s t.0 x }
 {
     let mut u = s;
     let l = x.location;
     let word = u.words[l.0 as usize];
-    let queued = look::newest_write(&u.held, &u.marks, &u.lengths, look::line_of(p, l), l, word);
-    let b = u.buffers;
-    let found = look::newest_store(b, &u.waiting, t, l, queued);
+    let queued = look::newest_write(&u, look::line_of(p, l), l, word);
+    let found = look::newest_store(&u, t, l, queued);
     u.registers[(t.0 as usize) * REGISTERS + (x.register.0 as usize)] = found;
     u
 }
 
 // The register takes the newest write in the line's queue, else the persistent word.
-fn fetch(p: Program, s: State, t: Thread, x: Instruction) -> State
+#[tactic(auto, unfolding(crate::specs::Rules::fetched, crate::specs::View::with_register, crate::specs::Look::queued_word))]
+fn fetch(p: &Program, s: State, t: Thread, x: Instruction) -> State
     requires { (t.0 < most_threads) × (x.location.0 < most_locations) × (x.register.0 < most_registers)
-        × (line_of p x.location.0 < most_locations) × (queue_len s (line_of p x.location.0) ≤ room) }
-    ensures { result ≡ fetched p s t.0 x }
+        × (line_of p.now x.location.0 < most_locations)
+        × (queue_len s (line_of p.now x.location.0) ≤ room) }
+    ensures { result ≡ fetched p.now s t.0 x }
 {
     let mut u = s;
     let l = x.location;
     let word = u.words[l.0 as usize];
-    let old = look::newest_write(&u.held, &u.marks, &u.lengths, look::line_of(p, l), l, word);
+    let old = look::newest_write(&u, look::line_of(p, l), l, word);
     u.registers[(t.0 as usize) * REGISTERS + (x.register.0 as usize)] = old;
     u
 }
 
 // The register takes the old word; the instruction's goes to the queue's end.
-fn exchange(p: Program, s: State, t: Thread, x: Instruction) -> State
+#[tactic(auto, unfolding(crate::specs::Rules::exchanged, crate::specs::Rules::fetched, crate::specs::View::with_register))]
+fn exchange(p: &Program, s: State, t: Thread, x: Instruction) -> State
     requires { (t.0 < most_threads) × (x.location.0 < most_locations) × (x.register.0 < most_registers)
-        × (line_of p x.location.0 < most_locations) × (queue_len s (line_of p x.location.0) < room) }
-    ensures { result ≡ exchanged p s t.0 x }
+        × (line_of p.now x.location.0 < most_locations)
+        × (queue_len s (line_of p.now x.location.0) < room) }
+    ensures { result ≡ exchanged p.now s t.0 x }
 {
     let l = x.location;
     change::enqueue(fetch(p, s, t, x), look::line_of(p, l), x.word, l.0)
 }
 
 // Where the word read is the register's, an exchange; else the register takes it, and nothing is written.
-fn compare(p: Program, s: State, t: Thread, x: Instruction) -> State
+#[tactic(auto, unfolding(crate::specs::Rules::fetched, crate::specs::View::with_register))]
+fn compare(p: &Program, s: State, t: Thread, x: Instruction) -> State
     requires { (t.0 < most_threads) × (x.location.0 < most_locations) × (x.register.0 < most_registers)
-        × (line_of p x.location.0 < most_locations) × (queue_len s (line_of p x.location.0) < room) }
-    ensures { result ≡ compared p s t.0 x }
+        × (line_of p.now x.location.0 < most_locations)
+        × (queue_len s (line_of p.now x.location.0) < room) }
+    ensures { result ≡ compared p.now s t.0 x }
 {
-    let v = s;
     let l = x.location;
     let at = (t.0 as usize) * REGISTERS + (x.register.0 as usize);
-    let before = v.registers[at];
+    let before = s.registers[at];
     let u = fetch(p, s, t, x);
     if u.registers[at] == before {
         return change::enqueue(u, look::line_of(p, l), x.word, l.0);
@@ -181,6 +154,7 @@ fn compare(p: Program, s: State, t: Thread, x: Instruction) -> State
 }
 
 // The instruction's entry joins the end of the thread's buffer.
+#[tactic(auto, using(crate::proofs::change::ChangeLaws::await_is))]
 fn join_buffer(s: State, t: Thread, x: Instruction) -> State
     requires { (t.0 < most_threads) × (x.register.0 < most_registers)
         × (buffer_len s t.0 < most_instructions) }
@@ -188,7 +162,7 @@ fn join_buffer(s: State, t: Thread, x: Instruction) -> State
 {
     let mut u = s;
     let at = t.0 as usize;
-    let e = entry_of(&u.registers, t, x);
+    let e = entry_of(&u, t, x);
     let n = u.waiting[at];
     u.buffers[at * INSTRUCTIONS + (n as usize)] = Waiting { entry: e };
     u.waiting[at] = n + 1;
@@ -196,43 +170,37 @@ fn join_buffer(s: State, t: Thread, x: Instruction) -> State
 }
 
 // What an instruction does as it is issued; those that wait are told apart in `entry_of`.
-fn perform(p: Program, s: State, t: Thread, x: Instruction) -> State
+#[tactic(auto, using(cases::proofs::ChoiceLaws::choices), unfolding(crate::specs::Rules::performed))]
+fn perform(p: &Program, s: State, t: Thread, x: Instruction) -> State
     requires { (t.0 < most_threads) × (x.location.0 < most_locations) × (x.register.0 < most_registers)
-        × (buffer_len s t.0 < most_instructions) × (line_of p x.location.0 < most_locations)
-        × (queue_len s (line_of p x.location.0) < room) }
-    ensures { result ≡ performed p s t.0 x }
+        × (buffer_len s t.0 < most_instructions) × (line_of p.now x.location.0 < most_locations)
+        × (queue_len s (line_of p.now x.location.0) < room) }
+    ensures { result ≡ performed p.now s t.0 x }
 {
-    let op = x.operation;
-    if op == LOAD {
-        return load(p, s, t, x);
+    match x.operation {
+        LOAD => load(p, s, t, x),
+        EXCHANGE => exchange(p, s, t, x),
+        COMPARE => compare(p, s, t, x),
+        MFENCE => s,
+        _ => join_buffer(s, t, x),
     }
-    if op == EXCHANGE {
-        return exchange(p, s, t, x);
-    }
-    if op == COMPARE {
-        return compare(p, s, t, x);
-    }
-    if op == MFENCE {
-        return s;
-    }
-    join_buffer(s, t, x)
 }
 
 // A thread's next instruction issued, where it breaks no rule.
-pub(crate) fn issue(p: Program, s: State, t: Thread) -> State
+#[tactic(auto, unfolding(crate::specs::Rules::issue_of, crate::specs::View::with_issued))]
+pub(crate) fn issue(p: &Program, s: State, t: Thread) -> State
     requires { (t.0 < most_threads) × (issued_of s t.0 < most_instructions)
         × (buffer_len s t.0 < most_instructions)
-        × ((instruction_at p t.0 (issued_of s t.0)).location.0 < most_locations)
-        × ((instruction_at p t.0 (issued_of s t.0)).register.0 < most_registers)
-        × (line_of p (instruction_at p t.0 (issued_of s t.0)).location.0 < most_locations)
-        × (queue_len s (line_of p (instruction_at p t.0 (issued_of s t.0)).location.0) < room) }
-    ensures { result ≡ issue_of p s t.0 }
+        × ((instruction_at p.now t.0 (issued_of s t.0)).location.0 < most_locations)
+        × ((instruction_at p.now t.0 (issued_of s t.0)).register.0 < most_registers)
+        × (line_of p.now (instruction_at p.now t.0 (issued_of s t.0)).location.0 < most_locations)
+        × (queue_len s (line_of p.now (instruction_at p.now t.0 (issued_of s t.0)).location.0) < room) }
+    ensures { result ≡ issue_of p.now s t.0 }
 {
-    let q = p;
     let mut u = s;
     let at = t.0 as usize;
     let n = u.issued[at];
-    let x = q.code[at * INSTRUCTIONS + (n as usize)];
+    let x = p.code[at * INSTRUCTIONS + (n as usize)];
     u.issued[at] = n + 1;
     perform(p, u, t, x)
 }

@@ -9,6 +9,7 @@ mod fit;
 mod issue;
 mod look;
 mod moves;
+mod rule;
 pub mod runs;
 pub mod sizes;
 pub mod steps;

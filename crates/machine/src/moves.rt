@@ -1,147 +1,120 @@
 // Move and persist: which rule they break, and what they do.
-ghost use Rattle.std.specs.Prelude.{◌≡◌, ◌<◌, ◌≤◌, [], length, get_or};
+ghost use Rattle.std.specs.Prelude.{◌≡◌, ◌<◌, ◌≤◌};
 ghost use Rattle.cases.specs.Sizes.{most_threads, most_instructions, most_locations};
-ghost use Rattle.machine.specs.Sizes.{room, all_slots};
-ghost use Rattle.machine.specs.View.{queue_len, buffer_in, buffer, buffer_len};
-ghost use Rattle.machine.specs.Parts.{lent};
+ghost use Rattle.machine.specs.Sizes.{room};
+ghost use Rattle.machine.specs.View.{queue_len, buffer, buffer_len};
+ghost use Rattle.machine.specs.Parts.{parts_of};
 ghost use Rattle.machine.specs.Rules.{effect_rule, effect_of, pass_rule, entry_at, move_rule, move_of};
-ghost use Rattle.machine.specs.Rules.{persist_rule, persist_of};
+ghost use Rattle.machine.specs.Rules.{broken, persist_rule, persist_of};
 ghost use Rattle.cases.specs.Ranges.{ProgramFits};
 ghost use Rattle.machine.specs.Fit.{Named, Shallow, Roomy};
 
-use crate::cells::{Entry, State, Waiting};
-use crate::sizes::{MARKER, ROOM, SLOTS};
+use crate::cells::{BLANK, Entry, State};
+use crate::rule::Rule;
+use crate::sizes::{MARKER, ROOM};
 use crate::{change, look};
 use cases::case::{Line, Program, Thread};
-use cases::sizes::{CODE, INSTRUCTIONS, LOCATIONS, THREADS};
+use cases::sizes::{INSTRUCTIONS, LOCATIONS};
 
-// The rule that an entry's effect breaks; 0 where it is legal.
-fn effect_rule<'a>(
-    p: Program,
-    marks: &'a [u8; SLOTS],
-    lengths: &'a [u8; LOCATIONS],
-    t: Thread,
-    e: Entry,
-) -> u8
-    requires { ProgramFits p × (t.0 < most_threads) × Named most_locations e × Shallow lengths.now
-        × (length marks.now ≡ all_slots) }
-    ensures { result ≡ effect_rule p (lent [] [] [] marks.now lengths.now) t.0 e }
+// May an entry take effect?
+#[tactic(auto, using(cases::proofs::ChoiceLaws::choices), unfolding(crate::specs::Rules::effect_rule))]
+fn effect_rule(p: &Program, s: &State, t: Thread, e: Entry) -> Result<(), Rule>
+    requires { ProgramFits p.now × (t.0 < most_threads) × Named most_locations e × Shallow s.now.lengths }
+    ensures { broken result ≡ effect_rule p.now (parts_of s.now) t.0 e }
 {
     match e {
-        Entry::Store(_) => 0,
         Entry::Flush(l) => {
             let q = look::line_of(p, l);
-            if 0 < lengths[q.0 as usize] { 27 } else { 0 }
+            if 0 < s.lengths[q.0 as usize] {
+                return Err(Rule::LineNotEmpty);
+            }
         }
-        Entry::FlushOpt(_) => 0,
         Entry::Sfence => {
-            if look::is_marked(marks, lengths, t) {
-                28
-            } else {
-                0
+            if look::is_marked(s, t) {
+                return Err(Rule::MarkerBeforeSfence);
             }
         }
+        Entry::Store(_) | Entry::FlushOpt(_) => {}
     }
+    Ok(())
 }
 
-// The rule that an entry breaks by going before others; 0 where it is legal.
-fn pass_rule<'a>(
-    p: Program,
-    buffers: [Waiting; CODE],
-    waiting: &'a [u8; THREADS],
-    t: Thread,
-    i: u8,
-    e: Entry,
-) -> u8
-    requires { (t.0 < most_threads) × (i ≤ get_or waiting.now t.0 0)
-        × (get_or waiting.now t.0 0 ≤ most_instructions) }
-    ensures { result ≡ pass_rule p (buffer_in buffers waiting.now t.0) i e }
+// May an entry go before the others?
+#[tactic(auto, using(cases::proofs::ChoiceLaws::choices), unfolding(crate::specs::Rules::pass_rule))]
+fn pass_rule(p: &Program, s: &State, t: Thread, i: u8, e: Entry) -> Result<(), Rule>
+    requires { (t.0 < most_threads) × (i ≤ buffer_len s.now t.0)
+        × (buffer_len s.now t.0 ≤ most_instructions) }
+    ensures { broken result ≡ pass_rule p.now (buffer s.now t.0) i e }
 {
-    match e {
-        Entry::Store(_) => 25,
-        Entry::Flush(_) => 25,
-        Entry::FlushOpt(l) => {
-            if look::first_bar(p, buffers, waiting, t, i, look::line_of(p, l)) < i {
-                26
-            } else {
-                0
-            }
-        }
-        Entry::Sfence => 25,
+    let Entry::FlushOpt(l) = e else {
+        return Err(Rule::OnlyFlushOpt);
+    };
+    if look::first_bar(p, s, t, i, look::line_of(p, l)) < i {
+        return Err(Rule::HeldBack);
     }
+    Ok(())
 }
 
-// The rule that moving the entry at a position breaks; 0 where it is legal.
-pub(crate) fn move_rule<'a>(
-    p: Program,
-    buffers: [Waiting; CODE],
-    waiting: &'a [u8; THREADS],
-    marks: &'a [u8; SLOTS],
-    lengths: &'a [u8; LOCATIONS],
-    t: Thread,
-    i: u8,
-) -> u8
-    requires { ProgramFits p × (t.0 < most_threads) × (get_or waiting.now t.0 0 ≤ most_instructions)
-        × Named most_locations (entry_at (buffer_in buffers waiting.now t.0) 0) × Shallow lengths.now
-        × (length marks.now ≡ all_slots) }
-    ensures { result ≡ move_rule p
-        (lent buffers [] waiting.now marks.now lengths.now) t.0 i }
+// May the entry at a position be moved?
+pub(crate) fn move_rule(p: &Program, s: &State, t: Thread, i: u8) -> Result<(), Rule>
+    requires { ProgramFits p.now × (t.0 < most_threads) × (buffer_len s.now t.0 ≤ most_instructions)
+        × Named most_locations (entry_at (buffer s.now t.0) 0) × Shallow s.now.lengths }
+    ensures { broken result ≡ move_rule p.now (parts_of s.now) t.0 i }
 {
-    let b = buffers;
-    let at = t.0 as usize;
-    if waiting[at] <= i {
-        return 24;
-    }
-    let w = b[at * INSTRUCTIONS + (i as usize)];
-    let e = w.entry;
+    let Some(w) = s.buffer(t).get(i as usize) else {
+        return Err(Rule::NothingThere);
+    };
     if i == 0 {
-        return effect_rule(p, marks, lengths, t, e);
+        return effect_rule(p, s, t, w.entry);
     }
-    pass_rule(p, buffers, waiting, t, i, e)
+    pass_rule(p, s, t, i, w.entry)
 }
 
 // What an entry that has left its buffer does.
-fn take_effect(p: Program, s: State, t: Thread, e: Entry) -> State
-    requires { ProgramFits p × (t.0 < most_threads) × Named most_locations e × Roomy s }
-    ensures { result ≡ effect_of p s t.0 e }
+#[tactic(auto, unfolding(crate::specs::Rules::effect_of))]
+fn take_effect(p: &Program, s: State, t: Thread, e: Entry) -> State
+    requires { ProgramFits p.now × (t.0 < most_threads) × Named most_locations e × Roomy s }
+    ensures { result ≡ effect_of p.now s t.0 e }
 {
     match e {
         Entry::Store(w) => change::enqueue(s, look::line_of(p, w.location), w.word, w.location.0),
-        Entry::Flush(_) => s,
         Entry::FlushOpt(l) => change::enqueue(s, look::line_of(p, l), 0, t.0 + MARKER),
-        Entry::Sfence => s,
+        Entry::Flush(_) | Entry::Sfence => s,
     }
 }
 
 // The entry at a position moved, where it breaks no rule.
-pub(crate) fn move_entry(p: Program, s: State, t: Thread, i: u8) -> State
-    requires { ProgramFits p × (t.0 < most_threads) × (i < buffer_len s t.0)
+pub(crate) fn move_entry(p: &Program, s: State, t: Thread, i: u8) -> State
+    requires { ProgramFits p.now × (t.0 < most_threads) × (i < buffer_len s t.0)
         × (buffer_len s t.0 ≤ most_instructions) × Named most_locations (entry_at (buffer s t.0) i)
         × Roomy s }
-    ensures { result ≡ move_of p s t.0 i }
+    ensures { result ≡ move_of p.now s t.0 i }
 {
     let mut u = s;
     let at = t.0 as usize;
     let base = at * INSTRUCTIONS;
     let n = u.waiting[at];
-    let b = u.buffers;
-    let w = b[base + (i as usize)];
-    let e = w.entry;
-    let closed = change::close_entries(b, base + (i as usize), base + (n as usize));
-    u.buffers = closed;
+    let e = u.buffers[base + (i as usize)].entry;
+    change::close(
+        &mut u.buffers,
+        base + (i as usize),
+        base + (n as usize),
+        BLANK,
+    );
     u.waiting[at] = n - 1;
     take_effect(p, u, t, e)
 }
 
-// The rule that persisting the oldest entry of a line's queue breaks; 0 where it is legal.
-pub(crate) fn persist_rule<'a>(lengths: &'a [u8; LOCATIONS], q: Line) -> u8
+// May the oldest entry of a line's queue be persisted?
+#[tactic(auto, using(cases::proofs::ChoiceLaws::choices), unfolding(crate::specs::Rules::persist_rule))]
+pub(crate) fn persist_rule(s: &State, q: Line) -> Result<(), Rule>
     requires { q.0 < most_locations }
-    ensures { result ≡ persist_rule (lent [] [] [] [] lengths.now) q.0 }
+    ensures { broken result ≡ persist_rule (parts_of s.now) q.0 }
 {
-    if lengths[q.0 as usize] == 0 {
-        return 29;
+    if s.lengths[q.0 as usize] == 0 {
+        return Err(Rule::NothingQueued);
     }
-    0
+    Ok(())
 }
 
 // The oldest entry of a line's queue persisted, where there is one.
@@ -156,8 +129,8 @@ pub(crate) fn persist(s: State, q: Line) -> State
     let word = u.held[base];
     let to = u.marks[base] as usize;
     let end = base + (n as usize);
-    change::close_words(&mut u.held, base, end);
-    change::close_marks(&mut u.marks, base, end);
+    change::close(&mut u.held, base, end, 0);
+    change::close(&mut u.marks, base, end, 0);
     u.lengths[at] = n - 1;
     // A marker's mark is no location.
     if LOCATIONS <= to {

@@ -11,7 +11,8 @@ use cases::case::Case;
 use cases::reader;
 
 // Legal with the number of steps; illegal with the rule, the index and the first entry in the way; refused with
-// the number and the offset.
+// the number and the offset. The rule and the refusal are 01's numbers: `verdict_no` and theorems
+// (`judge_illegal` of proofs/Promises.antt) speak of them.
 #[derive(Clone, Copy)]
 pub enum Verdict {
     Legal(usize),
@@ -52,13 +53,13 @@ pub fn verdict_blocker(v: Verdict) -> Blocker
     ensures { result ≡ verdict_blocker v }
 {
     match v {
-        Verdict::Legal(_) => Blocker::NoEntry,
         Verdict::Illegal(_, _, b) => b,
-        Verdict::Refused(_, _) => Blocker::NoEntry,
+        Verdict::Legal(_) | Verdict::Refused(_, _) => Blocker::NoEntry,
     }
 }
 
 // Where reading or 32 stops the judge, the empty case's start goes along.
+#[tactic(auto, unfolding(crate::specs::Judge::stopped, crate::specs::Judge::judged))]
 fn stop(number: u8, offset: usize) -> Judged
     ensures { result ≡ stopped number offset }
 {
@@ -70,49 +71,46 @@ fn stop(number: u8, offset: usize) -> Judged
 }
 
 // The run of a case that can be read.
-fn judge_run(c: Case) -> Judged
-    requires { Ranged c }
-    ensures { result ≡ judge_run c }
+fn judge_run(c: &Case) -> Judged
+    requires { Ranged c.now }
+    ensures { result ≡ judge_run c.now }
 {
-    let p = c.program;
-    let run = c.run;
-    let n = run.count as usize;
-    let mut s = steps::start_of(p);
-    let mut i: usize = 0;
-    while i < n {
-        let k = run.steps[i];
-        let b = s.buffers;
-        let broken = steps::rule(p, b, &s.issued, &s.waiting, &s.marks, &s.lengths, k);
-        if broken != 0 {
+    let p = &c.program;
+    let n = c.run.count as usize;
+    let mut s = steps::start_of(c.program);
+    for i in 0..n {
+        let k = c.run.steps[i];
+        if let Err(broken) = steps::rule(p, &s, k) {
             return Judged {
                 verdict: Verdict::Illegal(
-                    broken,
+                    broken.number(),
                     i,
-                    blocker::blocker_by(p, b, &s.waiting, &s.marks, &s.lengths, k, broken),
+                    blocker::blocker_by(p, &s, k, broken),
                 ),
                 state: s,
             };
         }
         s = steps::take_step(p, s, k);
-        i += 1;
     }
     Judged {
-        verdict: Verdict::Legal(i),
+        verdict: Verdict::Legal(n),
         state: s,
     }
 }
 
 // The run of a case in memory: 32 first.
+#[tactic(auto, using(cases::proofs::ChoiceLaws::choices), unfolding(crate::specs::Judge::judge_of))]
 pub fn judge(c: Case) -> Judged
     ensures { result ≡ judge_of c }
 {
     if !cases::reads_back(c) {
         return stop(32, 0);
     }
-    judge_run(c)
+    judge_run(&c)
 }
 
 // The run of a case as bytes: reading first.
+#[tactic(auto, using(cases::proofs::ChoiceLaws::choices), unfolding(crate::specs::Judge::judge_bytes))]
 pub fn judge_bytes(bytes: &[u8]) -> Judged
     ensures { result ≡ judge_bytes bytes.now }
 {
@@ -122,5 +120,5 @@ pub fn judge_bytes(bytes: &[u8]) -> Judged
     if number != 0 {
         return stop(number, reader::offset(answer));
     }
-    judge_run(reading.case)
+    judge_run(&reading.case)
 }

@@ -1,24 +1,23 @@
 // A step by its code, and a single step given with a case and a state in memory.
-ghost use Rattle.std.specs.Prelude.{◌≡◌, length};
+ghost use Rattle.std.specs.Prelude.{◌≡◌};
 ghost use Rattle.cases.specs.Checks.{limits_of, step_fault};
-ghost use Rattle.machine.specs.Sizes.{all_slots};
-ghost use Rattle.machine.specs.Parts.{lent};
-ghost use Rattle.machine.specs.Rules.{rule_in, rule_of, next_of, start_of};
-ghost use Rattle.machine.specs.Fit.{Fits, Shallow, Movable};
-ghost use Rattle.cases.specs.Ranges.{ProgramFits};
+ghost use Rattle.machine.specs.Rules.{broken, rule_of, next_of, start_of};
+ghost use Rattle.machine.specs.Fit.{Fits};
 ghost use Rattle.machine.specs.Judge.{ruling_no, ruling_blocker, stepped_of, step_of, started_of};
 ghost use Rattle.machine.specs.Ptso.{ptso};
 
 use crate::blocker::Blocker;
-use crate::cells::{Entry, State, Waiting};
+use crate::cells::{BLANK, State};
+use crate::rule::Rule;
 use crate::sizes::{ALL_REGISTERS, SLOTS};
 use crate::{blocker, fit, issue, moves};
-use cases::case::{Case, Line, Location, Program, Step, Write};
+use cases::case::{Case, Line, Program, Step};
 use cases::checks;
 use cases::operations::{ISSUE, MOVE};
 use cases::sizes::{CODE, LOCATIONS, THREADS};
 
-// What is said of a step: legal, a rule broken and the first entry in the way, or the input refused.
+// What is said of a step: legal, a rule broken and the first entry in the way, or the input refused. The rule and the
+// refusal are 01's numbers: `ruling_no` and theorems (`step_refuses_unchanged` of demands) speak of them.
 #[derive(Clone, Copy)]
 pub enum Ruling {
     Allowed,
@@ -38,8 +37,7 @@ pub fn ruling_number(r: Ruling) -> u8
 {
     match r {
         Ruling::Allowed => 103,
-        Ruling::Broken(n, _) => n,
-        Ruling::Declined(n) => n,
+        Ruling::Broken(n, _) | Ruling::Declined(n) => n,
     }
 }
 
@@ -48,76 +46,57 @@ pub fn ruling_blocker(r: Ruling) -> Blocker
     ensures { result ≡ ruling_blocker r }
 {
     match r {
-        Ruling::Allowed => Blocker::NoEntry,
         Ruling::Broken(_, b) => b,
-        Ruling::Declined(_) => Blocker::NoEntry,
+        Ruling::Allowed | Ruling::Declined(_) => Blocker::NoEntry,
     }
 }
 
 // The first contents, nothing queued, waiting or issued.
+#[tactic(auto, unfolding(crate::specs::Rules::start_of))]
 pub fn start_of(p: Program) -> State
     ensures { result ≡ start_of p }
 {
     let first = p.first;
-    let blank = Waiting {
-        entry: Entry::Store(Write {
-            location: Location(0),
-            word: 0,
-        }),
-    };
     State {
         words: first,
         held: [0u32; SLOTS],
         marks: [0u8; SLOTS],
         lengths: [0u8; LOCATIONS],
-        buffers: [blank; CODE],
+        buffers: [BLANK; CODE],
         waiting: [0u8; THREADS],
         registers: [0u32; ALL_REGISTERS],
         issued: [0u8; THREADS],
     }
 }
 
-// The rule that a step breaks; 0 where it is legal.
-pub(crate) fn rule<'a>(
-    p: Program,
-    buffers: [Waiting; CODE],
-    issued: &'a [u8; THREADS],
-    waiting: &'a [u8; THREADS],
-    marks: &'a [u8; SLOTS],
-    lengths: &'a [u8; LOCATIONS],
-    k: Step,
-) -> u8
-    requires { ProgramFits p × Movable buffers waiting.now × Shallow lengths.now
-        × (length marks.now ≡ all_slots) × (step_fault (limits_of p) k ≡ 0) }
-    ensures { result ≡ rule_in p (lent buffers issued.now
-        waiting.now marks.now lengths.now) k }
+// May a step be taken?
+#[tactic(auto, using(cases::proofs::ChoiceLaws::choices), unfolding(crate::specs::Rules::rule_of, crate::specs::Rules::rule_in))]
+pub(crate) fn rule(p: &Program, s: &State, k: Step) -> Result<(), Rule>
+    requires { Fits p.now s.now × (step_fault (limits_of p.now) k ≡ 0) }
+    ensures { broken result ≡ rule_of p.now s.now k }
 {
-    let code = k.code;
-    if code == ISSUE {
-        return issue::issue_rule(p, issued, waiting, marks, lengths, k.thread);
+    match k.code {
+        ISSUE => issue::issue_rule(p, s, k.thread),
+        MOVE => moves::move_rule(p, s, k.thread, k.position),
+        _ => moves::persist_rule(s, Line(k.location.0)),
     }
-    if code == MOVE {
-        return moves::move_rule(p, buffers, waiting, marks, lengths, k.thread, k.position);
-    }
-    moves::persist_rule(lengths, Line(k.location.0))
 }
 
 // The state after a legal step, which was tested before.
-pub(crate) fn take_step(p: Program, s: State, k: Step) -> State
-    requires { Fits p s × (step_fault (limits_of p) k ≡ 0) × (rule_of p s k ≡ 0) }
-    ensures { result ≡ next_of p s k }
+#[tactic(auto, using(cases::proofs::ChoiceLaws::choices), unfolding(crate::specs::Rules::next_of))]
+pub(crate) fn take_step(p: &Program, s: State, k: Step) -> State
+    requires { Fits p.now s × (step_fault (limits_of p.now) k ≡ 0) × (rule_of p.now s k ≡ 0) }
+    ensures { result ≡ next_of p.now s k }
 {
-    let code = k.code;
-    if code == ISSUE {
-        return issue::issue(p, s, k.thread);
+    match k.code {
+        ISSUE => issue::issue(p, s, k.thread),
+        MOVE => moves::move_entry(p, s, k.thread, k.position),
+        _ => moves::persist(s, Line(k.location.0)),
     }
-    if code == MOVE {
-        return moves::move_entry(p, s, k.thread, k.position);
-    }
-    moves::persist(s, Line(k.location.0))
 }
 
 // Where a case's runs start: 32 first.
+#[tactic(auto, using(cases::proofs::ChoiceLaws::choices), unfolding(crate::specs::Judge::started_of, crate::specs::Judge::told))]
 pub fn start(c: Case) -> Stepped
     ensures { result ≡ started_of c }
 {
@@ -135,26 +114,20 @@ pub fn start(c: Case) -> Stepped
 }
 
 // A step in a state that fits: 5 and 8, then the rules; the state goes back unchanged where it is refused.
-fn step_in(p: Program, s: State, k: Step) -> Stepped
-    requires { Fits p s }
-    ensures { result ≡ stepped_of (ptso p) s k }
+fn step_in(p: &Program, s: State, k: Step) -> Stepped
+    requires { Fits p.now s }
+    ensures { result ≡ stepped_of (ptso p.now) s k }
 {
-    let fault = checks::step_fault(p, k);
+    let fault = checks::step_fault(*p, k);
     if fault != 0 {
         return Stepped {
             ruling: Ruling::Declined(fault),
             state: s,
         };
     }
-    let u = s;
-    let b = u.buffers;
-    let broken = rule(p, b, &u.issued, &u.waiting, &u.marks, &u.lengths, k);
-    if broken != 0 {
+    if let Err(broken) = rule(p, &s, k) {
         return Stepped {
-            ruling: Ruling::Broken(
-                broken,
-                blocker::blocker_by(p, b, &u.waiting, &u.marks, &u.lengths, k, broken),
-            ),
+            ruling: Ruling::Broken(broken.number(), blocker::blocker_by(p, &s, k, broken)),
             state: s,
         };
     }
@@ -165,6 +138,7 @@ fn step_in(p: Program, s: State, k: Step) -> Stepped
 }
 
 // A single step with a case and a state in memory: 32, 33, then what is said of it there.
+#[tactic(auto, using(cases::proofs::ChoiceLaws::choices), unfolding(crate::specs::Judge::step_of, crate::specs::Judge::told))]
 pub fn step(c: Case, s: State, k: Step) -> Stepped
     ensures { result ≡ step_of c s k }
 {
@@ -174,8 +148,8 @@ pub fn step(c: Case, s: State, k: Step) -> Stepped
             state: s,
         };
     }
-    let p = c.program;
-    if fit::is_misfit(p, s) {
+    let p = &c.program;
+    if fit::is_misfit(p, &s) {
         return Stepped {
             ruling: Ruling::Declined(33),
             state: s,

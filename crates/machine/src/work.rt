@@ -1,8 +1,8 @@
 // The work left, and the full length.
-ghost use Rattle.std.specs.Prelude.{◌≡◌, ◌+◌, ◌*◌, ◌<◌, ◌≤◌, get_or};
-ghost use Rattle.cases.specs.Sizes.{most_threads, most_instructions, most_locations, all_code};
+ghost use Rattle.std.specs.Prelude.{◌≡◌, ◌+◌, ◌*◌, ◌<◌, ◌≤◌, length, sum_by};
+ghost use Rattle.cases.specs.Sizes.{most_threads, most_instructions, all_code};
 ghost use Rattle.cases.specs.Checks.{count_at};
-ghost use Rattle.machine.specs.View.{buffer_in, queue_len, issued_of};
+ghost use Rattle.machine.specs.View.{buffer, buffer_len, issued_of};
 ghost use Rattle.machine.specs.Fit.{sum_to, Fits};
 ghost use Rattle.machine.specs.Work.{unissued_weight, waiting_weight, code_weight, entry_weight, weigh};
 ghost use Rattle.machine.specs.Work.{unissued_code, thread_work, work};
@@ -10,26 +10,30 @@ ghost use Rattle.machine.specs.Judge.{weighed_no, weighed_work, work_of, full_of
 
 use crate::cells::{Entry, State, Waiting};
 use crate::{fit, steps};
-use cases::case::{Case, Program, Thread};
+use cases::case::{Case, Instruction, Program, Thread};
 use cases::operations::{
     COMPARE, EXCHANGE, FLUSH, FLUSH_OPT, LOAD, SFENCE, STORE_REGISTER, STORE_WORD,
 };
-use cases::sizes::{CODE, INSTRUCTIONS, LOCATIONS, THREADS};
+use cases::sizes::{INSTRUCTIONS, LOCATIONS, THREADS};
 
-// The work left, or the number of the refusal.
-#[derive(Clone, Copy)]
-pub enum Weighed {
-    Left(usize),
-    Unweighed(u8),
+// Why the work is not told: the case is none that can be read, or the state doesn't fit it.
+#[derive(Clone, Copy, PartialEq, Eq)]
+pub enum Unweighed {
+    Unreadable,
+    Misfit,
 }
+
+// The work left, or why it is not told.
+pub type Weighed = Result<usize, Unweighed>;
 
 // The refusal's number, 0 where there is none.
 pub fn weighed_number(w: Weighed) -> u8
     ensures { result ≡ weighed_no w }
 {
     match w {
-        Weighed::Left(_) => 0,
-        Weighed::Unweighed(n) => n,
+        Ok(_) => 0,
+        Err(Unweighed::Unreadable) => 32,
+        Err(Unweighed::Misfit) => 33,
     }
 }
 
@@ -37,119 +41,78 @@ pub fn weighed_number(w: Weighed) -> u8
 pub fn weighed_work(w: Weighed) -> usize
     ensures { result ≡ weighed_work w }
 {
-    match w {
-        Weighed::Left(n) => n,
-        Weighed::Unweighed(_) => 0,
-    }
+    w.unwrap_or(0)
 }
 
 // The weight of an instruction that is not issued, by its operation.
+#[tactic(auto, using(cases::proofs::ChoiceLaws::choices), unfolding(crate::specs::Work::unissued_weight))]
 fn unissued_weight(op: u8) -> usize
     ensures { (result ≡ unissued_weight op) × (result ≤ 3) }
 {
-    if op == STORE_WORD {
-        return 3;
+    match op {
+        STORE_WORD | STORE_REGISTER | FLUSH_OPT => 3,
+        EXCHANGE | FLUSH | SFENCE | COMPARE => 2,
+        _ => 1,
     }
-    if op == STORE_REGISTER {
-        return 3;
-    }
-    if op == LOAD {
-        return 1;
-    }
-    if op == EXCHANGE {
-        return 2;
-    }
-    if op == FLUSH {
-        return 2;
-    }
-    if op == FLUSH_OPT {
-        return 3;
-    }
-    if op == SFENCE {
-        return 2;
-    }
-    if op == COMPARE {
-        return 2;
-    }
-    1
 }
 
 // The weight of an entry that waits.
+#[tactic(auto, unfolding(crate::specs::Work::waiting_weight))]
 fn waiting_weight(w: Waiting) -> usize
     ensures { (result ≡ waiting_weight w.entry) × (result ≤ 2) }
 {
-    let e = w.entry;
-    match e {
-        Entry::Store(_) => 2,
-        Entry::Flush(_) => 1,
-        Entry::FlushOpt(_) => 2,
-        Entry::Sfence => 1,
+    match w.entry {
+        Entry::Store(_) | Entry::FlushOpt(_) => 2,
+        Entry::Flush(_) | Entry::Sfence => 1,
     }
 }
 
-fn weigh_code(p: Program, s: State, t: Thread) -> usize
-    requires { (t.0 < most_threads) × (issued_of s t.0 ≤ count_at p t.0)
-        × (count_at p t.0 ≤ most_instructions) }
-    ensures { (result ≡ weigh code_weight (unissued_code p s t.0)) × (result ≤ 3 * most_instructions) }
+// The instructions of a thread that are not issued yet.
+fn unissued<'a>(p: &'a Program, s: &State, t: Thread) -> &'a [Instruction]
+    requires { (t.0 < most_threads) × (issued_of s.now t.0 ≤ count_at p.now t.0)
+        × (count_at p.now t.0 ≤ most_instructions) }
+    ensures is { result.now ≡ unissued_code p.now s.now t.0 }
+    ensures few { length result.now ≤ most_instructions }
 {
-    let q = p;
-    let u = s;
     let at = t.0 as usize;
-    let done = u.issued[at];
-    let base = at * INSTRUCTIONS + (done as usize);
-    let n = (q.counts[at] - done) as usize;
-    let mut weight: usize = 0;
-    let mut i = 0;
-    while i < n {
-        let x = q.code[base + i];
-        weight += unissued_weight(x.operation);
-        i += 1;
-    }
-    weight
+    let base = at * INSTRUCTIONS;
+    &p.code[base + (s.issued[at] as usize)..base + (p.counts[at] as usize)]
 }
 
-fn weigh_buffer<'a>(buffers: [Waiting; CODE], waiting: &'a [u8; THREADS], t: Thread) -> usize
-    requires { (t.0 < most_threads) × (get_or waiting.now t.0 0 ≤ most_instructions) }
-    ensures { (result ≡ weigh entry_weight (buffer_in buffers waiting.now t.0))
-        × (result ≤ 2 * most_instructions) }
+fn weigh_code(p: &Program, s: &State, t: Thread) -> usize
+    requires { (t.0 < most_threads) × (issued_of s.now t.0 ≤ count_at p.now t.0)
+        × (count_at p.now t.0 ≤ most_instructions) }
+    ensures { result ≡ sum_by code_weight (unissued_code p.now s.now t.0) }
 {
-    let b = buffers;
-    let base = (t.0 as usize) * INSTRUCTIONS;
-    let n = waiting[t.0 as usize] as usize;
-    let mut weight: usize = 0;
-    let mut i = 0;
-    while i < n {
-        let w = b[base + i];
-        weight += waiting_weight(w);
-        i += 1;
-    }
-    weight
+    unissued(p, s, t)
+        .iter()
+        .map(|x| unissued_weight(x.operation))
+        .sum()
 }
 
-fn threads_work(p: Program, s: State) -> usize
-    requires { Fits p s }
-    ensures { (result ≡ sum_to most_threads (thread_work p s)) × (result ≤ 5 * all_code) }
+fn weigh_buffer(s: &State, t: Thread) -> usize
+    requires { (t.0 < most_threads) × (buffer_len s.now t.0 ≤ most_instructions) }
+    ensures { result ≡ sum_by entry_weight (buffer s.now t.0) }
 {
-    let u = s;
+    s.buffer(t).iter().map(|w| waiting_weight(*w)).sum()
+}
+
+// The work left in a thread.
+fn thread_work(p: &Program, s: &State, t: Thread) -> usize
+    requires { (t.0 < most_threads) × (issued_of s.now t.0 ≤ count_at p.now t.0)
+        × (count_at p.now t.0 ≤ most_instructions) × (buffer_len s.now t.0 ≤ most_instructions) }
+    ensures { (result ≡ thread_work p.now s.now t.0) × (result ≤ 5 * most_instructions) }
+{
+    weigh_code(p, s, t) + weigh_buffer(s, t)
+}
+
+fn threads_work(p: &Program, s: &State) -> usize
+    requires { Fits p.now s.now }
+    ensures { (result ≡ sum_to most_threads (thread_work p.now s.now)) × (result ≤ 5 * all_code) }
+{
     let mut total: usize = 0;
-    let mut t: u8 = 0;
-    while (t as usize) < THREADS {
-        let b = u.buffers;
-        total += weigh_code(p, s, Thread(t)) + weigh_buffer(b, &u.waiting, Thread(t));
-        t += 1;
-    }
-    total
-}
-
-fn queues_work(s: State) -> usize
-    ensures { (result ≡ sum_to most_locations (queue_len s)) × (result ≤ most_locations * 256) }
-{
-    let u = s;
-    let mut total: usize = 0;
-    let mut l = 0;
-    while l < LOCATIONS {
-        total += u.lengths[l] as usize;
-        l += 1;
+    for t in 0..THREADS {
+        total += thread_work(p, s, Thread(t as u8));
     }
     total
 }
@@ -159,30 +122,31 @@ pub fn work_in(p: Program, s: State) -> usize
     requires { Fits p s }
     ensures { result ≡ work p s }
 {
-    threads_work(p, s) + queues_work(s)
+    threads_work(&p, &s) + fit::total(&s.lengths)
 }
 
 // The work left of a case in a state in memory: 32, then 33.
+#[tactic(auto, using(cases::proofs::ChoiceLaws::choices), unfolding(crate::specs::Judge::work_of))]
 pub fn work_left(c: Case, s: State) -> Weighed
     ensures { result ≡ work_of c s }
 {
     if !cases::reads_back(c) {
-        return Weighed::Unweighed(32);
+        return Err(Unweighed::Unreadable);
     }
-    let p = c.program;
-    if fit::is_misfit(p, s) {
-        return Weighed::Unweighed(33);
+    if fit::is_misfit(&c.program, &s) {
+        return Err(Unweighed::Misfit);
     }
-    Weighed::Left(work_in(p, s))
+    Ok(work_in(c.program, s))
 }
 
 // The full length of a case's program: 32 first.
+#[tactic(auto, using(cases::proofs::ChoiceLaws::choices), unfolding(crate::specs::Judge::full_of, crate::specs::Model::full_length))]
 pub fn full_length(c: Case) -> Weighed
     ensures { result ≡ full_of c }
 {
     if !cases::reads_back(c) {
-        return Weighed::Unweighed(32);
+        return Err(Unweighed::Unreadable);
     }
     let p = c.program;
-    Weighed::Left(work_in(p, steps::start_of(p)))
+    Ok(work_in(p, steps::start_of(p)))
 }

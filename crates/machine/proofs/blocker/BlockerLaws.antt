@@ -3,9 +3,8 @@
 use Prim.Native.Nat.{ℕ, ◌≤◌, ◌<◌}
 use mathlib.Core.Path.{◌≡◌}
 use mathlib.Core.Logic.{◌⊎◌, inl, inr}
-use mathlib.Core.List.{[]}
 use native.Mathlib.Omega.{arith}
-use lib.ListN.{length, get_or}
+use lib.ListN.{get_or}
 use Rattle.cases.specs.declared.case.Step.{Step}
 use Rattle.cases.specs.declared.case.Program.{Program}
 use Rattle.cases.specs.Checks.{limits_of, step_fault}
@@ -13,8 +12,8 @@ use Rattle.cases.specs.Sizes.{most_threads, most_instructions}
 use Rattle.cases.proofs.Promises.{thread_low}
 use Rattle.machine.specs.declared.cells.State.{State}
 use Rattle.machine.specs.declared.blocker.Blocker.{Blocker}
-use Rattle.machine.specs.Sizes.{all_slots}
-use Rattle.machine.specs.Parts.{lent}
+use Rattle.machine.specs.View.{buffer_len}
+use Rattle.machine.specs.Parts.{parts_of}
 use Rattle.machine.specs.Rules.{rule_of}
 use Rattle.machine.specs.Blocker.{blocker_by, blocker_in, blocker_of}
 use Rattle.machine.specs.Fit.{Fits, Shallow}
@@ -54,21 +53,19 @@ module _ (p : Program) (s : State) (fit : Fits p s) (k : Step) (faultless : step
 
   -- what `blocker_by` asks for, once the rule is known
   pub blocker_ready : (r : ℕ) → r ≡ rule_of p s k
-      → (k.thread.0 < most_threads) × (get_or s.waiting k.thread.0 0 ≤ most_instructions)
-      × Shallow s.lengths × (length s.marks ≡ all_slots)
-      × (26 ≤ r → r ≤ 27 → k.position < get_or s.waiting k.thread.0 0)
+      → (k.thread.0 < most_threads) × (buffer_len s k.thread.0 ≤ most_instructions) × Shallow s.lengths
+      × (26 ≤ r → r ≤ 27 → k.position < buffer_len s k.thread.0)
   blocker_ready r e =
-      let waits : 26 ≤ r → r ≤ 27 → k.position < get_or s.waiting k.thread.0 0 = rw e entry_waits in (
+      let waits : 26 ≤ r → r ≤ 27 → k.position < buffer_len s k.thread.0 = rw e entry_waits in (
         own_thread,
         fits_buffer_within p s fit k.thread.0 own_thread,
         shallow p s fit,
-        fit.sized.marks_long,
         waits,
       )
 
--- and what it answers is the blocker in that state: it doesn't look at the issued counts
+-- and what it answers is the blocker in that state
 pub blocker_is : (p : Program) (s : State) (k : Step) (r : ℕ) → r ≡ rule_of p s k
-    → (b : Blocker) → b ≡ blocker_by r p (lent s.buffers [] s.waiting s.marks s.lengths) k
+    → (b : Blocker) → b ≡ blocker_by r p (parts_of s) k
     → b ≡ blocker_of p s k
-unfolding blocker_of blocker_in blocker_by rule_of
+unfolding blocker_of blocker_in rule_of
 blocker_is p s k r e b d = rw e at d

@@ -14,8 +14,8 @@ use Rattle.cases.specs.declared.case.Program.{Program}
 use Rattle.cases.specs.Sizes.{most_locations}
 use Rattle.cases.proofs.ChoiceLaws.{never_both}
 use Rattle.machine.specs.declared.cells.State.{State}
-use Rattle.machine.specs.declared.look.Found.{Found}
-use Rattle.machine.specs.declared.look.Found.TheVariants.{At, Nothing}
+use Rattle.machine.specs.declared.look.Place.{Place}
+use Rattle.std.specs.Prelude.{Option, Some, None}
 use Rattle.machine.specs.declared.blocker.Blocker.{Blocker}
 use Rattle.machine.specs.declared.blocker.Blocker.TheVariants.{InBuffer, InQueue, NoEntry}
 use Rattle.machine.specs.View.{Slot, mark_of, marks_in, queue, buffer}
@@ -59,9 +59,9 @@ queue_first q m i j h g =
     (lt_or_ge q.0 m.0)
 
 -- a marker that was found has its place
-pub found_place : (f : Found) → is_at f ≡ true → marker_place f ≡ InQueue (record { 0 = found_queue f }) (found_position f)
-found_place (At q i) h = refl
-found_place Nothing h = absurd (never_both h refl)
+pub found_place : (f : Option Place) → is_at f ≡ true → marker_place f ≡ InQueue (record { 0 = found_queue f }) (found_position f)
+found_place (Some m) h = refl
+found_place None h = absurd (never_both h refl)
 
 -- A state that fits, and a step
 module _ (p : Program) (s : State) (fit : Fits p s) (k : Step) where
@@ -126,7 +126,7 @@ module _ (p : Program) (s : State) (fit : Fits p s) (k : Step) where
 
   -- 23 and 28: the thread's first marker
   module _ (which : (rule_of p s k ≡ 23) ⊎ (rule_of p s k ≡ 28)) (has : HasMarker s own) where
-    abbrev found : Found
+    abbrev found : Option Place
     found = marker_of s.marks s.lengths own
 
     pub is_found : is_at found ≡ true

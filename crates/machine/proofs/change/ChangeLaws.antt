@@ -1,7 +1,7 @@
 -- Laws of a change to a queue or a buffer: what the code writes is the state with an entry more at the end, or
 -- without one. Assumes nothing.
 use Prim.Native.Nat.{ℕ, ◌+◌, ◌*◌, ◌-◌, ◌≤◌, ◌<◌}
-use mathlib.Core.Path.{◌≡◌, refl, sym, ◌∙◌}
+use mathlib.Core.Path.{◌≡◌, refl, ◌∙◌}
 use mathlib.Core.List.{List, [], ◌∷◌, ◌++◌}
 use native.Mathlib.Omega.{arith}
 use native.Mathlib.Nat.{add-zero}
@@ -11,50 +11,14 @@ use Rattle.machine.specs.declared.cells.State.{State}
 use Rattle.machine.specs.declared.cells.Waiting.{Waiting}
 use Rattle.machine.specs.declared.cells.Entry.{Entry}
 use Rattle.machine.specs.Sizes.{room, all_slots}
-use Rattle.machine.specs.View.{Slot, words_of, marks_of, part, put, shift, close_gap, without, marks_in}
+use Rattle.machine.specs.View.{Slot, words_of, marks_of, part, put, close_gap, without, marks_in}
 use Rattle.machine.specs.View.{queue_in, queue_len, queue, with_queue, blank_waiting, buffer_in, buffer_len}
 use Rattle.machine.specs.View.{buffer, with_buffer}
 use Rattle.machine.specs.Rules.{enqueue, await}
 use Rattle.machine.proofs.lists.PartLaws.{length_part}
-use Rattle.machine.proofs.lists.PutLaws.{put_push, put_without, shift_none, shift_next, length_without}
+use Rattle.machine.proofs.lists.PutLaws.{put_push, put_without, length_without}
 use Rattle.machine.proofs.view.QueueLaws.{queue_words, queue_marks, queue_slots_length}
 use Rattle.machine.proofs.view.SlotLaws.{words_append, marks_append, words_drop, marks_drop}
-
--- a loop closes the gap at `from` in a row of n and has come to i: the row is the one before, shifted so far
-pub record Closing {A : Type 0} (from end n : ℕ) (before row : List A) (i : ℕ) : Type 0 where
-  pub sized : length before ≡ n
-  pub fits : end ≤ n
-  pub behind : from < i
-  pub within : i ≤ end
-  pub shifted : row ≡ shift from i before
-
--- nothing is moved yet
-pub closing_start : {A : Type 0} (from end n : ℕ) (row : List A) → length row ≡ n → from < end → end ≤ n
-    → Closing from end n row row (from + 1)
-closing_start from end n row e h k =
-    record {
-      sized = e;
-      fits = k;
-      behind = omega arith;
-      within = omega arith;
-      shifted = sym (shift_none from row);
-    }
-
--- a turn of that loop moves one more; all are moved, and the last one is made blank
-module _ {A : Type 0} {from end n : ℕ} {before row : List A} {i : ℕ} (o : Closing from end n before row i) where
-  pub closing_next : (d : A) → i < end → Closing from end n before (set row (i - 1) (get_or row i d)) (i + 1)
-  closing_next d h =
-      record {
-        sized = o.sized;
-        fits = o.fits;
-        behind = omega arith;
-        within = omega arith;
-        shifted = rw o.shifted (shift_next from i before d o.behind (omega arith));
-      }
-
-  pub closing_end : (blank : A) → end ≤ i → set row (end - 1) blank ≡ close_gap blank from end before
-  unfolding close_gap
-  closing_end blank h = let e : i ≡ end = omega arith in rw (o.shifted, e)
 
 -- the words, marks and length of a queue with one more at its end
 module _ (held marks lengths : List ℕ) (q : ℕ) (h : q * room + get_or lengths q 0 < length held)

@@ -13,7 +13,14 @@ use lib.Dec.{ltb}
 use lib.ListN.{length, get_or, take, drop, length-take, length-drop, drop_of_length-le}
 use lib.Seq.{drop-cons, take-suc, get_or-drop, get_or-take, drop-drop, take-take}
 use Rattle.cases.proofs.ArrayLaws.{drop_take}
+use borrow.Rule.Slice.PartMut.{mid_of}
 use Rattle.machine.specs.View.{part}
+
+-- what the library says of the slice `xs[base..end]`
+pub part_is : {A : Type 0} (base end n : ℕ) (xs : List A) → end - base ≡ n
+    → mid_of base (end - base) xs ≡ part base n xs
+unfolding part
+part_is base end n xs e = rw e
 
 -- of two numbers the first is smaller, or it is not
 pub lt_or_ge : (a b : ℕ) → (a < b) ⊎ (b ≤ a)

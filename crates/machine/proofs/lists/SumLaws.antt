@@ -1,6 +1,10 @@
--- Laws of `sum_to`, and the loops that sum. Assumes nothing.
+-- Laws of `sum_to`, the loops that sum, and the library's sum of a list. Assumes nothing.
 use Prim.Native.Nat.{ℕ, zero, suc, ◌+◌, ◌*◌, ◌≤◌, ◌<◌}
-use mathlib.Core.Path.{◌≡◌, refl}
+use mathlib.Core.Path.{◌≡◌, refl, sym, ◌∙◌}
+use mathlib.Core.List.{List, [], ◌∷◌}
+use lib.ListN.{length, get_or}
+use Rattle.std.specs.List.{sum}
+use Rattle.std.proofs.lemmas.List.Sums.{sum_by-cons}
 use mathlib.Core.Logic.{◌⊎◌, inl, inr, ◌≢◌, ⊎_elim}
 use native.Mathlib.Omega.{arith}
 use native.Mathlib.Nat.{eq-or-lt_of_le, le_of_suc-le-suc, eq-zero-or-pos}
@@ -64,6 +68,25 @@ some_or_none (suc n) f = go (some_or_none n f) (eq-zero-or-pos (f n))
     go (inl x) z = inl (x.0, (let h = x.1 in omega arith), x.2)
     go (inr r) (inr h) = inl (n, omega arith, h)
     go (inr r) (inl z) = inr (λ i h. ⊎_elim (λ e. rw e z) (r i) (eq-or-lt_of_le (le_of_suc-le-suc h)))
+
+-- the library's sum of a list
+sum_front : (n : ℕ) (f : ℕ → ℕ) → sum_to (suc n) f ≡ f 0 + sum_to n (λ i. f (suc i))
+unfolding sum_to
+sum_front zero f = refl
+sum_front (suc n) f = rw (sum_front n f) (omega arith)
+
+sum_list : (xs : List ℕ) → sum xs ≡ sum_to (length xs) (λ i. get_or xs i 0)
+unfolding sum_to
+sum_list [] = refl
+sum_list (x ∷ xs) = sum_by-cons (λ y. y) x xs ∙ rw (sum_list xs) (sym (sum_front (length xs) (λ i. get_or (x ∷ xs) i 0)))
+
+pub sum_counted : (xs : List ℕ) (n : ℕ) → length xs ≡ n → sum xs ≡ sum_to n (λ i. get_or xs i 0)
+sum_counted xs n e = rw (← e) (sum_list xs)
+
+-- of bytes
+pub sum_bytes : (xs : List ℕ) → ((k : ℕ) → get_or xs k 0 < 256) → sum xs ≤ length xs * 255
+sum_bytes xs h =
+    rw (sum_list xs) (sum_most (length xs) 255 (λ i. get_or xs i 0) (λ k l. let b = h k in omega arith))
 
 -- a loop has summed the first i of n, each at most m
 pub record SummedSoFar (f : ℕ → ℕ) (n m total i : ℕ) : Type 0 where

@@ -55,11 +55,10 @@ silent_end {i = i} o h other = let e : i ≡ 0 = omega arith in sym (rw e at (o.
 -- of entries that stand in an array from base on, the one before position i
 entry_before : {A : Type 0} (get : ℕ → A) (xs : List A) (base n i : ℕ)
     → ((k : ℕ) → k < n → drop k xs ≡ get (base + k) ∷ drop (k + 1) xs)
-    → i ≤ n → 0 < i → drop (i - 1) xs ≡ get ((base + i) - 1) ∷ drop i xs
+    → i ≤ n → 0 < i → drop (i - 1) xs ≡ get (base + (i - 1)) ∷ drop i xs
 entry_before get xs base n i next h c =
     let j : (i - 1) + 1 ≡ i = omega arith in
-    let a : base + (i - 1) ≡ (base + i) - 1 = omega arith in
-    rw (j, a) at (next (i - 1) (omega arith))
+    rw j at (next (i - 1) (omega arith))
 
 -- newest_write: of the n slots from base on
 abbrev pub NewestSoFar : ℕ → List ℕ → List ℕ → ℕ → ℕ → ℕ → Type 0
@@ -79,19 +78,19 @@ module _ (l : ℕ) (held marks : List ℕ) (base n : ℕ) (h : base + n ≤ leng
 
     module _ {i : ℕ} (o : NewestSoFar l held marks base n i) (c : 0 < i) where
       newest_before : drop (i - 1) (slots (part base n held) (part base n marks))
-          ≡ record { word = get_or held ((base + i) - 1) 0; mark = get_or marks ((base + i) - 1) 0 }
+          ≡ record { word = get_or held (base + (i - 1)) 0; mark = get_or marks (base + (i - 1)) 0 }
           ∷ drop i (slots (part base n held) (part base n marks))
       newest_before =
           entry_before (λ m. record { word = get_or held m 0; mark = get_or marks m 0 }) _ base n i
           (slots_next held marks base n h k) o.within c
 
-      pub newest_next : get_or marks ((base + i) - 1) 0 ≢ l → NewestSoFar l held marks base n (i - 1)
+      pub newest_next : get_or marks (base + (i - 1)) 0 ≢ l → NewestSoFar l held marks base n (i - 1)
       unfolding word_or
       newest_next e =
           silent_next (word_or l) (newest_write l) (newest_more l) o newest_before (λ w. pick_false _ _ _ (ne_eqb _ _ e))
 
-      pub newest_here : get_or marks ((base + i) - 1) 0 ≡ l → (other : ℕ)
-          → get_or held ((base + i) - 1) 0 ≡ newest_write l (slots (part base n held) (part base n marks)) other
+      pub newest_here : get_or marks (base + (i - 1)) 0 ≡ l → (other : ℕ)
+          → get_or held (base + (i - 1)) 0 ≡ newest_write l (slots (part base n held) (part base n marks)) other
       unfolding word_or
       newest_here e =
           silent_here (word_or l) (newest_write l) (newest_more l) o newest_before _ (λ w. pick_true _ _ _ (eq-eqb _ _ e))
@@ -132,17 +131,17 @@ module _ (l : ℕ) (b : List Waiting) (base n : ℕ) (h : base + n ≤ length b)
   store_start = record { within = omega arith; silent = λ w. rw (part_end base n n b (omega arith)) }
 
   module _ {i : ℕ} (o : StoreSoFar l b base n i) (c : 0 < i) where
-    store_before : drop (i - 1) (part base n b) ≡ get_or b ((base + i) - 1) blank_waiting ∷ drop i (part base n b)
+    store_before : drop (i - 1) (part base n b) ≡ get_or b (base + (i - 1)) blank_waiting ∷ drop i (part base n b)
     store_before =
         entry_before (λ m. get_or b m blank_waiting) _ base n i
         (λ m r. part_next base n m b blank_waiting r h) o.within c
 
-    pub store_next : ((w : ℕ) → stored_or l (get_or b ((base + i) - 1) blank_waiting).entry w ≡ w)
+    pub store_next : ((w : ℕ) → stored_or l (get_or b (base + (i - 1)) blank_waiting).entry w ≡ w)
         → StoreSoFar l b base n (i - 1)
     store_next e = silent_next (waiting_or l) (newest_store l) (store_more l) o store_before e
 
     pub store_here : (word : ℕ)
-        → ((w : ℕ) → stored_or l (get_or b ((base + i) - 1) blank_waiting).entry w ≡ word) → (other : ℕ)
+        → ((w : ℕ) → stored_or l (get_or b (base + (i - 1)) blank_waiting).entry w ≡ word) → (other : ℕ)
         → word ≡ newest_store l (part base n b) other
     store_here = silent_here (waiting_or l) (newest_store l) (store_more l) o store_before
 
@@ -179,9 +178,10 @@ module _ {p : Program} {q : ℕ} {b : List Waiting} (waiting : List ℕ) (t : �
       = rw (part_next (t * most_instructions) i j b blank_waiting h o.long, e) at o.rest in
       sym (add-zero j) ∙ r ∙ bar_front
 
-  pub bar_end : i ≤ j → j ≡ first_bar p q (take i (buffer_in b waiting t))
+  pub bar_end : i ≤ j → i ≡ first_bar p q (take i (buffer_in b waiting t))
   unfolding first_bar
   bar_end h =
+      let same : i ≡ j + 0 = let w = o.within in omega arith in
       let r : j + 0 ≡ first_bar p q (part (t * most_instructions) i b)
       = rw (part_end (t * most_instructions) i j b h) at o.rest in
-      sym (add-zero j) ∙ r ∙ bar_front
+      same ∙ r ∙ bar_front

@@ -14,10 +14,10 @@ use lib.ListN.{length, get_or}
 use Rattle.cases.specs.Choice.{pick}
 use Rattle.cases.specs.Sizes.{most_locations}
 use Rattle.cases.proofs.ChoiceLaws.{never_both}
-use Rattle.machine.specs.declared.look.Found.{Found}
-use Rattle.machine.specs.declared.look.Found.TheVariants.{At, Nothing}
+use Rattle.machine.specs.declared.look.Place.{Place}
+use Rattle.std.specs.Prelude.{Option, Some, None}
 use Rattle.machine.specs.View.{mark_of, marks_in}
-use Rattle.machine.specs.Look.{marker_among, marker_from, marker_of, is_at, found_queue, found_position}
+use Rattle.machine.specs.Look.{place_at, marker_among, marker_from, marker_of, is_at, found_queue, found_position}
 
 module _ (t : ℕ) where
   -- no mark of a list is one of thread t
@@ -31,9 +31,9 @@ module _ (t : ℕ) where
     none : (k : ℕ) → k < i → get_or ms k 0 ≢ mark_of t
 
   -- one queue's marks: there is a first one, or none and what comes after is the answer
-  abbrev InQueue : ℕ → ℕ → List ℕ → Found → Found → Type 0
+  abbrev InQueue : ℕ → ℕ → List ℕ → Option Place → Option Place → Type 0
   InQueue q i ms after x =
-      ((j : ℕ) × FirstMark ms j × (x ≡ At (record { 0 = q }) (i + j))) ⊎ (Unmarked ms × (x ≡ after))
+      ((j : ℕ) × FirstMark ms j × (x ≡ Some (place_at q (i + j)))) ⊎ (Unmarked ms × (x ≡ after))
 
   unmarked_next : (m : ℕ) (ms : List ℕ) → m ≢ mark_of t → Unmarked ms → Unmarked (m ∷ ms)
   unmarked_next m ms e h zero = e
@@ -46,7 +46,7 @@ module _ (t : ℕ) where
       before zero h = e
       before (suc k) h = f.none k (omega arith)
 
-  in_queue_lem : (q i : ℕ) (ms : List ℕ) (after : Found) → InQueue q i ms after (marker_among t q i ms after)
+  in_queue_lem : (q i : ℕ) (ms : List ℕ) (after : Option Place) → InQueue q i ms after (marker_among t q i ms after)
   unfolding marker_among pick
   in_queue_lem q i [] after = inr ((λ k e. omega arith), refl)
   in_queue_lem q i (m ∷ ms) after = go (eqb m (mark_of t)) refl (in_queue_lem q (suc i) ms after)
@@ -55,36 +55,36 @@ module _ (t : ℕ) where
           → InQueue q i (m ∷ ms) after (marker_among t q (suc i) ms after)
       later n (inl (j, f, e)) =
           let same : suc i + j ≡ i + suc j = omega arith in
-          inl (suc j, first_next m ms j n f, e ∙ ap (λ k. At (record { 0 = q }) k) same)
+          inl (suc j, first_next m ms j n f, e ∙ ap (λ k. Some (place_at q k)) same)
       later n (inr (h, e)) = inr (unmarked_next m ms n h, e)
 
       go : (b : Bool) → eqb m (mark_of t) ≡ b → InQueue q (suc i) ms after (marker_among t q (suc i) ms after)
-          → InQueue q i (m ∷ ms) after (pick b (At (record { 0 = q }) i) (marker_among t q (suc i) ms after))
+          → InQueue q i (m ∷ ms) after (pick b (Some (place_at q i)) (marker_among t q (suc i) ms after))
       go true e r =
           let same : i ≡ i + 0 = omega arith in
           inl (
             0,
             record { within = omega arith; mark = eqb-true _ _ e; none = λ k h. absurd (omega arith) },
-            ap (λ k. At (record { 0 = q }) k) same,
+            ap (λ k. Some (place_at q k)) same,
           )
       go false e r = later (eqb-false _ _ e) r
 
   -- the n queues from q on
   module _ (marks lengths : List ℕ) where
     -- x is the first marker of the queues `from` to `end`, `end` left out
-    record FirstFrom (from end : ℕ) (x : Found) : Type 0 where
+    record FirstFrom (from end : ℕ) (x : Option Place) : Type 0 where
       queue : ℕ
       position : ℕ
       not_before : from ≤ queue
       low : queue < end
       first : FirstMark (marks_in marks lengths queue) position
       none : (q : ℕ) → from ≤ q → q < queue → Unmarked (marks_in marks lengths q)
-      is : x ≡ At (record { 0 = queue }) position
+      is : x ≡ Some (place_at queue position)
 
-    abbrev InQueues : ℕ → ℕ → Found → Type 0
+    abbrev InQueues : ℕ → ℕ → Option Place → Type 0
     InQueues from end x =
         FirstFrom from end x
-        ⊎ (((q : ℕ) → from ≤ q → q < end → Unmarked (marks_in marks lengths q)) × (x ≡ Nothing))
+        ⊎ (((q : ℕ) → from ≤ q → q < end → Unmarked (marks_in marks lengths q)) × (x ≡ None))
 
     in_queues : (n q end : ℕ) → end ≡ q + n → InQueues q end (marker_from marks lengths t n q)
     unfolding marker_from
@@ -93,7 +93,7 @@ module _ (t : ℕ) where
         go (in_queue_lem q 0 (marks_in marks lengths q) (marker_from marks lengths t n (suc q)))
         (in_queues n (suc q) end (omega arith))
       where
-        x : Found
+        x : Option Place
         x = marker_among t q 0 (marks_in marks lengths q) (marker_from marks lengths t n (suc q))
 
         beyond : Unmarked (marks_in marks lengths q) → (end : ℕ)
@@ -130,7 +130,7 @@ module _ (t : ℕ) where
               low = omega arith;
               first = f;
               none = λ k a b. absurd (omega arith);
-              is = d ∙ ap (λ k. At (record { 0 = q }) k) (zero-add j);
+              is = d ∙ ap (λ k. Some (place_at q k)) (zero-add j);
             }
         go (inr (h, d)) r = later h d r
 

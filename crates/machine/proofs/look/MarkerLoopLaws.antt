@@ -12,38 +12,38 @@ use lib.Dec.{eqb}
 use lib.ListN.{length, get_or, drop}
 use Rattle.cases.specs.Choice.{pick}
 use Rattle.cases.specs.Sizes.{most_locations}
-use Rattle.machine.specs.declared.look.Found.{Found}
-use Rattle.machine.specs.declared.look.Found.TheVariants.{At, Nothing}
+use Rattle.machine.specs.declared.look.Place.{Place}
+use Rattle.std.specs.Prelude.{Option, Some, None}
 use Rattle.machine.specs.Sizes.{room, all_slots}
 use Rattle.machine.specs.View.{mark_of, marks_in}
 use Rattle.machine.specs.Fit.{Shallow}
-use Rattle.machine.specs.Look.{marker_among, marker_from, marker_of}
+use Rattle.machine.specs.Look.{place_at, marker_among, marker_from, marker_of}
 use Rattle.machine.proofs.lists.PartLaws.{part_next, part_end}
 
 -- marker_of, from queue to queue: the queues from q on say what all of them say
-pub record MarkerQueuesSoFar (marks lengths : List ℕ) (mark q : ℕ) (found : Found) : Type 0 where
+pub record MarkerQueuesSoFar (marks lengths : List ℕ) (mark q : ℕ) (found : Option Place) : Type 0 where
   pub long : length marks ≡ all_slots
   pub shallow : Shallow lengths
   pub within : q ≤ most_locations
-  pub none : found ≡ Nothing
+  pub none : found ≡ None
   pub rest : (t : ℕ) → mark ≡ mark_of t
       → marker_from marks lengths t (most_locations - q) q ≡ marker_of marks lengths t
 
 -- and within queue q: its marks from position i on, and the queues behind it, say what all queues say
-pub record MarkerMarksSoFar (marks lengths : List ℕ) (mark q n i : ℕ) (found : Found) : Type 0 where
+pub record MarkerMarksSoFar (marks lengths : List ℕ) (mark q n i : ℕ) (found : Option Place) : Type 0 where
   pub long : length marks ≡ all_slots
   pub shallow : Shallow lengths
   pub low : q < most_locations
   pub few : n ≤ room
   pub counted : n ≡ get_or lengths q 0
-  pub none : found ≡ Nothing
+  pub none : found ≡ None
   pub rest : (t : ℕ) → mark ≡ mark_of t
       → marker_among t q i (drop i (marks_in marks lengths q))
       (marker_from marks lengths t (most_locations - (q + 1)) (q + 1))
       ≡ marker_of marks lengths t
 
 pub marker_queues_start : (marks lengths : List ℕ) (mark : ℕ) → length marks ≡ all_slots → Shallow lengths
-    → MarkerQueuesSoFar marks lengths mark 0 Nothing
+    → MarkerQueuesSoFar marks lengths mark 0 None
 unfolding marker_of
 marker_queues_start marks lengths mark h k =
     record { long = h; shallow = k; within = omega arith; none = refl; rest = λ t e. refl }
@@ -56,7 +56,7 @@ marker_from_next marks lengths t n q h =
     let e : n - q ≡ suc (n - (q + 1)) = omega arith in
     rw (e, add-one)
 
-module _ {marks lengths : List ℕ} {mark q : ℕ} {found : Found}
+module _ {marks lengths : List ℕ} {mark q : ℕ} {found : Option Place}
     (o : MarkerQueuesSoFar marks lengths mark q found) where
   pub marker_marks_start : q < most_locations → MarkerMarksSoFar marks lengths mark q (get_or lengths q 0) 0 found
   unfolding Shallow
@@ -77,7 +77,7 @@ module _ {marks lengths : List ℕ} {mark q : ℕ} {found : Found}
       let e : most_locations - q ≡ 0 = omega arith in
       o.none ∙ (rw e at (o.rest t k))
 
-module _ {marks lengths : List ℕ} {mark q n i : ℕ} {found : Found}
+module _ {marks lengths : List ℕ} {mark q n i : ℕ} {found : Option Place}
     (o : MarkerMarksSoFar marks lengths mark q n i found) where
   module _ (h : i < n) where
     marks_at : drop i (marks_in marks lengths q)
@@ -85,7 +85,7 @@ module _ {marks lengths : List ℕ} {mark q n i : ℕ} {found : Found}
     unfolding marks_in
     marks_at = part_next (q * room) (get_or lengths q 0) i marks 0 (omega arith) (omega arith)
 
-    marker_among_next : (t : ℕ) (after : Found) → eqb (get_or marks (q * room + i) 0) (mark_of t) ≡ false
+    marker_among_next : (t : ℕ) (after : Option Place) → eqb (get_or marks (q * room + i) 0) (mark_of t) ≡ false
         → marker_among t q (i + 1) (drop (i + 1) (marks_in marks lengths q)) after
         ≡ marker_among t q i (drop i (marks_in marks lengths q)) after
     unfolding marker_among pick
@@ -105,7 +105,7 @@ module _ {marks lengths : List ℕ} {mark q n i : ℕ} {found : Found}
         }
 
     pub marker_here : (t : ℕ) → mark ≡ mark_of t → get_or marks (q * room + i) 0 ≡ mark
-        → At (record { 0 = q }) i ≡ marker_of marks lengths t
+        → Some (place_at q i) ≡ marker_of marks lengths t
     unfolding marker_among pick
     marker_here t e p = rw (marks_at, eq-eqb _ _ (p ∙ e)) at (o.rest t e)
 

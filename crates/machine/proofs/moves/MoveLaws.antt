@@ -2,7 +2,7 @@
 -- from what the code has at hand. Assumes nothing.
 use Prim.Native.Nat.{ℕ, ◌+◌, ◌*◌, ◌≤◌, ◌<◌}
 use mathlib.Core.Path.{◌≡◌, refl, sym, ap, ◌∙◌}
-use mathlib.Core.List.{List, [], ◌∷◌}
+use mathlib.Core.List.{List, ◌∷◌}
 use mathlib.Core.Bool.{false}
 use native.Mathlib.Omega.{arith}
 use native.Mathlib.Nat.{add-zero}
@@ -16,7 +16,7 @@ use Rattle.cases.specs.declared.case.Write.{Write}
 use Rattle.cases.specs.declared.case.Program.{Program}
 use Rattle.cases.specs.Sizes.{most_instructions, most_locations}
 use Rattle.cases.proofs.ChoiceLaws.{pick_true, pick_cases, pick_here, pick_next, refuse_here, refuse_next}
-use borrow.Author.Tests.{eq-eqb, ne_eqb, lt-leb, lt-ltb, le-ltb}
+use borrow.Author.Tests.{eq-eqb, ne_eqb, lt-leb, lt-ltb}
 use Rattle.machine.specs.declared.cells.State.{State}
 use Rattle.machine.specs.declared.cells.Waiting.{Waiting}
 use Rattle.machine.specs.declared.cells.Entry.{Entry}
@@ -24,7 +24,7 @@ use Rattle.machine.specs.declared.cells.Entry.TheVariants.{Store, Flush, FlushOp
 use Rattle.machine.specs.Sizes.{room, all_slots, first_marker}
 use Rattle.machine.specs.View.{Slot, line_of, without, marks_in, queue_in, queue, queue_len, with_queue}
 use Rattle.machine.specs.View.{word_of, with_word, blank_waiting, buffer_in, buffer, buffer_len, with_buffer}
-use Rattle.machine.specs.Parts.{Parts, lent}
+use Rattle.machine.specs.Parts.{Parts, parts_of}
 use Rattle.machine.specs.Look.{word_or}
 use Rattle.machine.specs.Rules.{entry_at, effect_rule, effect_of, pass_rule, move_rule, move_of, persist_first}
 use Rattle.machine.specs.Rules.{settled, persist_of}
@@ -32,7 +32,6 @@ use Rattle.cases.specs.Ranges.{ProgramFits}
 use Rattle.machine.specs.Fit.{Named, Roomy}
 use Rattle.machine.proofs.lists.PartLaws.{get_or_part}
 use Rattle.machine.proofs.view.LineOfLaws.{line_low}
-use Rattle.machine.proofs.rules.LentLaws.{effect_lent}
 use Rattle.machine.proofs.view.SlotLaws.{slots_next}
 
 -- Named: what it says of each entry that names a location
@@ -56,16 +55,13 @@ pub move_flush_low : (p : Program) → ProgramFits p → {e : Entry} → Named m
     → q < most_locations
 move_flush_low p g h l is q goes = rw goes (line_low p g l.0 (flush_named h l is))
 
--- effect_rule of a flush: something is queued; nothing is
-module _ (p : Program) (x : Parts) (t : ℕ) (l : Location) (e : Entry) (is : e ≡ Flush l) (q : ℕ)
-    (goes : q ≡ line_of p l.0) where
-  pub move_flush_held : 0 < get_or x.lengths q 0 → 27 ≡ effect_rule p x t e
-  unfolding effect_rule
-  move_flush_held h = rw (is, ← goes) (refuse_here _ 27 0 (lt-ltb _ _ h))
-
-  pub move_flush_free : get_or x.lengths q 0 ≤ 0 → 0 ≡ effect_rule p x t e
-  unfolding effect_rule
-  move_flush_free h = rw (is, ← goes) (refuse_next _ 0 27 0 (le-ltb _ _ h) refl)
+-- effect_rule of a flush where something is queued
+pub move_flush_held : (p : Program) (x : Parts) (t : ℕ) (l : Location) (e : Entry) → e ≡ Flush l → (q : ℕ)
+    → q ≡ line_of p l.0
+    → 0 < get_or x.lengths q 0
+    → 27 ≡ effect_rule p x t e
+unfolding effect_rule
+move_flush_held p x t l e is q goes h = rw (is, ← goes) (refuse_here _ 27 0 (lt-ltb _ _ h))
 
 -- Roomy: there is room for an entry in the queue of a location; taking an entry out of a buffer leaves it
 pub roomy_is : (p : Program) → ProgramFits p → (s : State) → Roomy s → (l : ℕ) → l < most_locations → (q : ℕ)
@@ -88,30 +84,21 @@ module _ (b : List Waiting) (waiting : List ℕ) (t i : ℕ) (h : i < get_or wai
       → Named n (get_or b (t * most_instructions + i) blank_waiting).entry
   move_entry_named n k = rw move_entry_is at k
 
-  pub move_first_named : i ≡ 0 → (n : ℕ) → Named n (entry_at (buffer_in b waiting t) 0)
-      → Named n (get_or b (t * most_instructions + i) blank_waiting).entry
-  move_first_named z n k = move_entry_named n (rw z k)
+-- move_rule: the entry that moves is e; at position 0, and behind it
+pub move_first_named : (s : State) (t i : ℕ) (e : Entry) → entry_at (buffer s t) i ≡ e → i ≡ 0 → (n : ℕ)
+    → Named n (entry_at (buffer s t) 0)
+    → Named n e
+move_first_named s t i e is z n k = rw (← is, z) k
 
-  -- move_rule: at position 0; behind it
-  module _ (p : Program) (issued marks lengths : List ℕ) (r : ℕ) where
-    abbrev parts : Parts
-    parts = lent b issued waiting marks lengths
-
-    pub move_first : i ≡ 0
-        → r
-        ≡ effect_rule p (lent [] [] [] marks lengths) t (get_or b (t * most_instructions + i) blank_waiting).entry
-        → r ≡ move_rule p parts t i
+module _ (p : Program) (s : State) (t i : ℕ) (h : i < buffer_len s t) (e : Entry) (is : entry_at (buffer s t) i ≡ e)
+  where
+    pub move_first : i ≡ 0 → (r : ℕ) → r ≡ effect_rule p (parts_of s) t e → r ≡ move_rule p (parts_of s) t i
     unfolding move_rule
-    move_first z e =
-        refuse_next _ _ _ _ (lt-leb _ _ h)
-        (pick_here _ _ _ _ (eq-eqb _ _ z) (rw move_entry_is (e ∙ effect_lent p parts t _)))
+    move_first z r d = refuse_next _ _ _ _ (lt-leb _ _ h) (pick_here _ _ _ _ (eq-eqb _ _ z) (rw is d))
 
-    pub move_behind : (i ≡ 0 → ⊥)
-        → r ≡ pass_rule p (buffer_in b waiting t) i (get_or b (t * most_instructions + i) blank_waiting).entry
-        → r ≡ move_rule p parts t i
+    pub move_behind : (i ≡ 0 → ⊥) → (r : ℕ) → r ≡ pass_rule p (buffer s t) i e → r ≡ move_rule p (parts_of s) t i
     unfolding move_rule
-    move_behind z e =
-        refuse_next _ _ _ _ (lt-leb _ _ h) (pick_next _ _ _ _ (ne_eqb _ _ z) (rw move_entry_is e))
+    move_behind z r d = refuse_next _ _ _ _ (lt-leb _ _ h) (pick_next _ _ _ _ (ne_eqb _ _ z) (rw is d))
 
 -- move_of: the entry is taken out, then it takes effect
 pub move_taken : (p : Program) (s : State) (t i : ℕ) (u r : State) → i < buffer_len s t

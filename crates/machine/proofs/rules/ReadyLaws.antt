@@ -6,7 +6,6 @@ use mathlib.Core.Logic.{◌≢◌}
 use native.Mathlib.Omega.{arith}
 use borrow.Author.Tests.{eq-eqb, ne_eqb}
 use mathlib.Core.List.{List, [], ◌∷◌}
-use lib.ListN.{length, get_or}
 use Rattle.cases.specs.declared.case.Step.{Step}
 use Rattle.cases.specs.declared.case.Program.{Program}
 use Rattle.cases.specs.Checks.{limits_of, step_fault, count_at, instruction_at}
@@ -18,12 +17,12 @@ use Rattle.machine.specs.declared.cells.State.{State}
 use Rattle.machine.specs.declared.cells.Waiting.{Waiting}
 use Rattle.machine.specs.declared.cells.Entry.{Entry}
 use Rattle.machine.specs.declared.cells.Entry.TheVariants.{Store, Flush, FlushOpt, Sfence}
-use Rattle.machine.specs.Sizes.{room, all_slots}
-use Rattle.machine.specs.View.{line_of, queue_len, buffer, buffer_in, buffer_len, issued_of}
+use Rattle.machine.specs.Sizes.{room}
+use Rattle.machine.specs.View.{line_of, queue_len, buffer, buffer_len, issued_of}
 use Rattle.machine.specs.Parts.{parts_of}
 use Rattle.machine.specs.Rules.{issue_rule, move_rule, persist_rule, rule_in, rule_of, entry_at}
 use Rattle.cases.specs.Ranges.{ProgramFits}
-use Rattle.machine.specs.Fit.{Fits, Named, Shallow, Roomy, unissued, due, AllOf, NamedBy, Movable}
+use Rattle.machine.specs.Fit.{Fits, Named, Shallow, Roomy, unissued, due, AllOf, NamedBy}
 use Rattle.machine.proofs.lists.SumLaws.{sum_part}
 use Rattle.machine.proofs.view.LineOfLaws.{few_lines, line_low}
 use Rattle.machine.proofs.fit.FitLaws.{fits_queue_within, fits_buffer_within}
@@ -59,22 +58,6 @@ module _ (p : Program) (g : ProgramFits p) (k : Step) (faultless : step_fault (l
       let b = few_lines p g in
       omega arith
 
-  module _ (marks lengths : List ℕ) (deep : Shallow lengths) (long : length marks ≡ all_slots) where
-    pub issue_rule_ready : k.code ≡ issue
-        → (k.thread.0 < most_threads) × (count_at p k.thread.0 ≤ most_instructions) × Shallow lengths
-        × (length marks ≡ all_slots)
-    issue_rule_ready h = (taken_low (omega arith), g.sized.few_instructions k.thread.0, deep, long)
-
-    pub move_rule_ready : (buffers : List Waiting) (waiting : List ℕ) → Movable buffers waiting → k.code ≡ move
-        → ProgramFits p × (k.thread.0 < most_threads) × (get_or waiting k.thread.0 0 ≤ most_instructions)
-        × Named most_locations (entry_at (buffer_in buffers waiting k.thread.0) 0) × Shallow lengths
-        × (length marks ≡ all_slots)
-    unfolding Movable
-    move_rule_ready buffers waiting m h =
-        let low = taken_low (omega arith) in
-        let at = m k.thread.0 low in
-        (g, low, at.0, at.1, deep, long)
-
 module _ (p : Program) (s : State) (f : Fits p s) where
   pub shallow : Shallow s.lengths
   unfolding Shallow
@@ -82,10 +65,6 @@ module _ (p : Program) (s : State) (f : Fits p s) where
 
   pub head_named : (t : ℕ) → t < most_threads → Named most_locations (entry_at (buffer s t) 0)
   head_named t h = first_entry p.locations (buffer s t) f.program.sized.few_locations (f.named t h)
-
-  pub movable : Movable s.buffers s.waiting
-  unfolding Movable
-  movable t h = (fits_buffer_within p s f t h, head_named t h)
 
   -- while something is due, no queue is full
   queue_room : 0 < due p s → (q : ℕ) → q < most_locations → queue_len s q < room
@@ -104,10 +83,18 @@ module _ (p : Program) (s : State) (f : Fits p s) where
   due_unissued t low h = let w = sum_part most_threads t (unissued p s) low in omega arith
 
   module _ (k : Step) (faultless : step_fault (limits_of p) k ≡ 0) where
-    -- what `rule` asks for
-    pub rule_ready : ProgramFits p × Movable s.buffers s.waiting × Shallow s.lengths
-        × (length s.marks ≡ all_slots) × (step_fault (limits_of p) k ≡ 0)
-    rule_ready = (f.program, movable, shallow, f.sized.marks_long, faultless)
+    -- what the rules of an issue and of a move ask for
+    pub issue_rule_ready : k.code ≡ issue
+        → (k.thread.0 < most_threads) × (count_at p k.thread.0 ≤ most_instructions) × Shallow s.lengths
+    issue_rule_ready h =
+        (taken_low p f.program k faultless (omega arith), f.program.sized.few_instructions k.thread.0, shallow)
+
+    pub move_rule_ready : k.code ≡ move
+        → ProgramFits p × (k.thread.0 < most_threads) × (buffer_len s k.thread.0 ≤ most_instructions)
+        × Named most_locations (entry_at (buffer s k.thread.0) 0) × Shallow s.lengths
+    move_rule_ready h =
+        let low = taken_low p f.program k faultless (omega arith) in
+        (f.program, low, fits_buffer_within p s f k.thread.0 low, head_named k.thread.0 low, shallow)
 
     -- the three steps, where they are legal
     module _ (legal : rule_of p s k ≡ 0) where

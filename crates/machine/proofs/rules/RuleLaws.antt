@@ -1,7 +1,7 @@
 -- Every rule a step can break is one of 01's table. Assumes nothing.
 use Prim.Native.Nat.{ℕ, ◌≤◌}
 use mathlib.Core.Path.{◌≡◌, refl}
-use mathlib.Core.Logic.{◌⊎◌, inl, inr}
+use mathlib.Core.Logic.{◌⊎◌, inl, inr, ◌≢◌}
 use mathlib.Core.Bool.{Bool, true, false}
 use native.Mathlib.Omega.{arith}
 use mathlib.Core.List.{List}
@@ -13,9 +13,30 @@ use Rattle.machine.specs.declared.cells.State.{State}
 use Rattle.machine.specs.declared.cells.Waiting.{Waiting}
 use Rattle.machine.specs.declared.cells.Entry.{Entry}
 use Rattle.machine.specs.declared.cells.Entry.TheVariants.{Store, Flush, FlushOpt, Sfence}
+use Rattle.machine.specs.declared.rule.Rule.{Rule}
+use Rattle.machine.specs.declared.rule.Rule.TheVariants.{NothingToIssue, BufferNotEmpty, MarkerQueued, NothingThere}
+use Rattle.machine.specs.declared.rule.Rule.TheVariants.{OnlyFlushOpt, HeldBack, LineNotEmpty, MarkerBeforeSfence}
+use Rattle.machine.specs.declared.rule.Rule.TheVariants.{NothingQueued}
+use Rattle.std.specs.Prelude.{Result, Ok, Err}
 use Rattle.machine.specs.Parts.{Parts}
 use Rattle.machine.specs.Rules.{barrier_rule, operation_rule, issue_rule, effect_rule, pass_rule, move_rule}
-use Rattle.machine.specs.Rules.{persist_rule, rule_in, rule_of}
+use Rattle.machine.specs.Rules.{rule_number, broken, persist_rule, rule_in, rule_of}
+
+-- a rule has a number; of a test that says no rule it is 0
+pub rule_some : (r : Rule) → rule_number r ≢ 0
+rule_some NothingToIssue e = omega arith
+rule_some BufferNotEmpty e = omega arith
+rule_some MarkerQueued e = omega arith
+rule_some NothingThere e = omega arith
+rule_some OnlyFlushOpt e = omega arith
+rule_some HeldBack e = omega arith
+rule_some LineNotEmpty e = omega arith
+rule_some MarkerBeforeSfence e = omega arith
+rule_some NothingQueued e = omega arith
+
+pub broken_none : (x : Result (Unit {0}) Rule) → ((r : Rule) → x ≢ Err r) → broken x ≡ 0
+broken_none (Ok u) h = refl
+broken_none (Err r) h = absurd (h r refl)
 
 -- 0, or one of the numbers from a to b
 abbrev pub Between : ℕ → ℕ → ℕ → Type 0

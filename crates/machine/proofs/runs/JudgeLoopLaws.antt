@@ -88,9 +88,11 @@ module _ {p : Program} {steps : List Step} {n : ℕ} {s₀ s : State} {i : ℕ}
         ∙ ap (judge_from (ptso p) i s) (sym front)
         ∙ o.rest
 
-  pub judging_end : n ≤ i → judged (Legal i) s ≡ judge_from (ptso p) 0 (start_of p) (take n steps)
+  pub judging_end : n ≤ i → judged (Legal n) s ≡ judge_from (ptso p) 0 (start_of p) (take n steps)
   unfolding judge_from
-  judging_end h = sym (ap (judge_from (ptso p) i s) (take_end n i steps h)) ∙ o.rest
+  judging_end h =
+      let same : n ≡ i = let w = o.within in omega arith in
+      ap (λ x. judged (Legal x) s) same ∙ sym (ap (judge_from (ptso p) i s) (take_end n i steps h)) ∙ o.rest
 
 -- what reading hands out with 0 is a case that the judge can run
 pub read_case : (s : List ℕ) (r : Reading) → r ≡ read_of s → (n : ℕ) → n ≡ number_of r.answer → n ≡ 0

@@ -22,10 +22,10 @@ use Rattle.machine.specs.declared.cells.Entry.TheVariants.{Flush, FlushOpt, Sfen
 use Rattle.cases.specs.Sizes.{most_threads, most_registers}
 use lib.Seq.{get_or-set_same}
 use Rattle.machine.specs.Sizes.{room, all_registers}
-use Rattle.machine.specs.View.{write_slot, line_of, queue, queue_len, buffer, word_of, with_register}
+use Rattle.machine.specs.View.{write_slot, line_of, queue_len, with_register}
 use Rattle.machine.specs.View.{register_in, issued_of, with_issued}
 use Rattle.machine.specs.Parts.{parts_of}
-use Rattle.machine.specs.Look.{newest_write, newest_store, queued_word, load_of}
+use Rattle.machine.specs.Look.{queued_word}
 use Rattle.machine.specs.Rules.{issue_rule, entry_of, loaded, fetched, exchanged, matches}
 use Rattle.machine.specs.Rules.{compared, fails, performed, issue_of, enqueue}
 use Rattle.machine.specs.Fit.{Fits, Named}
@@ -131,15 +131,6 @@ module _ (p : Program) (s : State) (f : Fits p s) (t : ℕ) (legal : issue_rule 
       there.0 next.location next.register next.word there.1.low_location next.operation
       there.1.some_operation there.1.low_operation
       ∙ work_counted p s f t there.0 issue_left
-
--- what a load's register takes, from the queue's word and then the buffer's
-pub load_is : (p : Program) (s : State) (t : ℕ) (x : Instruction) (q queued found : ℕ)
-    → q ≡ line_of p x.location.0
-    → queued ≡ newest_write x.location.0 (queue s q) (word_of s x.location.0)
-    → found ≡ newest_store x.location.0 (buffer s t) queued
-    → with_register s t x.register.0 found ≡ loaded p s t x
-unfolding loaded load_of queued_word
-load_is p s t x q queued found g e f = rw (f, e, g)
 
 -- a compare, by what its register holds before and behind the look: where that is the same word it is written,
 -- else nothing is

@@ -20,14 +20,14 @@ use Rattle.cases.proofs.Promises.{thread_low}
 use Rattle.machine.specs.declared.cells.State.{State}
 use Rattle.machine.specs.declared.cells.Entry.{Entry}
 use Rattle.machine.specs.declared.cells.Entry.TheVariants.{Store, Flush, FlushOpt, Sfence}
-use Rattle.machine.specs.declared.look.Found.TheVariants.{Nothing}
+use Rattle.std.specs.Prelude.{None}
 use Rattle.machine.specs.View.{part, line_of, marks_in, queue, queue_len, buffer_in, buffer, buffer_len}
 use Rattle.machine.specs.View.{issued_of}
 use Rattle.machine.specs.Parts.{Parts, parts_of}
 use Rattle.machine.specs.Look.{marker_among, marker_from, marker_of, marked}
 use Rattle.machine.specs.Rules.{barrier_rule, operation_rule, issue_rule, effect_rule, move_rule, persist_rule}
 use Rattle.machine.specs.Rules.{rule_in, rule_of}
-use Rattle.machine.specs.Fit.{unissued, Fits, Named, Movable}
+use Rattle.machine.specs.Fit.{unissued, Fits, Named}
 use Rattle.cases.specs.Ranges.{ProgramFits}
 use Rattle.machine.specs.Work.{unissued_code, thread_work, work, Unfinished, weigh}
 use Rattle.machine.specs.Next.{issue_step, move_step, persist_step}
@@ -35,13 +35,13 @@ use Rattle.machine.proofs.lists.SumLaws.{sum_none, some_or_none}
 use Rattle.machine.proofs.lists.PartLaws.{lt_or_ge}
 use Rattle.machine.proofs.view.LineOfLaws.{few_lines, line_low}
 use Rattle.machine.proofs.fit.FitLaws.{fits_queue_long, fits_buffer_long}
-use Rattle.machine.proofs.rules.ReadyLaws.{movable}
+use Rattle.machine.proofs.rules.ReadyLaws.{head_named}
 use Rattle.machine.proofs.steps.StepFaultLaws.{issue_fault, move_fault, persist_fault}
 
 -- Where no queue holds anything: no marker is found, every entry may take effect, every operation may be issued
 -- with an empty buffer
 module _ (x : Parts) (none : (q : ℕ) → q < most_locations → get_or x.lengths q 0 ≡ 0) (t : ℕ) where
-  empty_none : (k q : ℕ) → q + k ≤ most_locations → marker_from x.marks x.lengths t k q ≡ Nothing
+  empty_none : (k q : ℕ) → q + k ≤ most_locations → marker_from x.marks x.lengths t k q ≡ None
   unfolding marker_from marker_among marks_in part
   empty_none zero q h = refl
   empty_none (suc k) q h = rw (none q (omega arith)) (empty_none k (suc q) (omega arith))
@@ -108,13 +108,13 @@ module _ (p : Program) (s : State) (f : Fits p s) where
   module _ (quiet : (q : ℕ) → q < lines_of p → queue s q ≡ []) where
     pub move_legal : (t : ℕ) → t < p.threads → buffer s t ≢ []
         → (step_fault (limits_of p) (move_step t 0) ≡ 0) × (rule_of p s (move_step t 0) ≡ 0)
-    unfolding rule_of rule_in pick move_rule refuse Movable
+    unfolding rule_of rule_in pick move_rule refuse
     move_legal t low h =
         let few = thread_low f.program low in
         let n = fits_buffer_long p s f t (omega arith) in
         let held : buffer_len s t ≢ 0 = λ e. h (length_none _ (n ∙ e)) in
         let some : 0 < buffer_len s t = omega arith in
-        let named = (movable p s f t (omega arith)).1 in (
+        let named = head_named p s f t (omega arith) in (
           move_fault p t 0 low (omega arith),
           rw (lt-leb _ _ some) (effect_none (parts_of s) (queues_none quiet) t p f.program _ named),
         )

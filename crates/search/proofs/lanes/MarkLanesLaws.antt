@@ -15,10 +15,10 @@ use Rattle.cases.specs.Choice.{pick, either}
 use Rattle.cases.specs.Sizes.{most_locations}
 use Rattle.cases.specs.Checks.{lines_of}
 use Rattle.machine.specs.declared.cells.State.{State}
-use Rattle.machine.specs.declared.look.Found.{Found}
-use Rattle.machine.specs.declared.look.Found.TheVariants.{At}
+use Rattle.std.specs.Prelude.{Option, Some}
+use Rattle.machine.specs.declared.look.Place.{Place}
 use Rattle.machine.specs.View.{Slot, mark_of, marks_of, marks_in, queue}
-use Rattle.machine.specs.Look.{marker_among, marker_from, marker_of, is_at, marked}
+use Rattle.machine.specs.Look.{place_at, marker_among, marker_from, marker_of, is_at, marked}
 use Rattle.machine.specs.Fit.{any_from, any_of, Fits}
 use Rattle.machine.proofs.lists.PartLaws.{part_none}
 use Rattle.machine.proofs.Promises.{queue_long, queue_marks, few_lines}
@@ -37,7 +37,7 @@ unfoldable holds_mark : List ℕ → List ℕ → ℕ → ℕ → Bool
 holds_mark marks lengths t q = any_of (is_mark (mark_of t)) (marks_in marks lengths q)
 
 -- the machine's search: one queue, so many of them
-marker_among_lem : (t q i : ℕ) (ms : List ℕ) (after : Found)
+marker_among_lem : (t q i : ℕ) (ms : List ℕ) (after : Option Place)
     → is_at (marker_among t q i ms after) ≡ either (any_of (is_mark (mark_of t)) ms) (is_at after)
 unfolding marker_among any_of either is_mark
 marker_among_lem t q i [] after = refl
@@ -45,7 +45,7 @@ marker_among_lem t q i (m ∷ ms) after = go (eqb m (mark_of t)) (marker_among_l
   where
     go : (b : Bool)
         → is_at (marker_among t q (suc i) ms after) ≡ either (any_of (is_mark (mark_of t)) ms) (is_at after)
-        → is_at (pick b (At (record { 0 = q }) i) (marker_among t q (suc i) ms after))
+        → is_at (pick b (Some (place_at q i)) (marker_among t q (suc i) ms after))
         ≡ either (either b (any_of (is_mark (mark_of t)) ms)) (is_at after)
     go true e = unfold pick either in refl
     go false e = unfold pick either in e

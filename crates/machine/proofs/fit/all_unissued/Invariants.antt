@@ -1,5 +1,4 @@
 -- `all_unissued` meets its contract. Assumes nothing.
-use Rattle.std.proofs.Common.{◌-◌}
 use Rattle.cases.specs.Sizes.{most_threads}
 use Rattle.machine.specs.Fit.{unissued}
 use Rattle.machine.proofs.lists.SumLaws.{SummedSoFar}
@@ -8,6 +7,3 @@ use Rattle.machine.proofs.fit.all_unissued.Given as goal
 -- n is what the first t threads have not issued, each at most a byte's
 abbrev pub invariant-loop-t : goal.invariant-loop-t
 invariant-loop-t l = SummedSoFar (unissued l.p l.s) most_threads 255 l.n l.t
-
-abbrev pub decreases-loop-t : goal.decreases-loop-t
-decreases-loop-t l = most_threads - l.t

@@ -1,25 +1,19 @@
-use Rattle.std.proofs.Common.{arith, rules}
+use Rattle.std.proofs.Common.{◌≡◌, ◌∙◌, arith}
+use Rattle.cases.specs.Sizes.{most_threads}
 use Rattle.cases.proofs.ChoiceLaws.{told}
-use Rattle.machine.specs.Fit.{due}
+use Rattle.machine.specs.Fit.{sum_to, due}
+use Rattle.machine.specs.View.{buffer_len}
+use Rattle.machine.proofs.lists.SumLaws.{sum_counted}
 use Rattle.machine.proofs.lists.AnyLaws.{any_start, any_next, any_here, any_end}
-use Rattle.machine.proofs.fit.MisfitLaws.{due_most}
 use Rattle.machine.proofs.fit.queues_misfit.Goals as goal
-
-pub overflow_add-coming : goal.overflow_add-coming
-unfolding due
-overflow_add-coming c =
-    let a = c.args in
-    let h = due_most a.p a.s (λ t. search rules) (λ t. search rules) in
-    let e = c.all_unissued.ensures in
-    let w = c.all_waiting.ensures in
-    omega arith
 
 pub loop-q-init : goal.loop-q-init
 unfolding due
 loop-q-init c =
     let e = c.all_unissued.ensures in
-    let w = c.all_waiting.ensures in
-    (omega arith, any_start _ _)
+    let f = c.total.ensures in
+    let w : c.total.result ≡ sum_to most_threads (buffer_len c.args.s.now) = f.is ∙ sum_counted _ _ (omega arith) in
+    ((omega arith, omega arith), any_start _ _)
 
 pub returns-then-queue_misfits : goal.returns-then-queue_misfits
 returns-then-queue_misfits c =

@@ -1,20 +1,15 @@
-use Rattle.std.proofs.Common.{arith}
-use Rattle.cases.proofs.ChoiceLaws.{told}
-use Rattle.machine.proofs.lists.AnyLaws.{any_start, any_next, any_here, any_end}
+-- `threads_misfit` meets its contract. Assumes nothing.
+use Rattle.std.proofs.Common.{◌≡◌, ◌∙◌, rules}
+use Rattle.std.specs.List.{list_any, range_with_len}
+use Rattle.std.proofs.iter.runs.Sources.{ranges}
+use Rattle.cases.specs.Sizes.{most_threads}
+use Rattle.machine.specs.Fit.{thread_misfits}
+use Rattle.machine.proofs.lists.AnyLaws.{any_from_is}
 use Rattle.machine.proofs.fit.threads_misfit.Goals as goal
 
-pub loop-t-init : goal.loop-t-init
-loop-t-init c = any_start _ _
-
-pub returns-then-thread_misfits : goal.returns-then-thread_misfits
-returns-then-thread_misfits c =
-    let l = c.loop-t in
-    any_here l.invariant (omega arith) (told _ _ _ c.thread_misfits.ensures c.if-thread_misfits.true)
-
-pub loop-t-preserved : goal.loop-t-preserved
-loop-t-preserved c =
-    let l = c.loop-t in
-    any_next l.invariant (omega arith) (told _ _ _ c.thread_misfits.ensures c.if-thread_misfits.false)
-
 pub returns : goal.returns
-returns c = any_end c.loop-t.invariant (omega arith)
+returns c =
+    let a = c.args in
+    let e : c.any.result ≡ list_any (thread_misfits a.p.now a.s.now) (range_with_len 0 most_threads)
+    = search (rules, ranges) in
+    e ∙ any_from_is _ _ _

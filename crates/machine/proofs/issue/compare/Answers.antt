@@ -1,8 +1,6 @@
 -- `compare` meets its contract. Assumes nothing.
 use Rattle.std.proofs.Common.{◌≡◌, length, rules}
 use Rattle.machine.specs.Sizes.{all_registers}
-use Rattle.machine.specs.View.{with_register}
-use Rattle.machine.specs.Rules.{fetched}
 use Rattle.machine.proofs.steps.IssueLaws.{compare_some, compare_none}
 use Rattle.machine.proofs.issue.compare.Goals as goal
 use Rattle.machine.proofs.issue.compare.Goals.{Start}
@@ -11,18 +9,14 @@ use Rattle.machine.proofs.issue.compare.Goals.{Start}
 sized : (c : Start) → length c.args.s.registers ≡ all_registers
 sized c = search rules
 
-pub enqueue-requires : goal.enqueue-requires
-unfolding fetched with_register
-enqueue-requires c = rw (c.fetch-u.ensures, c.line_of.ensures) (search rules)
-
 pub returns-then-u-at : goal.returns-then-u-at
 returns-then-u-at c =
     let long = sized (goal.at.returns-then-u-at c).Start in
-    compare_some c.args.p c.args.s _ c.args.x long c.requires.0 c.requires.2 _ c.fetch-u.ensures
+    compare_some c.args.p.now c.args.s _ c.args.x long c.requires.0 c.requires.2 _ c.fetch-u.ensures
     c.if-u-at.true _ _ c.line_of.ensures c.enqueue.ensures
 
 pub returns : goal.returns
 returns c =
     let long = sized (goal.at.returns c).Start in
-    compare_none c.args.p c.args.s _ c.args.x long c.requires.0 c.requires.2 _ c.fetch-u.ensures
+    compare_none c.args.p.now c.args.s _ c.args.x long c.requires.0 c.requires.2 _ c.fetch-u.ensures
     c.if-u-at.false

@@ -7,7 +7,7 @@ use Rattle.machine.proofs.look.first_bar.Goals as goal
 
 pub loop-j-init : goal.loop-j-init
 loop-j-init c =
-    let k : length c.args.buffers ≡ all_code = search unmapped in
+    let k : length c.args.s.now.buffers ≡ all_code = search unmapped in
     bar_start _ _ _ _ _ (omega arith)
 
 pub returns-then-is_bar : goal.returns-then-is_bar

@@ -5,11 +5,10 @@ use Rattle.machine.specs.View.{buffer_in}
 use Rattle.machine.proofs.look.LookLoopLaws.{store_start, store_next, store_here, silent_end}
 use Rattle.machine.proofs.look.LookLoopLaws.{store_some, store_elsewhere, store_none}
 use Rattle.machine.proofs.look.newest_store.Goals as goal
-use Rattle.machine.proofs.look.newest_store.Goals.{in-Store+else-x-l, in_default}
 
 pub loop-j-init : goal.loop-j-init
 loop-j-init c =
-    let k : length c.args.buffers ≡ all_code = search unmapped in
+    let k : length c.args.s.now.buffers ≡ all_code = search unmapped in
     (omega arith, store_start _ _ _ _ (omega arith))
 
 pub returns-then-x-l : goal.returns-then-x-l
@@ -18,17 +17,15 @@ returns-then-x-l c =
     let o = c.loop-j.invariant in
     store_here _ _ _ _ o.0 o.1 (omega arith) _ (store_some _ c.in-Store.is c.if-x-l.true) _
 
+pub loop-j-preserved-else-x-l : goal.loop-j-preserved-else-x-l
+loop-j-preserved-else-x-l c =
+    let o = c.loop-j.invariant in
+    (o.0, store_next _ _ _ _ o.0 o.1 (omega arith) (store_elsewhere _ c.in-Store.is c.if-x-l.false))
+
 pub loop-j-preserved : goal.loop-j-preserved
 loop-j-preserved c =
-    let o = c.loop-j.invariant in (
-      o.0,
-      store_next _ _ _ _ o.0 o.1 (omega arith) (
-          elim c.match-e.branch [
-            | in-Store+else-x-l w ↦ store_elsewhere _ w.in-Store.is w.if-x-l.false
-            | in_default w ↦ store_none _ _ w.in_default.not-Store
-          ]
-          ),
-    )
+    let o = c.loop-j.invariant in
+    (o.0, store_next _ _ _ _ o.0 o.1 (omega arith) (store_none _ _ c.in_default.not-Store))
 
 pub returns : goal.returns
 unfolding buffer_in

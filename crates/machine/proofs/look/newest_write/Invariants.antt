@@ -4,7 +4,4 @@ use Rattle.machine.proofs.look.newest_write.Given as goal
 
 -- the slots from position i on hold no write of that location
 abbrev pub invariant-loop-i : goal.invariant-loop-i
-invariant-loop-i l = NewestSoFar l.l.0 l.held l.marks l.base l.initial.i l.i
-
-abbrev pub decreases-loop-i : goal.decreases-loop-i
-decreases-loop-i l = l.i
+invariant-loop-i l = NewestSoFar l.l.0 l.s.held l.s.marks l.base l.n l.i

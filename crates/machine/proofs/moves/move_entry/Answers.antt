@@ -15,11 +15,11 @@ pub take_effect-requires : goal.take_effect-requires
 take_effect-requires c =
     let named = move_entry_named _ _ _ _ c.requires.2 _ c.requires.4 in
     let long = sized (goal.at.take_effect-requires c).Start in
-    let left = take_out_is _ _ long c.requires.1 _ _ c.requires.2 c.requires.3 c.close_entries-closed.ensures in
+    let left = take_out_is _ _ long c.requires.1 _ _ c.requires.2 c.requires.3 c.close.ensures in
     (c.requires.0, c.requires.1, named, roomy_buffer _ _ _ _ left c.requires.5)
 
 pub returns : goal.returns
 returns c =
     let long = sized (goal.at.returns c).Start in
-    let left = take_out_is _ _ long c.requires.1 _ _ c.requires.2 c.requires.3 c.close_entries-closed.ensures in
+    let left = take_out_is _ _ long c.requires.1 _ _ c.requires.2 c.requires.3 c.close.ensures in
     move_taken _ _ _ _ _ _ c.requires.2 left c.take_effect.ensures

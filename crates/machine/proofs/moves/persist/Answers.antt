@@ -19,8 +19,8 @@ returns-then-to-ge-LOCATIONS c =
     let p = c.requires in
     let z = sized (goal.at.returns-then-to-ge-LOCATIONS c).Start in
     persist_marker a.s a.q.0 p.0 p.1 p.2 z.0 z.1 z.2 _
-    (dequeue_is a.s a.q.0 z.0 z.1 p.0 _ _ p.1 p.2 c.close_words.ensures
-    c.close_marks.ensures) c.if-to-ge-LOCATIONS.true
+    (dequeue_is a.s a.q.0 z.0 z.1 p.0 _ _ p.1 p.2 c.close.ensures
+    c.close-2.ensures) c.if-to-ge-LOCATIONS.true
 
 pub returns : goal.returns
 unfolding with_word
@@ -29,5 +29,5 @@ returns c =
     let p = c.requires in
     let z = sized (goal.at.returns c).Start in
     persist_write a.s a.q.0 p.0 p.1 p.2 z.0 z.1 z.2 _
-    (dequeue_is a.s a.q.0 z.0 z.1 p.0 _ _ p.1 p.2 c.close_words.ensures
-    c.close_marks.ensures) c.if-to-ge-LOCATIONS.false
+    (dequeue_is a.s a.q.0 z.0 z.1 p.0 _ _ p.1 p.2 c.close.ensures
+    c.close-2.ensures) c.if-to-ge-LOCATIONS.false

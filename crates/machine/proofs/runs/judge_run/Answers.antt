@@ -1,7 +1,6 @@
 use Rattle.std.proofs.Common.{sym, ◌∙◌, arith}
-use Rattle.machine.specs.Rules.{rule_of}
 use Rattle.machine.specs.Judge.{judge_run, judged}
-use Rattle.machine.proofs.rules.ReadyLaws.{rule_ready}
+use Rattle.machine.proofs.rules.RuleLaws.{rule_some, broken_none}
 use Rattle.machine.proofs.blocker.BlockerLaws.{blocker_ready, blocker_is}
 use Rattle.machine.proofs.runs.JudgeLoopLaws.{judging_start, judging_next, judging_here}
 use Rattle.machine.proofs.runs.JudgeLoopLaws.{judging_end}
@@ -9,40 +8,38 @@ use Rattle.machine.proofs.runs.judge_run.Goals as goal
 
 pub loop-i-init : goal.loop-i-init
 loop-i-init c =
-    judging_start c.args.c _ c.requires c.start_of-s.ensures
+    judging_start c.args.c.now _ c.requires c.start_of-s.ensures
 
-pub bounds-run-i : goal.bounds-run-i
-bounds-run-i c = let o = c.loop-i.invariant in omega (arith, o.few)
+pub bounds-c-i : goal.bounds-c-i
+bounds-c-i c = let o = c.loop-i.invariant in omega (arith, o.few)
 
-pub rule-broken-requires : goal.rule-broken-requires
-rule-broken-requires c =
+pub rule-requires : goal.rule-requires
+rule-requires c =
     let o = c.loop-i.invariant in
-    rule_ready _ _ o.fit _ (o.faultless _ (omega arith))
+    (o.fit, o.faultless _ (omega arith))
 
 pub blocker_by-requires : goal.blocker_by-requires
-unfolding rule_of
 blocker_by-requires c =
     let o = c.loop-i.invariant in
-    blocker_ready _ _ o.fit _ (o.faultless _ (omega arith)) _ c.rule-broken.ensures
+    blocker_ready _ _ o.fit _ (o.faultless _ (omega arith)) _ c.in-Err.ensures
 
-pub returns-then-broken-ne0 : goal.returns-then-broken-ne0
-unfolding judge_run judged rule_of
-returns-then-broken-ne0 c =
+pub returns-in-Err : goal.returns-in-Err
+unfolding judge_run judged
+returns-in-Err c =
     let o = c.loop-i.invariant in
-    let b = blocker_is _ _ _ _ c.rule-broken.ensures _ c.blocker_by.ensures in
-    judging_here o (omega arith) _ c.rule-broken.ensures c.if-broken-ne0.true _ b
+    let b = blocker_is _ _ _ _ c.in-Err.ensures _ c.blocker_by.ensures in
+    let n = c.number.ensures in
+    judging_here o (omega arith) _ (n ∙ c.in-Err.ensures) (λ z. rule_some _ (sym n ∙ z)) _ b
 
 pub take_step-s-requires : goal.take_step-s-requires
-unfolding rule_of
 take_step-s-requires c =
     let o = c.loop-i.invariant in
-    (o.fit, o.faultless _ (omega arith), sym c.rule-broken.ensures ∙ c.if-broken-ne0.false)
+    (o.fit, o.faultless _ (omega arith), sym c.rule.ensures ∙ broken_none _ c.in_default.not-Err)
 
 pub loop-i-preserved : goal.loop-i-preserved
-unfolding rule_of
 loop-i-preserved c =
     let o = c.loop-i.invariant in
-    judging_next o (omega arith) _ (sym c.rule-broken.ensures ∙ c.if-broken-ne0.false) c.take_step-s.ensures
+    judging_next o (omega arith) _ (sym c.rule.ensures ∙ broken_none _ c.in_default.not-Err) c.take_step-s.ensures
 
 pub returns : goal.returns
 unfolding judge_run judged

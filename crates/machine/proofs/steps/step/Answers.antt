@@ -1,19 +1,10 @@
 -- `step` meets its contract: 32, then 33, each with the state as it was. Assumes nothing.
 use Rattle.std.proofs.Common.{rules}
-use Rattle.cases.proofs.ChoiceLaws.{choices, told, told_true}
+use Rattle.cases.proofs.ChoiceLaws.{told, told_true}
 use Rattle.machine.specs.Fit.{Sized}
-use Rattle.machine.specs.Judge as judge
 use Rattle.cases.proofs.ArrayLaws.{unmapped}
 use Rattle.machine.proofs.fit.FitTestLaws.{readable_fits}
 use Rattle.machine.proofs.steps.step.Goals as goal
-
-pub returns-then-not-reads_back : goal.returns-then-not-reads_back
-unfolding judge.step_of judge.told
-returns-then-not-reads_back c = search choices
-
-pub returns-then-is_misfit : goal.returns-then-is_misfit
-unfolding judge.step_of judge.told
-returns-then-is_misfit c = search choices
 
 pub step_in-requires : goal.step_in-requires
 step_in-requires c =
@@ -21,7 +12,3 @@ step_in-requires c =
     readable_fits _ (told_true _ _ c.reads_back.ensures c.if-not-reads_back.false) _
     sized
     (told _ _ _ c.is_misfit.ensures c.if-is_misfit.false)
-
-pub returns : goal.returns
-unfolding judge.step_of
-returns c = search choices

@@ -1,31 +1,17 @@
 -- `take_step` meets its contract: each kind of step has what its function asks for. Assumes nothing.
 use Rattle.std.proofs.Common.{arith}
-use Rattle.cases.proofs.ChoiceLaws.{choices}
-use Rattle.machine.specs.Rules.{next_of}
 use Rattle.machine.proofs.rules.ReadyLaws.{issue_ready, move_ready, persist_ready}
 use Rattle.machine.proofs.steps.take_step.Goals as goal
 
 pub issue-requires : goal.issue-requires
 issue-requires c =
-    issue_ready c.args.p c.args.s c.requires.0 c.args.k c.requires.1 c.requires.2 (omega arith)
-
-pub returns-then-code-eq-ISSUE : goal.returns-then-code-eq-ISSUE
-unfolding next_of
-returns-then-code-eq-ISSUE c = search choices
+    issue_ready c.args.p.now c.args.s c.requires.0 c.args.k c.requires.1 c.requires.2 (omega arith)
 
 pub move_entry-requires : goal.move_entry-requires
 move_entry-requires c =
-    move_ready c.args.p c.args.s c.requires.0 c.args.k c.requires.1 c.requires.2 (omega arith)
-
-pub returns-then-code-eq-MOVE : goal.returns-then-code-eq-MOVE
-unfolding next_of
-returns-then-code-eq-MOVE c = search choices
+    move_ready c.args.p.now c.args.s c.requires.0 c.args.k c.requires.1 c.requires.2 (omega arith)
 
 pub persist-requires : goal.persist-requires
 persist-requires c =
-    persist_ready c.args.p c.args.s c.requires.0 c.args.k c.requires.1 c.requires.2
+    persist_ready c.args.p.now c.args.s c.requires.0 c.args.k c.requires.1 c.requires.2
     (λ z. omega arith) (λ z. omega arith)
-
-pub returns : goal.returns
-unfolding next_of
-returns c = search choices

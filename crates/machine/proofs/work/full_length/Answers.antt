@@ -1,19 +1,8 @@
 -- `full_length` meets its contract. Assumes nothing.
-use Rattle.machine.specs.Judge.{full_of}
-use Rattle.cases.proofs.ChoiceLaws.{choices, told_true}
+use Rattle.cases.proofs.ChoiceLaws.{told_true}
 use Rattle.machine.proofs.fit.FitTestLaws.{readable_start}
-use Rattle.machine.proofs.work.WeighLaws.{full_told}
 use Rattle.machine.proofs.work.full_length.Goals as goal
-
-pub returns-then-not-reads_back : goal.returns-then-not-reads_back
-unfolding full_of
-returns-then-not-reads_back c = search choices
 
 pub work_in-requires : goal.work_in-requires
 work_in-requires c =
     readable_start _ (told_true _ _ c.reads_back.ensures c.if-not-reads_back.false) _ c.start_of.ensures
-
-pub returns : goal.returns
-returns c =
-    full_told _ (told_true _ _ c.reads_back.ensures c.if-not-reads_back.false) _
-    c.start_of.ensures _ c.work_in.ensures

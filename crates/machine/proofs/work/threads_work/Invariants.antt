@@ -1,5 +1,5 @@
 -- `threads_work` meets its contract. Assumes nothing.
-use Rattle.std.proofs.Common.{◌-◌, ◌*◌}
+use Rattle.std.proofs.Common.{◌*◌}
 use Rattle.cases.specs.Sizes.{most_threads, most_instructions}
 use Rattle.machine.specs.Work.{thread_work}
 use Rattle.machine.proofs.lists.SumLaws.{SummedSoFar}
@@ -8,6 +8,3 @@ use Rattle.machine.proofs.work.threads_work.Given as goal
 -- the total is the work of the first t threads, each at most 3 an instruction and 2 an entry
 abbrev pub invariant-loop-t : goal.invariant-loop-t
 invariant-loop-t l = SummedSoFar (thread_work l.p l.s) most_threads (5 * most_instructions) l.total l.t
-
-abbrev pub decreases-loop-t : goal.decreases-loop-t
-decreases-loop-t l = most_threads - l.t

@@ -1,28 +1,13 @@
 -- `work_left` meets its contract. Assumes nothing.
 use Rattle.std.proofs.Common.{rules}
 use Rattle.machine.specs.Fit.{Sized}
-use Rattle.machine.specs.Judge.{work_of}
-use Rattle.cases.proofs.ChoiceLaws.{choices, told, told_true}
+use Rattle.cases.proofs.ChoiceLaws.{told, told_true}
 use Rattle.cases.proofs.ArrayLaws.{unmapped}
 use Rattle.machine.proofs.fit.FitTestLaws.{readable_fits}
-use Rattle.machine.proofs.work.WeighLaws.{work_told}
 use Rattle.machine.proofs.work.work_left.Goals as goal
-
-pub returns-then-not-reads_back : goal.returns-then-not-reads_back
-unfolding work_of
-returns-then-not-reads_back c = search choices
-
-pub returns-then-is_misfit : goal.returns-then-is_misfit
-unfolding work_of
-returns-then-is_misfit c = search choices
 
 pub work_in-requires : goal.work_in-requires
 work_in-requires c =
     let sized : Sized c.args.s = search (rules, unmapped) in
     readable_fits _ (told_true _ _ c.reads_back.ensures c.if-not-reads_back.false) _
     sized (told _ _ _ c.is_misfit.ensures c.if-is_misfit.false)
-
-pub returns : goal.returns
-returns c =
-    work_told _ (told_true _ _ c.reads_back.ensures c.if-not-reads_back.false) _
-    (told _ _ _ c.is_misfit.ensures c.if-is_misfit.false) _ c.work_in.ensures
