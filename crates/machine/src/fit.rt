@@ -45,7 +45,7 @@ fn is_foreign(p: &Program, q: Line, mark: u8) -> bool
     if p.locations <= mark {
         return true;
     }
-    look::line_of(p, Location(mark)).0 != q.0
+    look::line_of(p, Location(mark)) != q
 }
 
 // Does one of a queue's marks?

@@ -56,7 +56,7 @@ pub(crate) fn newest_store(s: &State, t: Thread, l: Location, other: u32) -> u32
     for j in (0..n).rev() {
         let e = s.buffers[base + j].entry;
         if let Entry::Store(x) = e {
-            if x.location.0 == l.0 {
+            if x.location == l {
                 return x.word;
             }
         }
@@ -101,8 +101,8 @@ fn is_bar(p: &Program, w: Waiting, q: Line) -> bool
     ensures { result ≡ bars p.now q.0 w.entry }
 {
     match w.entry {
-        Entry::Store(x) => line_of(p, x.location).0 == q.0,
-        Entry::Flush(m) => line_of(p, m).0 == q.0,
+        Entry::Store(x) => line_of(p, x.location) == q,
+        Entry::Flush(m) => line_of(p, m) == q,
         Entry::FlushOpt(_) => false,
         Entry::Sfence => true,
     }

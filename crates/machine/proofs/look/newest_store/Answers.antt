@@ -1,4 +1,5 @@
-use Rattle.std.proofs.Common.{◌≡◌, arith, length}
+use Rattle.std.proofs.Common.{◌≡◌, sym, ◌∙◌, arith, length}
+use borrow.Author.Tests.{eqb-true, eqb-false}
 use Rattle.cases.specs.Sizes.{all_code}
 use Rattle.cases.proofs.ArrayLaws.{unmapped}
 use Rattle.machine.specs.View.{buffer_in}
@@ -11,16 +12,16 @@ loop-j-init c =
     let k : length c.args.s.now.buffers ≡ all_code = search unmapped in
     (omega arith, store_start _ _ _ _ (omega arith))
 
-pub returns-then-x-l : goal.returns-then-x-l
+pub returns-then-eq : goal.returns-then-eq
 unfolding buffer_in
-returns-then-x-l c =
+returns-then-eq c =
     let o = c.loop-j.invariant in
-    store_here _ _ _ _ o.0 o.1 (omega arith) _ (store_some _ c.in-Store.is c.if-x-l.true) _
+    store_here _ _ _ _ o.0 o.1 (omega arith) _ (store_some _ c.in-Store.is (eqb-true _ _ (sym c.eq.ensures ∙ c.if-eq.true))) _
 
-pub loop-j-preserved-else-x-l : goal.loop-j-preserved-else-x-l
-loop-j-preserved-else-x-l c =
+pub loop-j-preserved-else-eq : goal.loop-j-preserved-else-eq
+loop-j-preserved-else-eq c =
     let o = c.loop-j.invariant in
-    (o.0, store_next _ _ _ _ o.0 o.1 (omega arith) (store_elsewhere _ c.in-Store.is c.if-x-l.false))
+    (o.0, store_next _ _ _ _ o.0 o.1 (omega arith) (store_elsewhere _ c.in-Store.is (eqb-false _ _ (sym c.eq.ensures ∙ c.if-eq.false))))
 
 pub loop-j-preserved : goal.loop-j-preserved
 loop-j-preserved c =
