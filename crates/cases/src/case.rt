@@ -1,7 +1,8 @@
 // A case in memory, in three parts by value, and what its parts are made of.
 use crate::sizes::{CODE, LOCATIONS, STEPS, THREADS};
 
-// A number of one kind can't be passed for one of another.
+// A number of one kind can't be passed for one of another. Any byte may stand in it, so that what needs one below the
+// most says so in its contract: a step in memory may name a thread that there is not, and `step_fault` then says 5.
 #[derive(Clone, Copy, PartialEq, Eq)]
 pub struct Thread(pub u8);
 

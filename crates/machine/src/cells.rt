@@ -32,7 +32,8 @@ pub(crate) const BLANK: Waiting = Waiting {
 
 // Line q's queue holds the first lengths[q] slots from q * ROOM on, a slot a word and a mark side by side: the
 // mark of a write is its location, that of a marker MARKER and its thread. Buffer t holds the first waiting[t]
-// entries from t * INSTRUCTIONS on, and register r of thread t stands at t * REGISTERS + r.
+// entries from t * INSTRUCTIONS on, and register r of thread t stands at t * REGISTERS + r. Counts beside arrays, words
+// beside marks: memory is fixed, and Promises and Effects in proofs/, and docs/FRAMES.md, speak of these fields.
 #[derive(Clone, Copy)]
 pub struct State {
     pub words: [u32; LOCATIONS],
