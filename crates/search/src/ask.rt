@@ -59,19 +59,18 @@ pub(crate) fn told(w: Walked) -> Outcome
 }
 
 // The question of a program that the machine can run: 31, then the walk.
-fn ask(p: Program, a: Ask, run: &mut [u8], budget: u32) -> Outcome
-    requires { ProgramFits p × AskWithin p a }
-    ensures { (result ≡ answer_for (ptso p) (reaches a) (length run.old) budget)
-        × (run.new ≡ shown_for (ptso p) (reaches a) budget run.old) }
+fn ask(p: &Program, a: &Ask, run: &mut [u8], budget: u32) -> Outcome
+    requires { ProgramFits p.now × AskWithin p.now a.now }
+    ensures { (result ≡ answer_for (ptso p.now) (reaches a.now) (length run.old) budget)
+        × (run.new ≡ shown_for (ptso p.now) (reaches a.now) budget run.old) }
 {
-    let s = steps::start_of(p);
-    if run.len() < STEP_SIZE * work::work_in(p, s) {
+    let s = steps::start_of(*p);
+    if run.len() < STEP_SIZE * work::work_in(*p, s) {
         return Outcome::Refused(31, 0);
     }
     let c = listing::listing(p);
-    let q = a;
     let x = start::start_lanes(p, &c);
-    told(walk::walk(&c, &q.wanted, &q.want, &q.passed, &x, budget, 0, run))
+    told(walk::walk(&c, a, &x, budget, 0, run))
 }
 
 // The question of a case as bytes: reading first. Kind 6 records are read, and not looked at.
@@ -85,6 +84,6 @@ pub fn question(bytes: &[u8], run: &mut [u8], budget: u32) -> Outcome
     if number != 0 {
         return Outcome::Refused(number, reader::offset(answer));
     }
-    let c = reading.case;
-    ask(c.program, c.ask, run, budget)
+    let c = &reading.case;
+    ask(&c.program, &c.ask, run, budget)
 }

@@ -25,13 +25,12 @@ fn put_numbers(c: &mut [u32; LISTING], at: usize, numbers: &[u8])
 }
 
 // All instructions, four numbers each.
-fn put_code(c: &mut [u32; LISTING], code: [Instruction; CODE])
-    ensures { c.new ≡ sets c.old codes_at (join_to all_code (instruction_numbers code)) }
+fn put_code(c: &mut [u32; LISTING], code: &[Instruction; CODE])
+    ensures { c.new ≡ sets c.old codes_at (join_to all_code (instruction_numbers code.now)) }
 {
-    let all = code;
     let mut i: usize = 0;
     while i < CODE {
-        let x = all[i];
+        let x = code[i];
         let at = CODES + 4 * i;
         c[at] = x.operation as u32;
         c[at + 1] = x.location.0 as u32;
@@ -41,17 +40,16 @@ fn put_code(c: &mut [u32; LISTING], code: [Instruction; CODE])
     }
 }
 
-pub(crate) fn listing(p: Program) -> [u32; LISTING]
-    requires { ProgramFits p }
-    ensures { result ≡ listing_of p }
+pub(crate) fn listing(p: &Program) -> [u32; LISTING]
+    requires { ProgramFits p.now }
+    ensures { result ≡ listing_of p.now }
 {
-    let q = p;
     let mut c = [0u32; LISTING];
-    c[0] = q.threads as u32;
-    c[1] = q.lines as u32;
-    c[2] = q.locations as u32;
-    put_numbers(&mut c, COUNTS, &q.counts);
-    put_numbers(&mut c, LINES, &q.line);
-    put_code(&mut c, q.code);
+    c[0] = p.threads as u32;
+    c[1] = p.lines as u32;
+    c[2] = p.locations as u32;
+    put_numbers(&mut c, COUNTS, &p.counts);
+    put_numbers(&mut c, LINES, &p.line);
+    put_code(&mut c, &p.code);
     c
 }

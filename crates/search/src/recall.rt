@@ -12,7 +12,8 @@ ghost use Rattle.search.specs.Recall.{met_by, key_lanes, new_from, sought_new, M
 use crate::sizes::{LANES, LISTING};
 use crate::walk::Walked;
 use crate::{next, rows, shown, table, taken, wants};
-use cases::sizes::{LOCATIONS, STEP_SIZE, THREADS};
+use cases::case::Ask;
+use cases::sizes::STEP_SIZE;
 
 // A state was met before; it is new, and kept; it is new, and there is no room for it.
 #[derive(Clone, Copy)]
@@ -47,11 +48,9 @@ fn meet<'a, 'k>(
 }
 
 // All that is new from a state that `depth` steps lead to. The run is written on the way up, and only if it reaches.
-pub(crate) fn recall<'a>(
+pub(crate) fn recall(
     c: &[u32; LISTING],
-    wanted: &'a [bool; LOCATIONS],
-    want: &'a [u32; LOCATIONS],
-    passed: &'a [u8; THREADS],
+    a: &Ask,
     x: &[u32; LANES],
     limit: u32,
     left: u32,
@@ -61,10 +60,10 @@ pub(crate) fn recall<'a>(
 ) -> Walked
     requires { Held c.now x.now depth (length run.old) × (0 < limit) × (left ≤ limit)
         × Chained memory.old limit (limit - left) }
-    ensures { (result ≡ walked_of depth (sought_new c.now wanted.now want.now
-        passed.now depth left (keys_in memory.old limit (limit - left)) x.now))
-        × (run.new ≡ stored_of depth (sought_new c.now wanted.now want.now
-        passed.now depth left (keys_in memory.old limit (limit - left)) x.now)
+    ensures { (result ≡ walked_of depth (sought_new c.now a.now.wanted a.now.want
+        a.now.passed depth left (keys_in memory.old limit (limit - left)) x.now))
+        × (run.new ≡ stored_of depth (sought_new c.now a.now.wanted a.now.want
+        a.now.passed depth left (keys_in memory.old limit (limit - left)) x.now)
         run.old)
         × MetAfter result memory.new limit
         (met_by (key_lanes c.now) (keys_in memory.old limit (limit - left))
@@ -79,7 +78,7 @@ pub(crate) fn recall<'a>(
         }
         Met::New => {}
     }
-    if wants::is_reached(c, wanted, want, passed, x) {
+    if wants::is_reached(c, a, x) {
         return Walked::Found(depth);
     }
     let next = next::next_steps(c, x);
@@ -89,18 +88,7 @@ pub(crate) fn recall<'a>(
         let k = next::step_at(next.ranks[i as usize]);
         let mut u = *x;
         taken::take(c, &mut u, k);
-        let below = recall(
-            c,
-            wanted,
-            want,
-            passed,
-            &u,
-            limit,
-            rest,
-            depth + 1,
-            run,
-            memory,
-        );
+        let below = recall(c, a, &u, limit, rest, depth + 1, run, memory);
         match below {
             Walked::Found(n) => {
                 shown::put_step(run, STEP_SIZE * depth, k);

@@ -9,7 +9,8 @@ ghost use Rattle.search.specs.Held.{Held};
 
 use crate::sizes::{LANES, LISTING};
 use crate::{next, shown, taken, wants};
-use cases::sizes::{LOCATIONS, STEP_SIZE, THREADS};
+use cases::case::Ask;
+use cases::sizes::STEP_SIZE;
 
 // A run that reaches, with its length; or none does, and so much of the budget is left; or it is used up.
 #[derive(Clone, Copy)]
@@ -20,11 +21,9 @@ pub enum Walked {
 }
 
 // The walk from a state that `depth` steps lead to. The run is written on the way up, and only if it reaches.
-pub(crate) fn walk<'a>(
+pub(crate) fn walk(
     c: &[u32; LISTING],
-    wanted: &'a [bool; LOCATIONS],
-    want: &'a [u32; LOCATIONS],
-    passed: &'a [u8; THREADS],
+    a: &Ask,
     x: &[u32; LANES],
     budget: u32,
     depth: usize,
@@ -32,16 +31,16 @@ pub(crate) fn walk<'a>(
 ) -> Walked
     requires { Held c.now x.now depth (length run.old) }
     ensures { (result ≡ walked_of depth (seek
-        (reaches_lanes c.now wanted.now want.now passed.now) budget
+        (reaches_lanes c.now a.now.wanted a.now.want a.now.passed) budget
         (walks.walk (lanes_machine c.now) (suc (most_work - depth)) x.now)))
         × (run.new ≡ stored_of depth (seek
-        (reaches_lanes c.now wanted.now want.now passed.now) budget
+        (reaches_lanes c.now a.now.wanted a.now.want a.now.passed) budget
         (walks.walk (lanes_machine c.now) (suc (most_work - depth)) x.now)) run.old) }
 {
     if budget == 0 {
         return Walked::Stopped;
     }
-    if wants::is_reached(c, wanted, want, passed, x) {
+    if wants::is_reached(c, a, x) {
         return Walked::Found(depth);
     }
     let next = next::next_steps(c, x);
@@ -51,7 +50,7 @@ pub(crate) fn walk<'a>(
         let k = next::step_at(next.ranks[i as usize]);
         let mut u = *x;
         taken::take(c, &mut u, k);
-        let below = walk(c, wanted, want, passed, &u, left, depth + 1, run);
+        let below = walk(c, a, &u, left, depth + 1, run);
         match below {
             Walked::Found(n) => {
                 shown::put_step(run, STEP_SIZE * depth, k);

@@ -10,7 +10,7 @@ pub recall-requires : goal.recall-requires
 recall-requires c =
     let g = c.requires in
     let a = c.args in
-    let chained = meet_chained _ g.0 a.a _ _ _ g.3 c.clear.ensures in
+    let chained = meet_chained _ g.0 a.a.now _ _ _ g.3 c.clear.ensures in
     let held = meet_held _ g.0 _ _ _ _ g.3 c.clear.ensures g.1 _ _ c.listing-c.ensures
     c.start_lanes-x.ensures a.run.now g.2 in
     (held, omega arith, omega arith, chained)

@@ -6,7 +6,7 @@ use Rattle.search.proofs.listing.put_code.Given as goal
 
 -- the first i instructions are put
 abbrev pub invariant-loop-i : goal.invariant-loop-i
-invariant-loop-i l = CodeSoFar l.initial.c l.all l.c l.i
+invariant-loop-i l = CodeSoFar l.initial.c l.code l.c l.i
 
 abbrev pub decreases-loop-i : goal.decreases-loop-i
 decreases-loop-i l = all_code - l.i

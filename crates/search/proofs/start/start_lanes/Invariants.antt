@@ -5,7 +5,7 @@ use Rattle.search.proofs.start.start_lanes.Given as goal
 
 -- the words of the first l locations are put
 abbrev pub invariant-loop-l : goal.invariant-loop-l
-invariant-loop-l l = StartSoFar l.q l.c l.x l.l
+invariant-loop-l l = StartSoFar l.p l.c l.x l.l
 
 abbrev pub decreases-loop-l : goal.decreases-loop-l
-decreases-loop-l l = l.q.locations - l.l
+decreases-loop-l l = l.p.locations - l.l

@@ -8,8 +8,8 @@ use Rattle.search.proofs.walk.+walk.Goals as goal
 
 pub returns-then-budget-eq0 : goal.returns-then-budget-eq0
 returns-then-budget-eq0 t c =
-    let a = c.args in
-    let l = left_used_up _ a.budget a.depth a.run.now _ _ _ c.if-budget-eq0.true in
+    let b = c.args in
+    let l = left_used_up _ b.budget b.depth b.run.now _ _ _ c.if-budget-eq0.true in
     (l.told, l.stored)
 
 pub is_reached-requires : goal.is_reached-requires
@@ -17,9 +17,9 @@ is_reached-requires t c = held_fits c.requires
 
 pub returns-then-is_reached : goal.returns-then-is_reached
 returns-then-is_reached t c =
-    let a = c.args in
+    let b = c.args in
     let e = c.is_reached.ensures in
-    let l = left_here _ a.budget a.depth a.run.now _ _ _ c.if-budget-eq0.false _ e c.if-is_reached.true in
+    let l = left_here _ b.budget b.depth b.run.now _ _ _ c.if-budget-eq0.false _ e c.if-is_reached.true in
     (l.told, l.stored)
 
 pub next_steps-next-requires : goal.next_steps-next-requires

@@ -13,7 +13,7 @@ decreases-walk l = most_work - l.depth
 abbrev pub invariant-loop-i : goal.invariant-loop-i
 invariant-loop-i l =
     Held l.c l.x l.depth (length l.run)
-    × Walks l.c l.wanted l.want l.passed l.x l.depth l.budget l.next l.initial.run l.run l.left l.i
+    × Walks l.c l.a.wanted l.a.want l.a.passed l.x l.depth l.budget l.next l.initial.run l.run l.left l.i
 
 abbrev pub decreases-loop-i : goal.decreases-loop-i
 decreases-loop-i l = l.next.count - l.i

@@ -7,7 +7,7 @@ use Rattle.search.proofs.wants.is_lacking.Given as goal
 
 -- the threads from t on say what all say
 abbrev pub invariant-loop-t : goal.invariant-loop-t
-invariant-loop-t l = AskedSoFar (lacks_at l.passed l.x) (threads_in l.c) l.t
+invariant-loop-t l = AskedSoFar (lacks_at l.a.passed l.x) (threads_in l.c) l.t
 
 abbrev pub decreases-loop-t : goal.decreases-loop-t
 decreases-loop-t l = l.threads - l.t

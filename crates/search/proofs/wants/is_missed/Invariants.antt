@@ -7,7 +7,7 @@ use Rattle.search.proofs.wants.is_missed.Given as goal
 
 -- the locations from l on say what all say
 abbrev pub invariant-loop-l : goal.invariant-loop-l
-invariant-loop-l l = AskedSoFar (misses_lane l.c l.wanted l.want l.x) (locations_in l.c) l.l
+invariant-loop-l l = AskedSoFar (misses_lane l.c l.a.wanted l.a.want l.x) (locations_in l.c) l.l
 
 abbrev pub decreases-loop-l : goal.decreases-loop-l
 decreases-loop-l l = l.locations - l.l
