@@ -7,8 +7,9 @@ ghost use Rattle.search.specs.Question.{question_of, shown_of};
 ghost use Rattle.search.specs.Seek.{walked_outcome};
 ghost use Rattle.search.specs.Held.{AskWithin};
 
+use crate::listing::Listing;
 use crate::walk::Walked;
-use crate::{listing, start, walk};
+use crate::{start, walk};
 use cases::case::{Ask, Program};
 use cases::reader;
 use cases::sizes::STEP_SIZE;
@@ -68,7 +69,7 @@ fn ask(p: &Program, a: &Ask, run: &mut [u8], budget: u32) -> Outcome
     if run.len() < STEP_SIZE * work::work_in(*p, s) {
         return Outcome::Refused(31, 0);
     }
-    let c = listing::listing(p);
+    let c = Listing::of(p);
     let x = start::start_lanes(p, &c);
     told(walk::walk(&c, a, &x, budget, 0, run))
 }

@@ -14,9 +14,10 @@ ghost use Rattle.search.specs.Remember.{cleared_for, cleared_of};
 ghost use Rattle.search.specs.Recall.{WithinLimit, states_walked};
 
 use crate::ask::Outcome;
+use crate::listing::Listing;
 use crate::sizes::STATE;
 use crate::walk::Walked;
-use crate::{ask, listing, recall, start, table};
+use crate::{ask, recall, start, table};
 use cases::case::{Ask, Program};
 use cases::reader;
 use cases::sizes::STEP_SIZE;
@@ -64,7 +65,7 @@ fn meet_all(p: &Program, a: &Ask, run: &mut [u8], memory: &mut [u32], limit: u32
         return Walked::Stopped;
     }
     table::clear(memory, limit as usize);
-    let c = listing::listing(p);
+    let c = Listing::of(p);
     let x = start::start_lanes(p, &c);
     recall::recall(&c, a, &x, limit, limit, 0, run, memory)
 }

@@ -6,14 +6,15 @@ ghost use Rattle.machine.specs.Fit.{sum_to, any_from};
 ghost use Rattle.machine.specs.Rules.{is_barrier};
 ghost use Rattle.machine.specs.Next.{issue_step, move_step, persist_step, rank_of};
 ghost use Rattle.search.specs.Sizes.{most_lanes};
-ghost use Rattle.search.specs.Listing.{threads_in, lines_in, ListingFits};
+ghost use Rattle.search.specs.Listing.{threads_in, lines_in};
 ghost use Rattle.search.specs.Rows.{row_len, FewEntries};
 ghost use Rattle.search.specs.Barred.{bars_tag, bars_at, operation_barred, issue_barred, head_barred, pass_barred};
 ghost use Rattle.search.specs.Barred.{entry_barred, move_barred, persist_barred, next_with, offered, offered_from};
 ghost use Rattle.search.specs.Barred.{offered_moves, next_lanes, step_at};
 
-use crate::rows;
-use crate::sizes::{COUNTS, FLUSH_OPT_TAG, FLUSH_TAG, LANES, LISTING, SFENCE_TAG};
+use crate::listing::Listing;
+use crate::sizes::{COUNTS, FLUSH_OPT_TAG, FLUSH_TAG, LANES, SFENCE_TAG};
+use crate::{listing, rows};
 use cases::case::{Line, Location, Step, Thread};
 use cases::operations::{COMPARE, EXCHANGE, ISSUE, MFENCE, MOVE, PERSIST};
 use cases::sizes::INSTRUCTIONS;
@@ -27,9 +28,8 @@ pub struct Ranks {
 }
 
 // Does an entry keep a flush-opt of the line behind it?
-fn is_bar(c: &[u32; LISTING], tag: u32, q: Line) -> bool
-    requires { ListingFits c.now }
-    ensures { result ≡ bars_tag c.now q.0 tag }
+fn is_bar(c: &Listing, tag: u32, q: Line) -> bool
+    ensures { result ≡ bars_tag c.now.numbers q.0 tag }
 {
     if SFENCE_TAG <= tag {
         return true;
@@ -38,22 +38,20 @@ fn is_bar(c: &[u32; LISTING], tag: u32, q: Line) -> bool
         return false;
     }
     if FLUSH_TAG <= tag {
-        return rows::line_of(c, Location((tag - FLUSH_TAG) as u8)).0 == q.0;
+        return c.line_of(Location((tag - FLUSH_TAG) as u8)).0 == q.0;
     }
-    rows::line_of(c, Location(tag as u8)).0 == q.0
+    c.line_of(Location(tag as u8)).0 == q.0
 }
 
 // Does one of the first n entries from base on?
-fn is_barred(c: &[u32; LISTING], x: &[u32; LANES], base: usize, n: usize, q: Line) -> bool
-    requires { ListingFits c.now × (base + 2 * n ≤ most_lanes) }
-    ensures { result ≡ any_from 0 n (bars_at c.now q.0 x.now base) }
+fn is_barred(c: &Listing, x: &[u32; LANES], base: usize, n: usize, q: Line) -> bool
+    requires { base + 2 * n ≤ most_lanes }
+    ensures { result ≡ any_from 0 n (bars_at c.now.numbers q.0 x.now base) }
 {
-    let mut i: usize = 0;
-    while i < n {
+    for i in 0..n {
         if is_bar(c, x[base + 2 * i], q) {
             return true;
         }
-        i += 1;
     }
     false
 }
@@ -72,9 +70,9 @@ fn is_barrier(op: u32) -> bool
 }
 
 // They wait for the own buffer and for the thread's markers.
-fn is_operation_barred(c: &[u32; LISTING], x: &[u32; LANES], t: Thread, op: u32) -> bool
-    requires { ListingFits c.now × FewEntries c.now x.now × (t.0 < threads_in c.now) }
-    ensures { result ≡ operation_barred c.now x.now t.0 op }
+fn is_operation_barred(c: &Listing, x: &[u32; LANES], t: Thread, op: u32) -> bool
+    requires { FewEntries c.now.numbers x.now × (t.0 < threads_in c.now.numbers) }
+    ensures { result ≡ operation_barred c.now.numbers x.now t.0 op }
 {
     if is_barrier(op) {
         if rows::row_len(c, x, rows::buffer_row(t)) != 0 {
@@ -85,21 +83,21 @@ fn is_operation_barred(c: &[u32; LISTING], x: &[u32; LANES], t: Thread, op: u32)
     false
 }
 
-fn is_issue_barred(c: &[u32; LISTING], x: &[u32; LANES], t: Thread) -> bool
-    requires { ListingFits c.now × FewEntries c.now x.now × (t.0 < threads_in c.now) }
-    ensures { result ≡ issue_barred c.now x.now t.0 }
+fn is_issue_barred(c: &Listing, x: &[u32; LANES], t: Thread) -> bool
+    requires { FewEntries c.now.numbers x.now × (t.0 < threads_in c.now.numbers) }
+    ensures { result ≡ issue_barred c.now.numbers x.now t.0 }
 {
     let i = x[t.0 as usize];
-    if c[COUNTS + (t.0 as usize)] <= i {
+    if c.numbers[COUNTS + (t.0 as usize)] <= i {
         return true;
     }
-    is_operation_barred(c, x, t, c[rows::code_at(t, i as usize)])
+    is_operation_barred(c, x, t, c.numbers[listing::code_at(t, i as usize)])
 }
 
 // Of an entry at the head of a thread's buffer.
-fn is_head_barred(c: &[u32; LISTING], x: &[u32; LANES], t: Thread, tag: u32) -> bool
-    requires { ListingFits c.now × FewEntries c.now x.now }
-    ensures { result ≡ head_barred c.now x.now t.0 tag }
+fn is_head_barred(c: &Listing, x: &[u32; LANES], t: Thread, tag: u32) -> bool
+    requires { FewEntries c.now.numbers x.now }
+    ensures { result ≡ head_barred c.now.numbers x.now t.0 tag }
 {
     if SFENCE_TAG <= tag {
         return rows::is_marked(c, x, t);
@@ -108,30 +106,30 @@ fn is_head_barred(c: &[u32; LISTING], x: &[u32; LANES], t: Thread, tag: u32) -> 
         return false;
     }
     if FLUSH_TAG <= tag {
-        let q = rows::line_of(c, Location((tag - FLUSH_TAG) as u8));
-        return rows::row_len(c, x, rows::queue_row(c, q)) != 0;
+        let q = c.line_of(Location((tag - FLUSH_TAG) as u8));
+        return rows::row_len(c, x, c.queue_row(q)) != 0;
     }
     false
 }
 
 // Of an entry at position i behind it, the buffer's row starting at base.
-fn is_pass_barred(c: &[u32; LISTING], x: &[u32; LANES], base: usize, i: usize, tag: u32) -> bool
-    requires { ListingFits c.now × (base + 2 * i ≤ most_lanes) }
-    ensures { result ≡ pass_barred c.now x.now base i tag }
+fn is_pass_barred(c: &Listing, x: &[u32; LANES], base: usize, i: usize, tag: u32) -> bool
+    requires { base + 2 * i ≤ most_lanes }
+    ensures { result ≡ pass_barred c.now.numbers x.now base i tag }
 {
     if SFENCE_TAG <= tag {
         return true;
     }
     if FLUSH_OPT_TAG <= tag {
-        let q = rows::line_of(c, Location((tag - FLUSH_OPT_TAG) as u8));
+        let q = c.line_of(Location((tag - FLUSH_OPT_TAG) as u8));
         return is_barred(c, x, base, i, q);
     }
     true
 }
 
-fn is_entry_barred(c: &[u32; LISTING], x: &[u32; LANES], t: Thread, base: usize, i: usize) -> bool
-    requires { ListingFits c.now × FewEntries c.now x.now × (base + 2 * i + 2 ≤ most_lanes) }
-    ensures { result ≡ entry_barred c.now x.now t.0 base i }
+fn is_entry_barred(c: &Listing, x: &[u32; LANES], t: Thread, base: usize, i: usize) -> bool
+    requires { FewEntries c.now.numbers x.now × (base + 2 * i + 2 ≤ most_lanes) }
+    ensures { result ≡ entry_barred c.now.numbers x.now t.0 base i }
 {
     let tag = x[base + 2 * i];
     if i == 0 {
@@ -160,16 +158,14 @@ fn offer(ranks: &mut [u8; CANDIDATES], count: u8, barred: bool, k: Step) -> u8
     count + 1
 }
 
-fn offer_issues(c: &[u32; LISTING], x: &[u32; LANES], ranks: &mut [u8; CANDIDATES], count: u8) -> u8
-    requires { ListingFits c.now × FewEntries c.now x.now × (count + threads_in c.now ≤ most_candidates) }
-    ensures { (next_with result ranks.new ≡ offered_from (issue_barred c.now x.now)
-        issue_step 0 (threads_in c.now) (next_with count ranks.old))
-        × (result ≤ count + threads_in c.now) }
+fn offer_issues(c: &Listing, x: &[u32; LANES], ranks: &mut [u8; CANDIDATES], count: u8) -> u8
+    requires { FewEntries c.now.numbers x.now × (count + threads_in c.now.numbers ≤ most_candidates) }
+    ensures { (next_with result ranks.new ≡ offered_from (issue_barred c.now.numbers x.now)
+        issue_step 0 (threads_in c.now.numbers) (next_with count ranks.old))
+        × (result ≤ count + threads_in c.now.numbers) }
 {
-    let threads = c[0] as u8;
     let mut n = count;
-    let mut t: u8 = 0;
-    while t < threads {
+    for t in 0..c.threads() {
         let barred = is_issue_barred(c, x, Thread(t));
         n = offer(
             ranks,
@@ -182,32 +178,30 @@ fn offer_issues(c: &[u32; LISTING], x: &[u32; LANES], ranks: &mut [u8; CANDIDATE
                 location: Location(0),
             },
         );
-        t += 1;
     }
     n
 }
 
 // The moves of one thread.
 fn offer_moves_of(
-    c: &[u32; LISTING],
+    c: &Listing,
     x: &[u32; LANES],
     t: Thread,
     ranks: &mut [u8; CANDIDATES],
     count: u8,
 ) -> u8
-    requires { ListingFits c.now × FewEntries c.now x.now × (t.0 < threads_in c.now)
-        × (count + row_len c.now x.now t.0 ≤ most_candidates) }
+    requires { FewEntries c.now.numbers x.now × (t.0 < threads_in c.now.numbers)
+        × (count + row_len c.now.numbers x.now t.0 ≤ most_candidates) }
     ensures { (next_with result ranks.new
-        ≡ offered_from (move_barred c.now x.now t.0) (move_step t.0) 0
-        (row_len c.now x.now t.0) (next_with count ranks.old))
-        × (result ≤ count + row_len c.now x.now t.0) }
+        ≡ offered_from (move_barred c.now.numbers x.now t.0) (move_step t.0) 0
+        (row_len c.now.numbers x.now t.0) (next_with count ranks.old))
+        × (result ≤ count + row_len c.now.numbers x.now t.0) }
 {
     let r = rows::buffer_row(t);
     let base = rows::row_start(c, x, r);
     let many = rows::row_len(c, x, r) as u8;
     let mut n = count;
-    let mut i: u8 = 0;
-    while i < many {
+    for i in 0..many {
         let barred = is_entry_barred(c, x, t, base, i as usize);
         n = offer(
             ranks,
@@ -220,44 +214,33 @@ fn offer_moves_of(
                 location: Location(0),
             },
         );
-        i += 1;
     }
     n
 }
 
-fn offer_moves(c: &[u32; LISTING], x: &[u32; LANES], ranks: &mut [u8; CANDIDATES], count: u8) -> u8
-    requires { ListingFits c.now × FewEntries c.now x.now
-        × (count + sum_to (threads_in c.now) (row_len c.now x.now) ≤ most_candidates) }
+fn offer_moves(c: &Listing, x: &[u32; LANES], ranks: &mut [u8; CANDIDATES], count: u8) -> u8
+    requires { FewEntries c.now.numbers x.now
+        × (count + sum_to (threads_in c.now.numbers) (row_len c.now.numbers x.now) ≤ most_candidates) }
     ensures { (next_with result ranks.new
-        ≡ offered_moves c.now x.now 0 (threads_in c.now)
+        ≡ offered_moves c.now.numbers x.now 0 (threads_in c.now.numbers)
         (next_with count ranks.old))
-        × (result ≤ count + sum_to (threads_in c.now) (row_len c.now x.now)) }
+        × (result ≤ count + sum_to (threads_in c.now.numbers) (row_len c.now.numbers x.now)) }
 {
-    let threads = c[0] as u8;
     let mut n = count;
-    let mut t: u8 = 0;
-    while t < threads {
+    for t in 0..c.threads() {
         n = offer_moves_of(c, x, Thread(t), ranks, n);
-        t += 1;
     }
     n
 }
 
-fn offer_persists(
-    c: &[u32; LISTING],
-    x: &[u32; LANES],
-    ranks: &mut [u8; CANDIDATES],
-    count: u8,
-) -> u8
-    requires { ListingFits c.now × (count + lines_in c.now ≤ most_candidates) }
-    ensures { next_with result ranks.new ≡ offered_from (persist_barred c.now x.now)
-        persist_step 0 (lines_in c.now) (next_with count ranks.old) }
+fn offer_persists(c: &Listing, x: &[u32; LANES], ranks: &mut [u8; CANDIDATES], count: u8) -> u8
+    requires { (count + lines_in c.now.numbers ≤ most_candidates) }
+    ensures { next_with result ranks.new ≡ offered_from (persist_barred c.now.numbers x.now)
+        persist_step 0 (lines_in c.now.numbers) (next_with count ranks.old) }
 {
-    let lines = c[1] as u8;
     let mut n = count;
-    let mut q: u8 = 0;
-    while q < lines {
-        let barred = rows::row_len(c, x, rows::queue_row(c, Line(q))) == 0;
+    for q in 0..c.lines() {
+        let barred = rows::row_len(c, x, c.queue_row(Line(q))) == 0;
         n = offer(
             ranks,
             n,
@@ -269,14 +252,13 @@ fn offer_persists(
                 location: Location(q),
             },
         );
-        q += 1;
     }
     n
 }
 
-pub(crate) fn next_steps(c: &[u32; LISTING], x: &[u32; LANES]) -> Ranks
-    requires { ListingFits c.now × FewEntries c.now x.now }
-    ensures { result ≡ next_lanes c.now x.now }
+pub(crate) fn next_steps(c: &Listing, x: &[u32; LANES]) -> Ranks
+    requires { FewEntries c.now.numbers x.now }
+    ensures { result ≡ next_lanes c.now.numbers x.now }
 {
     let mut ranks = [0u8; CANDIDATES];
     let issues = offer_issues(c, x, &mut ranks, 0);

@@ -3,13 +3,13 @@
 ghost use Rattle.std.specs.Prelude.{◌≡◌, ◌-◌, ◌<◌, ◌≤◌, length};
 ghost use Rattle.search.specs.Sizes.{most_lanes};
 ghost use Rattle.search.specs.Seek.{walked_of, stored_of};
-ghost use Rattle.search.specs.Listing.{ListingFits};
 ghost use Rattle.search.specs.Rows.{FewEntries};
 ghost use Rattle.search.specs.Held.{Held};
 ghost use Rattle.search.specs.Table.{keys_in, Chained};
 ghost use Rattle.search.specs.Recall.{met_by, key_lanes, new_from, sought_new, MetAfter, Meets};
 
-use crate::sizes::{LANES, LISTING};
+use crate::listing::Listing;
+use crate::sizes::LANES;
 use crate::walk::Walked;
 use crate::{next, rows, shown, table, taken, wants};
 use cases::case::Ask;
@@ -24,16 +24,10 @@ pub enum Met {
 }
 
 // Looks a state up, and keeps it where it is new: `left` more have room, of `limit` in all.
-fn meet<'a, 'k>(
-    c: &'a [u32; LISTING],
-    x: &'k [u32; LANES],
-    limit: u32,
-    left: u32,
-    memory: &mut [u32],
-) -> Met
-    requires { ListingFits c.now × FewEntries c.now x.now × (0 < limit) × (left ≤ limit)
+fn meet<'a, 'k>(c: &Listing, x: &'k [u32; LANES], limit: u32, left: u32, memory: &mut [u32]) -> Met
+    requires { FewEntries c.now.numbers x.now × (0 < limit) × (left ≤ limit)
         × Chained memory.old limit (limit - left) × (length x.now ≡ most_lanes) }
-    ensures { Meets result memory.old memory.new limit left (key_lanes c.now x.now) }
+    ensures { Meets result memory.old memory.new limit left (key_lanes c.now.numbers x.now) }
 {
     let n = rows::pool_end(c, x);
     let b = table::bucket(limit, x, n);
@@ -49,7 +43,7 @@ fn meet<'a, 'k>(
 
 // All that is new from a state that `depth` steps lead to. The run is written on the way up, and only if it reaches.
 pub(crate) fn recall(
-    c: &[u32; LISTING],
+    c: &Listing,
     a: &Ask,
     x: &[u32; LANES],
     limit: u32,
@@ -58,16 +52,16 @@ pub(crate) fn recall(
     run: &mut [u8],
     memory: &mut [u32],
 ) -> Walked
-    requires { Held c.now x.now depth (length run.old) × (0 < limit) × (left ≤ limit)
+    requires { Held c.now.numbers x.now depth (length run.old) × (0 < limit) × (left ≤ limit)
         × Chained memory.old limit (limit - left) }
-    ensures { (result ≡ walked_of depth (sought_new c.now a.now.wanted a.now.want
+    ensures { (result ≡ walked_of depth (sought_new c.now.numbers a.now.wanted a.now.want
         a.now.passed depth left (keys_in memory.old limit (limit - left)) x.now))
-        × (run.new ≡ stored_of depth (sought_new c.now a.now.wanted a.now.want
+        × (run.new ≡ stored_of depth (sought_new c.now.numbers a.now.wanted a.now.want
         a.now.passed depth left (keys_in memory.old limit (limit - left)) x.now)
         run.old)
         × MetAfter result memory.new limit
-        (met_by (key_lanes c.now) (keys_in memory.old limit (limit - left))
-        (new_from c.now depth (keys_in memory.old limit (limit - left)) x.now)) }
+        (met_by (key_lanes c.now.numbers) (keys_in memory.old limit (limit - left))
+        (new_from c.now.numbers depth (keys_in memory.old limit (limit - left)) x.now)) }
 {
     match meet(c, x, limit, left, memory) {
         Met::Before => {

@@ -7,7 +7,8 @@ ghost use Rattle.search.specs.Seek.{seek, walked_of, stored_of};
 ghost use Rattle.search.specs.Taken.{lanes_machine, reaches_lanes};
 ghost use Rattle.search.specs.Held.{Held};
 
-use crate::sizes::{LANES, LISTING};
+use crate::listing::Listing;
+use crate::sizes::LANES;
 use crate::{next, shown, taken, wants};
 use cases::case::Ask;
 use cases::sizes::STEP_SIZE;
@@ -22,20 +23,20 @@ pub enum Walked {
 
 // The walk from a state that `depth` steps lead to. The run is written on the way up, and only if it reaches.
 pub(crate) fn walk(
-    c: &[u32; LISTING],
+    c: &Listing,
     a: &Ask,
     x: &[u32; LANES],
     budget: u32,
     depth: usize,
     run: &mut [u8],
 ) -> Walked
-    requires { Held c.now x.now depth (length run.old) }
+    requires { Held c.now.numbers x.now depth (length run.old) }
     ensures { (result ≡ walked_of depth (seek
-        (reaches_lanes c.now a.now.wanted a.now.want a.now.passed) budget
-        (walks.walk (lanes_machine c.now) (suc (most_work - depth)) x.now)))
+        (reaches_lanes c.now.numbers a.now.wanted a.now.want a.now.passed) budget
+        (walks.walk (lanes_machine c.now.numbers) (suc (most_work - depth)) x.now)))
         × (run.new ≡ stored_of depth (seek
-        (reaches_lanes c.now a.now.wanted a.now.want a.now.passed) budget
-        (walks.walk (lanes_machine c.now) (suc (most_work - depth)) x.now)) run.old) }
+        (reaches_lanes c.now.numbers a.now.wanted a.now.want a.now.passed) budget
+        (walks.walk (lanes_machine c.now.numbers) (suc (most_work - depth)) x.now)) run.old) }
 {
     if budget == 0 {
         return Walked::Stopped;

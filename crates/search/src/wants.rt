@@ -3,11 +3,11 @@ ghost use Rattle.std.specs.Prelude.{◌≡◌};
 ghost use Rattle.machine.specs.Fit.{any_from};
 ghost use Rattle.search.specs.Question as question;
 ghost use Rattle.search.specs.Question.{lacks_at};
-ghost use Rattle.search.specs.Listing.{threads_in, locations_in, ListingFits};
+ghost use Rattle.search.specs.Listing.{threads_in, locations_in};
 ghost use Rattle.search.specs.Taken.{misses_lane, reaches_lanes};
 
-use crate::rows;
-use crate::sizes::{LANES, LISTING};
+use crate::listing::Listing;
+use crate::sizes::LANES;
 use cases::case::{Ask, Location};
 
 // Does a location hold another word than is wanted there?
@@ -18,44 +18,35 @@ fn misses(wanted: bool, want: u32, word: u32) -> bool
 }
 
 // Does some location?
-fn is_missed(c: &[u32; LISTING], a: &Ask, x: &[u32; LANES]) -> bool
-    requires { ListingFits c.now }
-    ensures { result ≡ any_from 0 (locations_in c.now)
-        (misses_lane c.now a.now.wanted a.now.want x.now) }
+fn is_missed(c: &Listing, a: &Ask, x: &[u32; LANES]) -> bool
+    ensures { result ≡ any_from 0 (locations_in c.now.numbers)
+        (misses_lane c.now.numbers a.now.wanted a.now.want x.now) }
 {
-    let locations = c[2] as u8;
-    let mut l: u8 = 0;
-    while l < locations {
+    for l in 0..c.locations() {
         let at = l as usize;
-        if misses(a.wanted[at], a.want[at], x[rows::word_at(c, Location(l))]) {
+        if misses(a.wanted[at], a.want[at], x[c.word_at(Location(l))]) {
             return true;
         }
-        l += 1;
     }
     false
 }
 
 // Has some thread issued fewer instructions than asked for?
-fn is_lacking(c: &[u32; LISTING], a: &Ask, x: &[u32; LANES]) -> bool
-    requires { ListingFits c.now }
-    ensures { result ≡ any_from 0 (threads_in c.now) (lacks_at a.now.passed x.now) }
+fn is_lacking(c: &Listing, a: &Ask, x: &[u32; LANES]) -> bool
+    ensures { result ≡ any_from 0 (threads_in c.now.numbers) (lacks_at a.now.passed x.now) }
 {
-    let threads = c[0] as usize;
-    let mut t: usize = 0;
-    while t < threads {
-        if x[t] < rows::wide(a.passed[t]) {
+    for t in 0..(c.threads() as usize) {
+        if x[t] < (a.passed[t] as u32) {
             return true;
         }
-        t += 1;
     }
     false
 }
 
 // Does a crash in this state leave what is asked for, with what is asked for issued?
-pub(crate) fn is_reached(c: &[u32; LISTING], a: &Ask, x: &[u32; LANES]) -> bool
-    requires { ListingFits c.now }
+pub(crate) fn is_reached(c: &Listing, a: &Ask, x: &[u32; LANES]) -> bool
     ensures { result
-        ≡ reaches_lanes c.now a.now.wanted a.now.want a.now.passed
+        ≡ reaches_lanes c.now.numbers a.now.wanted a.now.want a.now.passed
         x.now }
 {
     if is_missed(c, a, x) {

@@ -15,7 +15,7 @@ returns-then-tag-ge-FLUSH_OPT_TAG c = search choices
 pub row_len-requires : goal.row_len-requires
 row_len-requires c =
     let g = c.requires in
-    (g.0, queue_low _ g.0 _ _ _ c.line_of-q.ensures c.queue_row.ensures)
+    (queue_low _ c.args.c.now.fits _ _ _ c.line_of-q.ensures c.queue_row.ensures)
 
 pub returns-then-tag-ge-FLUSH_TAG : goal.returns-then-tag-ge-FLUSH_TAG
 unfolding head_barred

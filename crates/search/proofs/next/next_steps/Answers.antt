@@ -5,12 +5,12 @@ use Rattle.search.proofs.next.next_steps.Goals as goal
 pub offer_moves-moves-requires : goal.offer_moves-moves-requires
 offer_moves-moves-requires c =
     let g = c.requires in
-    (g.0, g.1, moves_fit _ _ g.0 g.1 _ c.offer_issues-issues.ensures.1)
+    (g, moves_fit _ _ c.args.c.now.fits g _ c.offer_issues-issues.ensures.1)
 
 pub offer_persists-count-requires : goal.offer_persists-count-requires
 offer_persists-count-requires c =
     let g = c.requires in
-    (g.0, persists_fit _ _ g.0 g.1 _ c.offer_issues-issues.ensures.1 _ c.offer_moves-moves.ensures.1)
+    (persists_fit _ _ c.args.c.now.fits g _ c.offer_issues-issues.ensures.1 _ c.offer_moves-moves.ensures.1)
 
 pub returns : goal.returns
 returns c =

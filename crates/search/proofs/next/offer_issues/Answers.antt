@@ -11,8 +11,8 @@ pub offer-n-requires : goal.offer-n-requires
 unfolding rank_of
 offer-n-requires c =
     let g = c.requires in
-    let w = g.0.few_threads in
-    (offered_low c.loop-t.invariant (omega arith) g.2, omega arith)
+    let w = c.args.c.now.fits.few_threads in
+    (offered_low c.loop-t.invariant (omega arith) (rw c.threads-t-end.ensures g.1), omega arith)
 
 pub loop-t-preserved : goal.loop-t-preserved
 loop-t-preserved c =
@@ -20,4 +20,5 @@ loop-t-preserved c =
     c.is_issue_barred-barred.ensures
 
 pub returns : goal.returns
-returns c = offered_end c.loop-t.invariant (omega arith)
+returns c =
+    rw (← c.threads-t-end.ensures) (offered_end c.loop-t.invariant (omega arith))

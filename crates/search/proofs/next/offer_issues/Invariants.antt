@@ -1,5 +1,4 @@
 -- `offer_issues` meets its contract. Assumes nothing.
-use Rattle.std.proofs.Common.{◌-◌}
 use Rattle.machine.specs.Next.{issue_step}
 use Rattle.search.specs.Barred.{issue_barred, next_with}
 use Rattle.search.proofs.next.RanksLoopLaws.{OfferedSoFar}
@@ -8,8 +7,5 @@ use Rattle.search.proofs.next.offer_issues.Given as goal
 -- the issues from thread t on, offered to the list so far, give what all of them give to the list at the start
 abbrev pub invariant-loop-t : goal.invariant-loop-t
 invariant-loop-t l =
-    OfferedSoFar (issue_barred l.c l.x) issue_step l.threads l.t
+    OfferedSoFar (issue_barred l.c.numbers l.x) issue_step l.t-end l.t
     (next_with l.n l.ranks) (next_with l.initial.n l.initial.ranks)
-
-abbrev pub decreases-loop-t : goal.decreases-loop-t
-decreases-loop-t l = l.threads - l.t

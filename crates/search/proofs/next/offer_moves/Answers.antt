@@ -8,10 +8,11 @@ loop-t-init c = moves_start _ _ _ _
 pub offer_moves_of-n-requires : goal.offer_moves_of-n-requires
 offer_moves_of-n-requires c =
     let g = c.requires in
-    (g.0, g.1, omega arith, moves_room c.loop-t.invariant (omega arith) g.2)
+    (g.0, omega arith, moves_room c.loop-t.invariant (omega arith) (rw c.threads-t-end.ensures g.1))
 
 pub loop-t-preserved : goal.loop-t-preserved
 loop-t-preserved c = moves_next c.loop-t.invariant (omega arith) _ c.offer_moves_of-n.ensures
 
 pub returns : goal.returns
-returns c = moves_end c.loop-t.invariant (omega arith)
+returns c =
+    rw (← c.threads-t-end.ensures) (moves_end c.loop-t.invariant (omega arith))

@@ -1,5 +1,4 @@
 -- `offer_moves` meets its contract. Assumes nothing.
-use Rattle.std.proofs.Common.{◌-◌}
 use Rattle.search.specs.Barred.{next_with}
 use Rattle.search.proofs.next.RanksLoopLaws.{MovesSoFar}
 use Rattle.search.proofs.next.offer_moves.Given as goal
@@ -7,7 +6,4 @@ use Rattle.search.proofs.next.offer_moves.Given as goal
 -- the moves from thread t on, offered to the list so far, give what all of them give to the list at the start
 abbrev pub invariant-loop-t : goal.invariant-loop-t
 invariant-loop-t l =
-    MovesSoFar l.c l.x l.threads l.t (next_with l.n l.ranks) (next_with l.initial.n l.initial.ranks)
-
-abbrev pub decreases-loop-t : goal.decreases-loop-t
-decreases-loop-t l = l.threads - l.t
+    MovesSoFar l.c.numbers l.x l.t-end l.t (next_with l.n l.ranks) (next_with l.initial.n l.initial.ranks)

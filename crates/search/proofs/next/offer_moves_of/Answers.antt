@@ -8,7 +8,7 @@ use Rattle.search.proofs.next.offer_moves_of.Goals as goal
 pub overflow_cast-many : goal.overflow_cast-many
 overflow_cast-many c =
     let n = rw c.buffer_row-r.ensures at c.row_len-many.ensures in
-    let w = c.requires.3 in
+    let w = c.requires.2 in
     omega arith
 
 pub loop-i-init : goal.loop-i-init
@@ -19,22 +19,22 @@ loop-i-init c =
 pub is_entry_barred-barred-requires : goal.is_entry_barred-barred-requires
 is_entry_barred-barred-requires c =
     let i = c.loop-i.invariant in
-    let w = row_room _ _ c.requires.0 c.requires.1 c.args.t.0 (omega arith) _ _ i.0 i.1 in
-    (c.requires.0, c.requires.1, omega arith)
+    let w = row_room _ _ c.args.c.now.fits c.requires.0 c.args.t.0 (omega arith) _ _ i.0 i.1 in
+    (c.requires.0, omega arith)
 
 pub offer-n-requires : goal.offer-n-requires
 unfolding rank_of
 offer-n-requires c =
     let i = c.loop-i.invariant in
     let g = c.requires in
-    let w = g.0.few_threads in
+    let w = c.args.c.now.fits.few_threads in
     let m = i.1 in
     (offered_low i.2 (omega arith) (omega arith), omega arith)
 
-pub overflow_add-i : goal.overflow_add-i
-overflow_add-i c =
+pub overflow_cast-i : goal.overflow_cast-i
+overflow_cast-i c =
     let m = c.loop-i.invariant.1 in
-    let w = c.requires.3 in
+    let w = c.requires.2 in
     omega arith
 
 pub loop-i-preserved : goal.loop-i-preserved

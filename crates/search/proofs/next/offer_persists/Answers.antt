@@ -12,8 +12,8 @@ pub offer-n-requires : goal.offer-n-requires
 unfolding rank_of
 offer-n-requires c =
     let g = c.requires in
-    let w = g.0.few_lines in
-    (offered_low c.loop-q.invariant (omega arith) g.1, omega arith)
+    let w = c.args.c.now.fits.few_lines in
+    (offered_low c.loop-q.invariant (omega arith) (rw c.lines-q-end.ensures g), omega arith)
 
 pub loop-q-preserved : goal.loop-q-preserved
 unfolding persist_barred
@@ -22,4 +22,5 @@ loop-q-preserved c =
     (rw (c.row_len-barred.ensures, c.queue_row.ensures))
 
 pub returns : goal.returns
-returns c = (offered_end c.loop-q.invariant (omega arith)).0
+returns c =
+    rw (← c.lines-q-end.ensures) ((offered_end c.loop-q.invariant (omega arith)).0)

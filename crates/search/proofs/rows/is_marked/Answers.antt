@@ -6,7 +6,8 @@ use Rattle.search.proofs.rows.MarkedLoopLaws.{marked_end}
 use Rattle.search.proofs.rows.is_marked.Goals as goal
 
 pub queues-init : goal.queues-init
-queues-init c = marked_rows_start _ _ _ _ c.row_start-at.ensures
+queues-init c =
+    rw c.threads-threads.ensures (marked_rows_start _ _ _ _ (rw c.threads-threads.ensures at c.row_start-at.ensures))
 
 pub entries-init : goal.entries-init
 entries-init c = marked_entries_start c.queues.invariant (omega arith) _ c.row_len-n.ensures
@@ -14,19 +15,19 @@ entries-init c = marked_entries_start c.queues.invariant (omega arith) _ c.row_l
 pub offset_bounds-x-at : goal.offset_bounds-x-at
 offset_bounds-x-at c =
     let g = c.requires in
-    let w = marked_within c.entries.invariant (omega arith) g.0 g.1 in
+    let w = marked_within c.entries.invariant (omega arith) c.args.c.now.fits g in
     omega arith
 
 pub bounds-x-at : goal.bounds-x-at
 bounds-x-at c =
     let g = c.requires in
-    let w = marked_within c.entries.invariant (omega arith) g.0 g.1 in
+    let w = marked_within c.entries.invariant (omega arith) c.args.c.now.fits g in
     omega arith
 
 pub overflow_add-at : goal.overflow_add-at
 overflow_add-at c =
     let g = c.requires in
-    let w = marked_within c.entries.invariant (omega arith) g.0 g.1 in
+    let w = marked_within c.entries.invariant (omega arith) c.args.c.now.fits g in
     omega arith
 
 pub entries-preserved : goal.entries-preserved

@@ -5,14 +5,14 @@ use Rattle.search.proofs.rows.is_marked.Given as goal
 
 -- nothing is found yet; the entries of row r from number i on, and the rows behind it, say what all queues say
 abbrev pub invariant-entries : goal.invariant-entries
-invariant-entries l = MarkedEntriesSoFar l.c l.x l.mark l.r l.n l.at l.i l.found
+invariant-entries l = MarkedEntriesSoFar l.c.numbers l.x l.mark l.r l.n l.at l.i l.found
 
 abbrev pub decreases-entries : goal.decreases-entries
 decreases-entries l = l.n - l.i
 
 -- nothing is found yet, and the rows from r on say what all queues say
 abbrev pub invariant-queues : goal.invariant-queues
-invariant-queues l = MarkedRowsSoFar l.c l.x l.mark l.at l.r l.found
+invariant-queues l = MarkedRowsSoFar l.c.numbers l.x l.mark l.at l.r l.found
 
 abbrev pub decreases-queues : goal.decreases-queues
 decreases-queues l = l.end - l.r

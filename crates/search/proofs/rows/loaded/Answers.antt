@@ -7,7 +7,7 @@ pub newest-requires : goal.newest-requires
 newest-requires c =
     let g = c.requires in
     let e = c.buffer_row-r.ensures in
-    row_room _ _ g.0 g.1 c.buffer_row-r.result.0 (omega arith) _ _ c.row_start-base.ensures
+    row_room _ _ c.args.c.now.fits g.0 c.buffer_row-r.result.0 (omega arith) _ _ c.row_start-base.ensures
     c.row_len-n.ensures
 
 pub returns : goal.returns

@@ -6,19 +6,19 @@ use Rattle.search.proofs.rows.queued.Goals as goal
 pub row_start-base-requires : goal.row_start-base-requires
 row_start-base-requires c =
     let g = c.requires in
-    let w = queue_low _ g.0 _ _ _ c.line_of-q.ensures c.queue_row-r.ensures in
-    (g.0, g.1, omega arith)
+    let w = queue_low _ c.args.c.now.fits _ _ _ c.line_of-q.ensures c.queue_row-r.ensures in
+    (g.0, omega arith)
 
 pub row_len-n-requires : goal.row_len-n-requires
 row_len-n-requires c =
     let g = c.requires in
-    (g.0, queue_low _ g.0 _ _ _ c.line_of-q.ensures c.queue_row-r.ensures)
+    (queue_low _ c.args.c.now.fits _ _ _ c.line_of-q.ensures c.queue_row-r.ensures)
 
 pub newest-requires : goal.newest-requires
 newest-requires c =
     let g = c.requires in
-    let w = queue_low _ g.0 _ _ _ c.line_of-q.ensures c.queue_row-r.ensures in
-    row_room _ _ g.0 g.1 _ w _ _ c.row_start-base.ensures c.row_len-n.ensures
+    let w = queue_low _ c.args.c.now.fits _ _ _ c.line_of-q.ensures c.queue_row-r.ensures in
+    row_room _ _ c.args.c.now.fits g.0 _ w _ _ c.row_start-base.ensures c.row_len-n.ensures
 
 pub returns : goal.returns
 returns c =

@@ -3,20 +3,20 @@ use Rattle.search.proofs.rows.RowLoopLaws.{rows_start, rows_next, rows_end, row_
 use Rattle.search.proofs.rows.row_start.Goals as goal
 
 pub loop-i-init : goal.loop-i-init
-loop-i-init c = rows_start _ _ _
+loop-i-init c = rows_start _ _ _ _ c.pool_at-n.ensures
 
-pub overflow_mul-n-in-loop-i : goal.overflow_mul-n-in-loop-i
-overflow_mul-n-in-loop-i c =
+pub overflow_mul-n : goal.overflow_mul-n
+overflow_mul-n c =
     let g = c.requires in
     let l = c.loop-i in
-    let w = row_room _ _ g.0 g.1 l.i (omega arith) _ _ l.invariant.start c.row_len.ensures in
+    let w = row_room _ _ c.args.c.now.fits g.0 l.i (omega arith) _ _ l.invariant.start c.row_len.ensures in
     omega arith
 
-pub overflow_add-n-in-loop-i : goal.overflow_add-n-in-loop-i
-overflow_add-n-in-loop-i c =
+pub overflow_add-n : goal.overflow_add-n
+overflow_add-n c =
     let g = c.requires in
     let l = c.loop-i in
-    let w = row_room _ _ g.0 g.1 l.i (omega arith) _ _ l.invariant.start c.row_len.ensures in
+    let w = row_room _ _ c.args.c.now.fits g.0 l.i (omega arith) _ _ l.invariant.start c.row_len.ensures in
     omega arith
 
 pub loop-i-preserved : goal.loop-i-preserved

@@ -6,9 +6,8 @@ use Rattle.search.proofs.taken.exchange.Goals as goal
 
 pub join-requires : goal.join-requires
 join-requires c = (
-  c.requires.fits,
   fetched_room _ _ _ _ _ c.fetch.ensures c.requires.roomy,
-  queue_low _ c.requires.fits _ _ _ c.line_of.ensures c.queue_row.ensures,
+  queue_low _ c.args.c.now.fits _ _ _ c.line_of.ensures c.queue_row.ensures,
 )
 
 pub returns : goal.returns

@@ -6,13 +6,13 @@ use Rattle.search.proofs.taken.leave.Goals as goal
 
 pub carry-requires : goal.carry-requires
 carry-requires c =
-    let w = carried_within _ _ c.requires.0 c.requires.1 _ _ c.requires.2 c.requires.5 _ _ c.requires.2 (omega arith)
+    let w = carried_within _ _ c.args.c.now.fits c.requires.0 _ _ c.requires.1 c.requires.4 _ _ c.requires.1 (omega arith)
     c.pool_end-end.ensures in
-    (w.0, w.1, c.requires.6)
+    (w.0, w.1, c.requires.5)
 
 pub discount-requires : goal.discount-requires
 discount-requires c =
-    carried_discount _ _ c.requires.0 c.requires.1 _ _ c.requires.2 c.requires.5 c.requires.4 c.requires.3 _ _ _ _ _
+    carried_discount _ _ c.args.c.now.fits c.requires.0 _ _ c.requires.1 c.requires.4 c.requires.3 c.requires.2 _ _ _ _ _
     c.carry.ensures c.row_len_at.ensures
 
 pub returns : goal.returns

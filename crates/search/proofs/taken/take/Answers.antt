@@ -7,8 +7,8 @@ use Rattle.search.proofs.taken.take.Goals as goal
 pub issue-requires : goal.issue-requires
 issue-requires c =
     let p = c.requires in
-    let w = takes_issue _ _ _ p.2 c.if-k-eq-ISSUE.true in
-    (p.0, w.2, w.0, w.1)
+    let w = takes_issue _ _ _ p.1 c.if-k-eq-ISSUE.true in
+    (w.2, w.0, w.1)
 
 pub returns-then-k-eq-ISSUE : goal.returns-then-k-eq-ISSUE
 unfolding step_lanes
@@ -17,8 +17,8 @@ returns-then-k-eq-ISSUE c = search choices
 pub move_entry-requires : goal.move_entry-requires
 move_entry-requires c =
     let p = c.requires in
-    let w = takes_move _ _ _ p.2 c.if-k-eq-MOVE.true in
-    (p.0, p.1, w.0, w.1, p.3)
+    let w = takes_move _ _ _ p.1 c.if-k-eq-MOVE.true in
+    (p.0, w.0, w.1, p.2)
 
 pub returns-then-k-eq-MOVE : goal.returns-then-k-eq-MOVE
 unfolding step_lanes
@@ -27,8 +27,8 @@ returns-then-k-eq-MOVE c = search choices
 pub persist-requires : goal.persist-requires
 persist-requires c =
     let p = c.requires in
-    let w = takes_persist _ _ _ p.2 c.if-k-eq-ISSUE.false c.if-k-eq-MOVE.false in
-    (p.0, p.1, w.0, w.1, p.3)
+    let w = takes_persist _ _ _ p.1 c.if-k-eq-ISSUE.false c.if-k-eq-MOVE.false in
+    (p.0, w.0, w.1, p.2)
 
 pub returns : goal.returns
 unfolding step_lanes

@@ -2,7 +2,7 @@ use Rattle.std.proofs.Common.{◌∙◌, arith, rules}
 use Rattle.search.proofs.walk.WalkLoopLaws.{left_used_up, left_here, walking_end}
 use Rattle.search.proofs.walk.WalkTurnLaws.{turn_listed, turn_length, turn_found, turn_stopped}
 use Rattle.search.proofs.walk.WalkTurnLaws.{turn_finished}
-use Rattle.search.proofs.walk.WalkHeldLaws.{walks_start, held_fits, held_few, held_long, held_takes}
+use Rattle.search.proofs.walk.WalkHeldLaws.{walks_start, held_few, held_long, held_takes}
 use Rattle.search.proofs.walk.WalkHeldLaws.{held_deep, held_room, held_next, held_below}
 use Rattle.search.proofs.walk.+walk.Goals as goal
 
@@ -11,9 +11,6 @@ returns-then-budget-eq0 t c =
     let b = c.args in
     let l = left_used_up _ b.budget b.depth b.run.now _ _ _ c.if-budget-eq0.true in
     (l.told, l.stored)
-
-pub is_reached-requires : goal.is_reached-requires
-is_reached-requires t c = held_fits c.requires
 
 pub returns-then-is_reached : goal.returns-then-is_reached
 returns-then-is_reached t c =
@@ -24,8 +21,7 @@ returns-then-is_reached t c =
 
 pub next_steps-next-requires : goal.next_steps-next-requires
 next_steps-next-requires t c =
-    let h = c.requires in
-    (held_fits h, held_few h)
+    held_few c.requires
 
 pub loop-i-init : goal.loop-i-init
 loop-i-init t c =
@@ -40,7 +36,7 @@ pub take-requires : goal.take-requires
 take-requires t c =
     let l = c.loop-i in
     let on = turn_listed l.invariant.1 (omega arith) _ c.step_at-k.ensures in
-    (held_fits l.invariant.0, held_few l.invariant.0, held_takes l.invariant.0 _ on, held_long l.invariant.0)
+    (held_few l.invariant.0, held_takes l.invariant.0 _ on, held_long l.invariant.0)
 
 pub overflow_add-depth : goal.overflow_add-depth
 overflow_add-depth t c =

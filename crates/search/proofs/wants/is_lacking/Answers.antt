@@ -1,4 +1,4 @@
-use Rattle.std.proofs.Common.{arith}
+use Rattle.std.proofs.Common.{refl, arith}
 use Rattle.machine.proofs.lists.AnyLaws.{any_start, any_next, any_here, any_end}
 use Rattle.search.proofs.wants.WantLoopLaws.{lacks_some, lacks_none}
 use Rattle.search.proofs.wants.is_lacking.Goals as goal
@@ -9,12 +9,12 @@ loop-t-init c = any_start _ _
 pub returns-then-x-t : goal.returns-then-x-t
 returns-then-x-t c =
     any_here c.loop-t.invariant (omega arith)
-    (lacks_some _ _ _ _ c.wide.ensures c.if-x-t.true)
+    (lacks_some _ _ _ _ refl c.if-x-t.true)
 
 pub loop-t-preserved : goal.loop-t-preserved
 loop-t-preserved c =
     any_next c.loop-t.invariant (omega arith)
-    (lacks_none _ _ _ _ c.wide.ensures c.if-x-t.false)
+    (lacks_none _ _ _ _ refl c.if-x-t.false)
 
 pub returns : goal.returns
 returns c = any_end c.loop-t.invariant (omega arith)

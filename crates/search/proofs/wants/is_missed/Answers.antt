@@ -3,9 +3,6 @@ use Rattle.machine.proofs.lists.AnyLaws.{any_start, any_next, any_here, any_end}
 use Rattle.search.proofs.wants.WantLoopLaws.{missed_told}
 use Rattle.search.proofs.wants.is_missed.Goals as goal
 
-pub overflow_cast-locations : goal.overflow_cast-locations
-overflow_cast-locations c = let w = c.requires.few_locations in omega arith
-
 pub loop-l-init : goal.loop-l-init
 loop-l-init c = any_start _ _
 
