@@ -64,12 +64,8 @@ pub(crate) fn recall(
         (new_from c.now.numbers depth (keys_in memory.old limit (limit - left)) x.now)) }
 {
     match meet(c, x, limit, left, memory) {
-        Met::Before => {
-            return Walked::Finished(left);
-        }
-        Met::Full => {
-            return Walked::Stopped;
-        }
+        Met::Before => return Walked::Finished(left),
+        Met::Full => return Walked::Stopped,
         Met::New => {}
     }
     if wants::is_reached(c, a, x) {
@@ -77,8 +73,7 @@ pub(crate) fn recall(
     }
     let next = next::next_steps(c, x);
     let mut rest = left - 1;
-    let mut i: u8 = 0;
-    while i < next.count {
+    for i in 0..next.count {
         let k = next::step_at(next.ranks[i as usize]);
         let mut u = *x;
         taken::take(c, &mut u, k);
@@ -88,14 +83,9 @@ pub(crate) fn recall(
                 shown::put_step(run, STEP_SIZE * depth, k);
                 return Walked::Found(n);
             }
-            Walked::Finished(more) => {
-                rest = more;
-            }
-            Walked::Stopped => {
-                return Walked::Stopped;
-            }
+            Walked::Finished(more) => rest = more,
+            Walked::Stopped => return Walked::Stopped,
         }
-        i += 1;
     }
     Walked::Finished(rest)
 }

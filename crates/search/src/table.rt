@@ -36,14 +36,12 @@ pub(crate) fn bucket(limit: u32, key: &[u32; LANES], n: usize) -> u32
     let mut b: u64 = 1;
     let mut c: u64 = 2;
     let mut d: u64 = 3;
-    let mut i: usize = 0;
-    while i < n {
+    for i in 0..n {
         let more = mix(a, key[i]);
         a = b;
         b = c;
         c = d;
         d = more;
-        i += 1;
     }
     fold(mix(mix(mix(a, fold(b)), fold(c)), fold(d))) % limit
 }
@@ -53,14 +51,7 @@ fn is_same<'a, 'k>(memory: &'a [u32], at: usize, key: &'k [u32; LANES], n: usize
     requires { (at + n ≤ length memory.now) × (n ≤ most_lanes) × (length key.now ≡ most_lanes) }
     ensures { result ≡ eq_lanes (take n key.now) (part at n memory.now) }
 {
-    let mut lane: usize = 0;
-    while lane < n {
-        if memory[at + lane] != key[lane] {
-            return false;
-        }
-        lane += 1;
-    }
-    true
+    key[..n] == memory[at..at + n]
 }
 
 // Does the record at `at` hold the first n lanes of the key, and no more?
@@ -104,11 +95,7 @@ fn copy<'k>(memory: &mut [u32], at: usize, key: &'k [u32; LANES], n: usize)
     requires { (at + n ≤ length memory.old) × (n ≤ most_lanes) × (length key.now ≡ most_lanes) }
     ensures { memory.new ≡ sets memory.old at (take n key.now) }
 {
-    let mut i: usize = 0;
-    while i < n {
-        memory[at + i] = key[i];
-        i += 1;
-    }
+    memory[at..at + n].copy_from_slice(&key[..n]);
 }
 
 // The key as one more record, in front of its bucket's chain.
@@ -138,9 +125,5 @@ pub(crate) fn clear(memory: &mut [u32], n: usize)
     requires { n ≤ length memory.old }
     ensures { memory.new ≡ replicate n 0 ++ drop n memory.old }
 {
-    let mut word: usize = 0;
-    while word < n {
-        memory[word] = 0;
-        word += 1;
-    }
+    memory[..n].fill(0);
 }

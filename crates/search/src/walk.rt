@@ -46,8 +46,7 @@ pub(crate) fn walk(
     }
     let next = next::next_steps(c, x);
     let mut left = budget - 1;
-    let mut i: u8 = 0;
-    while i < next.count {
+    for i in 0..next.count {
         let k = next::step_at(next.ranks[i as usize]);
         let mut u = *x;
         taken::take(c, &mut u, k);
@@ -57,14 +56,9 @@ pub(crate) fn walk(
                 shown::put_step(run, STEP_SIZE * depth, k);
                 return Walked::Found(n);
             }
-            Walked::Finished(rest) => {
-                left = rest;
-            }
-            Walked::Stopped => {
-                return Walked::Stopped;
-            }
+            Walked::Finished(rest) => left = rest,
+            Walked::Stopped => return Walked::Stopped,
         }
-        i += 1;
     }
     Walked::Finished(left)
 }

@@ -108,11 +108,6 @@ returns-in-Stopped t c =
     recall_stopped _ _ _ _ _ _ _ _ _ _ _ _ c.meet.ensures c.in-New.is _
     c.is_reached.ensures c.if-is_reached.false _ _ x
 
-pub overflow_add-i : goal.overflow_add-i
-overflow_add-i t c =
-    let few = c.loop-i.invariant.3.list.few in
-    omega arith
-
 pub loop-i-preserved : goal.loop-i-preserved
 loop-i-preserved t c =
     let z = c.take.ensures in

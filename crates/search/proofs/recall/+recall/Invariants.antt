@@ -18,7 +18,3 @@ invariant-loop-i l =
     (keys_in l.initial.memory l.limit (l.limit - l.initial.rest)) l.next l.initial.run l.run l.rest l.i
     (keys_in l.memory l.limit (l.limit - l.rest))
     × (length l.memory ≡ length l.initial.memory)
-
-abbrev pub decreases-loop-i : goal.decreases-loop-i
-decreases-loop-i l =
-    l.next.count - l.i

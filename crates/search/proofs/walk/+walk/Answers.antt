@@ -89,11 +89,6 @@ returns-in-Stopped t c =
     let x = turn_stopped l.invariant.1 (omega arith) _ k _ z _ n _ _ _ c.walk-below.ensures c.in-Stopped.is in
     (x.told, x.stored)
 
-pub overflow_add-i : goal.overflow_add-i
-overflow_add-i t c =
-    let few = c.loop-i.invariant.1.list.few in
-    omega arith
-
 pub loop-i-preserved : goal.loop-i-preserved
 loop-i-preserved t c =
     let z = c.take.ensures in

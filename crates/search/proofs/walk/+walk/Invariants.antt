@@ -14,6 +14,3 @@ abbrev pub invariant-loop-i : goal.invariant-loop-i
 invariant-loop-i l =
     Held l.c.numbers l.x l.depth (length l.run)
     × Walks l.c.numbers l.a.wanted l.a.want l.a.passed l.x l.depth l.budget l.next l.initial.run l.run l.left l.i
-
-abbrev pub decreases-loop-i : goal.decreases-loop-i
-decreases-loop-i l = l.next.count - l.i
