@@ -26,7 +26,7 @@ pub enum Met {
 // Looks a state up, and keeps it where it is new: `left` more have room, of `limit` in all.
 fn meet<'a, 'k>(c: &Listing, x: &'k [u32; LANES], limit: u32, left: u32, memory: &mut [u32]) -> Met
     requires { FewEntries c.now.numbers x.now × (0 < limit) × (left ≤ limit)
-        × Chained memory.old limit (limit - left) × (length x.now ≡ most_lanes) }
+        × Chained memory.old limit (limit - left) }
     ensures { Meets result memory.old memory.new limit left (key_lanes c.now.numbers x.now) }
 {
     let n = rows::pool_end(c, x);

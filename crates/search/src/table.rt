@@ -29,7 +29,7 @@ fn mix(h: u64, lane: u32) -> u64
 
 // The bucket of a key, its first n lanes. Four numbers take them in turn, since each mixing waits for the one before.
 pub(crate) fn bucket(limit: u32, key: &[u32; LANES], n: usize) -> u32
-    requires { (n ≤ most_lanes) × (0 < limit) × (length key.now ≡ most_lanes) }
+    requires { (n ≤ most_lanes) × (0 < limit) }
     ensures { (result ≡ bucket_of limit (take n key.now)) × (result < limit) }
 {
     let mut a: u64 = 0;
@@ -48,7 +48,7 @@ pub(crate) fn bucket(limit: u32, key: &[u32; LANES], n: usize) -> u32
 
 // Do the n words from `at` on equal the first n of the key?
 fn is_same<'a, 'k>(memory: &'a [u32], at: usize, key: &'k [u32; LANES], n: usize) -> bool
-    requires { (at + n ≤ length memory.now) × (n ≤ most_lanes) × (length key.now ≡ most_lanes) }
+    requires { (at + n ≤ length memory.now) × (n ≤ most_lanes) }
     ensures { result ≡ eq_lanes (take n key.now) (part at n memory.now) }
 {
     key[..n] == memory[at..at + n]
@@ -57,7 +57,7 @@ fn is_same<'a, 'k>(memory: &'a [u32], at: usize, key: &'k [u32; LANES], n: usize
 // Does the record at `at` hold the first n lanes of the key, and no more?
 fn is_record<'a, 'k>(memory: &'a [u32], at: usize, key: &'k [u32; LANES], n: usize) -> bool
     requires { (at + record_words ≤ length memory.now) × (get_or memory.now (at + 1) 0 ≤ most_lanes)
-        × (n ≤ most_lanes) × (length key.now ≡ most_lanes) }
+        × (n ≤ most_lanes) }
     ensures { result ≡ eq_lanes (take n key.now) (key_at memory.now at) }
 {
     if memory[at + 1] != (n as u32) {
@@ -76,7 +76,7 @@ pub(crate) fn is_kept<'a, 'k>(
     n: usize,
 ) -> bool
     requires { Chained memory.now limit count × (b < limit) × (b ≡ bucket_of limit (take n key.now))
-        × (n ≤ most_lanes) × (length key.now ≡ most_lanes) }
+        × (n ≤ most_lanes) }
     ensures { result ≡ among (take n key.now) (keys_in memory.now limit count) }
 {
     let mut x = memory[b as usize];
@@ -92,7 +92,7 @@ pub(crate) fn is_kept<'a, 'k>(
 
 // The first n lanes of the key, from `at` on.
 fn copy<'k>(memory: &mut [u32], at: usize, key: &'k [u32; LANES], n: usize)
-    requires { (at + n ≤ length memory.old) × (n ≤ most_lanes) × (length key.now ≡ most_lanes) }
+    requires { (at + n ≤ length memory.old) × (n ≤ most_lanes) }
     ensures { memory.new ≡ sets memory.old at (take n key.now) }
 {
     memory[at..at + n].copy_from_slice(&key[..n]);
@@ -108,7 +108,7 @@ pub(crate) fn keep<'k>(
     n: usize,
 )
     requires { Chained memory.old limit count × (count < limit) × (b < limit)
-        × (b ≡ bucket_of limit (take n key.now)) × (n ≤ most_lanes) × (length key.now ≡ most_lanes) }
+        × (b ≡ bucket_of limit (take n key.now)) × (n ≤ most_lanes) }
     ensures { Chained memory.new limit (suc count)
         × (keys_in memory.new limit (suc count)
         ≡ take n key.now ∷ keys_in memory.old limit count) }

@@ -35,7 +35,7 @@ fn insert(x: &mut [u32; LANES], at: usize, end: usize, tag: u32, word: u32)
 
 // The entry at lane `at` goes, as tag and word, to just before lane `to`: what stands between comes two nearer.
 fn carry(x: &mut [u32; LANES], at: usize, to: usize, tag: u32, word: u32)
-    requires { (at + 2 ≤ to) × (to ≤ most_lanes) × (length x.old ≡ most_lanes) }
+    requires { (at + 2 ≤ to) × (to ≤ most_lanes) }
     ensures { x.new ≡ carried x.old at to tag word }
 {
     let mut i = at + 2;
@@ -76,7 +76,7 @@ fn join(c: &Listing, x: &mut [u32; LANES], r: Row, tag: u32, word: u32)
 fn leave(c: &Listing, x: &mut [u32; LANES], r: Row, at: usize)
     requires { FewEntries c.now.numbers x.old × (r.0 < rows_in c.now.numbers)
         × (0 < row_len c.now.numbers x.old r.0) × (pool_at c.now.numbers ≤ at)
-        × (at + 2 ≤ row_start c.now.numbers x.old (r.0 + 1)) × (length x.old ≡ most_lanes) }
+        × (at + 2 ≤ row_start c.now.numbers x.old (r.0 + 1)) }
     ensures { x.new ≡ row_left c.now.numbers x.old r.0 at }
 {
     let end = rows::pool_end(c, x);
@@ -88,7 +88,7 @@ fn leave(c: &Listing, x: &mut [u32; LANES], r: Row, at: usize)
 fn carry_over(c: &Listing, x: &mut [u32; LANES], t: Thread, at: usize, q: Line, tag: u32)
     requires { FewEntries c.now.numbers x.old × (t.0 < threads_in c.now.numbers)
         × (q.0 < lines_in c.now.numbers) × (0 < row_len c.now.numbers x.old t.0) × (pool_at c.now.numbers ≤ at)
-        × (at + 2 ≤ row_start c.now.numbers x.old (t.0 + 1)) × (length x.old ≡ most_lanes) }
+        × (at + 2 ≤ row_start c.now.numbers x.old (t.0 + 1)) }
     ensures { x.new ≡ row_carried c.now.numbers x.old t.0 at q.0 tag }
 {
     let r = c.queue_row(q);
@@ -230,7 +230,7 @@ fn issue(c: &Listing, x: &mut [u32; LANES], t: Thread)
 fn move_tagged(c: &Listing, x: &mut [u32; LANES], t: Thread, at: usize, tag: u32)
     requires { FewEntries c.now.numbers x.old × (t.0 < threads_in c.now.numbers)
         × (0 < row_len c.now.numbers x.old t.0) × (pool_at c.now.numbers ≤ at)
-        × (at + 2 ≤ row_start c.now.numbers x.old (t.0 + 1)) × (length x.old ≡ most_lanes) }
+        × (at + 2 ≤ row_start c.now.numbers x.old (t.0 + 1)) }
     ensures { x.new ≡ moved_lanes c.now.numbers x.old t.0 at tag }
 {
     if SFENCE_TAG <= tag {
@@ -252,7 +252,7 @@ fn move_tagged(c: &Listing, x: &mut [u32; LANES], t: Thread, at: usize, tag: u32
 
 fn move_entry(c: &Listing, x: &mut [u32; LANES], t: Thread, i: usize)
     requires { FewEntries c.now.numbers x.old × (t.0 < threads_in c.now.numbers)
-        × (i < row_len c.now.numbers x.old t.0) × (length x.old ≡ most_lanes) }
+        × (i < row_len c.now.numbers x.old t.0) }
     ensures { x.new ≡ move_lanes c.now.numbers x.old t.0 i }
 {
     let at = rows::row_start(c, x, rows::buffer_row(t)) + 2 * i;
@@ -262,7 +262,7 @@ fn move_entry(c: &Listing, x: &mut [u32; LANES], t: Thread, i: usize)
 
 fn persist(c: &Listing, x: &mut [u32; LANES], q: Line)
     requires { FewEntries c.now.numbers x.old × (q.0 < lines_in c.now.numbers)
-        × (0 < row_len c.now.numbers x.old (queue_row c.now.numbers q.0)) × (length x.old ≡ most_lanes) }
+        × (0 < row_len c.now.numbers x.old (queue_row c.now.numbers q.0)) }
     ensures { x.new ≡ persist_lanes c.now.numbers x.old q.0 }
 {
     let r = c.queue_row(q);
@@ -278,8 +278,7 @@ fn persist(c: &Listing, x: &mut [u32; LANES], q: Line)
 
 // Takes a legal step.
 pub(crate) fn take(c: &Listing, x: &mut [u32; LANES], k: Step)
-    requires { FewEntries c.now.numbers x.old × Takes c.now.numbers x.old k
-        × (length x.old ≡ most_lanes) }
+    requires { FewEntries c.now.numbers x.old × Takes c.now.numbers x.old k }
     ensures { x.new ≡ step_lanes c.now.numbers x.old k }
 {
     if k.code == ISSUE {

@@ -1,5 +1,5 @@
 use Rattle.std.proofs.Common.{refl, ◌∙◌, arith, rules}
-use Rattle.search.proofs.walk.WalkHeldLaws.{held_few, held_long, held_takes, held_deep}
+use Rattle.search.proofs.walk.WalkHeldLaws.{held_few, held_takes, held_deep}
 use Rattle.search.proofs.walk.WalkHeldLaws.{held_room, held_next, held_below}
 use Rattle.search.proofs.recall.RecallTurnLaws.{recalls_listed, recalls_found, recalls_stopped}
 use Rattle.search.proofs.recall.RecallTurnLaws.{recalls_finished}
@@ -11,7 +11,7 @@ use Rattle.search.proofs.recall.+recall.Goals as goal
 pub meet-requires : goal.meet-requires
 meet-requires t c =
     let g = c.requires in
-    (held_few g.0, g.1, g.2, g.3, held_long g.0)
+    (held_few g.0, g.1, g.2, g.3)
 
 pub returns-in-Before : goal.returns-in-Before
 returns-in-Before t c =
@@ -51,7 +51,7 @@ take-requires t c =
     let l = c.loop-i in
     let on = recalls_listed l.invariant.3 (omega arith) _ c.step_at-k.ensures in
     let h = l.invariant.0 in
-    (held_few h, held_takes h _ on, held_long h)
+    (held_few h, held_takes h _ on)
 
 pub overflow_add-depth : goal.overflow_add-depth
 overflow_add-depth t c =

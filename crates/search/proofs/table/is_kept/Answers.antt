@@ -13,7 +13,7 @@ pub is_record-requires : goal.is_record-requires
 is_record-requires c =
     let g = c.requires in
     let l = c.loop-x.invariant in
-    (seek_within g.0 l (omega arith), seek_size g.0 l (omega arith), g.3, g.4)
+    (seek_within g.0 l (omega arith), seek_size g.0 l (omega arith), g.3)
 
 pub returns-then-is_record : goal.returns-then-is_record
 returns-then-is_record c =

@@ -31,7 +31,7 @@ bounds-x-at c =
 pub carry-requires : goal.carry-requires
 carry-requires c =
     let w = within (goal.at.carry-requires c).After-row_start-to in
-    (w.0, w.1, c.requires.6)
+    w
 
 pub discount-requires : goal.discount-requires
 discount-requires c =

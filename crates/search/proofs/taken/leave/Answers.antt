@@ -8,7 +8,7 @@ pub carry-requires : goal.carry-requires
 carry-requires c =
     let w = carried_within _ _ c.args.c.now.fits c.requires.0 _ _ c.requires.1 c.requires.4 _ _ c.requires.1 (omega arith)
     c.pool_end-end.ensures in
-    (w.0, w.1, c.requires.5)
+    w
 
 pub discount-requires : goal.discount-requires
 discount-requires c =

@@ -27,7 +27,7 @@ pub move_tagged-requires : goal.move_tagged-requires
 move_tagged-requires c =
     let p = c.requires in
     let e = entry (goal.at.move_tagged-requires c).After-row_start in
-    (p.0, p.1, omega arith, e.behind, e.before, p.3)
+    (p.0, p.1, omega arith, e.behind, e.before)
 
 pub returns : goal.returns
 unfolding move_lanes

@@ -32,7 +32,7 @@ pub leave-requires : goal.leave-requires
 leave-requires c =
     let p = c.requires in
     let e = entry (goal.at.leave-requires c).After-row_start-at in
-    rw c.queue_row-r.ensures (p.0, omega arith, p.2, omega arith, omega arith, p.3)
+    rw c.queue_row-r.ensures (p.0, omega arith, p.2, omega arith, omega arith)
 
 pub returns-then-tag-locations : goal.returns-then-tag-locations
 returns-then-tag-locations c =

@@ -18,7 +18,7 @@ pub move_entry-requires : goal.move_entry-requires
 move_entry-requires c =
     let p = c.requires in
     let w = takes_move _ _ _ p.1 c.if-k-eq-MOVE.true in
-    (p.0, w.0, w.1, p.2)
+    (p.0, w.0, w.1)
 
 pub returns-then-k-eq-MOVE : goal.returns-then-k-eq-MOVE
 unfolding step_lanes
@@ -28,7 +28,7 @@ pub persist-requires : goal.persist-requires
 persist-requires c =
     let p = c.requires in
     let w = takes_persist _ _ _ p.1 c.if-k-eq-ISSUE.false c.if-k-eq-MOVE.false in
-    (p.0, w.0, w.1, p.2)
+    (p.0, w.0, w.1)
 
 pub returns : goal.returns
 unfolding step_lanes

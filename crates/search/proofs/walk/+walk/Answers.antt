@@ -2,7 +2,7 @@ use Rattle.std.proofs.Common.{◌∙◌, arith, rules}
 use Rattle.search.proofs.walk.WalkLoopLaws.{left_used_up, left_here, walking_end}
 use Rattle.search.proofs.walk.WalkTurnLaws.{turn_listed, turn_length, turn_found, turn_stopped}
 use Rattle.search.proofs.walk.WalkTurnLaws.{turn_finished}
-use Rattle.search.proofs.walk.WalkHeldLaws.{walks_start, held_few, held_long, held_takes}
+use Rattle.search.proofs.walk.WalkHeldLaws.{walks_start, held_few, held_takes}
 use Rattle.search.proofs.walk.WalkHeldLaws.{held_deep, held_room, held_next, held_below}
 use Rattle.search.proofs.walk.+walk.Goals as goal
 
@@ -36,7 +36,7 @@ pub take-requires : goal.take-requires
 take-requires t c =
     let l = c.loop-i in
     let on = turn_listed l.invariant.1 (omega arith) _ c.step_at-k.ensures in
-    (held_few l.invariant.0, held_takes l.invariant.0 _ on, held_long l.invariant.0)
+    (held_few l.invariant.0, held_takes l.invariant.0 _ on)
 
 pub overflow_add-depth : goal.overflow_add-depth
 overflow_add-depth t c =
