@@ -24,11 +24,7 @@ fn insert(x: &mut [u32; LANES], at: usize, end: usize, tag: u32, word: u32)
     requires { (at ≤ end) × (end + 2 ≤ most_lanes) }
     ensures { x.new ≡ inserted x.old at end tag word }
 {
-    let mut i = end;
-    while at < i {
-        x[i + 1] = x[i - 1];
-        i -= 1;
-    }
+    x.copy_within(at..end, at + 2);
     x[at] = tag;
     x[at + 1] = word;
 }
@@ -38,11 +34,7 @@ fn carry(x: &mut [u32; LANES], at: usize, to: usize, tag: u32, word: u32)
     requires { (at + 2 ≤ to) × (to ≤ most_lanes) }
     ensures { x.new ≡ carried x.old at to tag word }
 {
-    let mut i = at + 2;
-    while i < to {
-        x[i - 2] = x[i];
-        i += 1;
-    }
+    x.copy_within(at + 2..to, at);
     x[to - 2] = tag;
     x[to - 1] = word;
 }

@@ -1,12 +1,9 @@
+-- `carry` meets its contract. Assumes nothing.
 use Rattle.std.proofs.Common.{arith}
-use Rattle.search.proofs.taken.InPlaceLaws.{carrying_start, carrying_next, carrying_end}
+use Rattle.search.proofs.taken.InPlaceLaws.{carried_made}
 use Rattle.search.proofs.taken.carry.Goals as goal
 
-pub loop-i-init : goal.loop-i-init
-loop-i-init c = carrying_start _ _ _ _ (omega arith) (omega arith) (omega arith)
-
-pub loop-i-preserved : goal.loop-i-preserved
-loop-i-preserved c = carrying_next c.loop-i.invariant (omega arith)
-
 pub returns : goal.returns
-returns c = carrying_end c.loop-i.invariant _ _ (omega arith)
+returns c =
+    let a = c.args in
+    rw c.copy_within.ensures.after (carried_made a.x.now a.at a.to a.tag a.word (omega arith) (omega arith))

@@ -1,12 +1,9 @@
+-- `insert` meets its contract. Assumes nothing.
 use Rattle.std.proofs.Common.{arith}
-use Rattle.search.proofs.taken.InPlaceLaws.{opening_start, opening_next, opening_end}
+use Rattle.search.proofs.taken.InPlaceLaws.{inserted_made}
 use Rattle.search.proofs.taken.insert.Goals as goal
 
-pub loop-i-init : goal.loop-i-init
-loop-i-init c = opening_start _ _ _ (omega arith)
-
-pub loop-i-preserved : goal.loop-i-preserved
-loop-i-preserved c = opening_next c.loop-i.invariant (omega arith)
-
 pub returns : goal.returns
-returns c = opening_end c.loop-i.invariant _ _ (omega arith)
+returns c =
+    let a = c.args in
+    rw c.copy_within.ensures.after (inserted_made a.x.now a.at a.end a.tag a.word (omega arith) (omega arith))
