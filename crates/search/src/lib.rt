@@ -6,6 +6,7 @@ pub mod ask;
 pub mod distinct;
 mod listing;
 mod next;
+mod operations;
 mod recall;
 mod rows;
 mod shown;

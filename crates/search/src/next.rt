@@ -13,10 +13,11 @@ ghost use Rattle.search.specs.Barred.{entry_barred, move_barred, persist_barred,
 ghost use Rattle.search.specs.Barred.{offered_moves, next_lanes, step_at};
 
 use crate::listing::Listing;
+use crate::operations::{COMPARE, EXCHANGE, MFENCE};
 use crate::sizes::{COUNTS, FLUSH_OPT_TAG, FLUSH_TAG, LANES, SFENCE_TAG};
 use crate::{listing, rows};
 use cases::case::{Line, Location, Step, Thread};
-use cases::operations::{COMPARE, EXCHANGE, ISSUE, MFENCE, MOVE, PERSIST};
+use cases::operations::{ISSUE, MOVE, PERSIST};
 use cases::sizes::INSTRUCTIONS;
 use machine::sizes::{CANDIDATES, RANKS};
 
@@ -28,6 +29,7 @@ pub struct Ranks {
 }
 
 // Does an entry keep a flush-opt of the line behind it?
+#[tactic(auto, using(cases::proofs::ChoiceLaws::choices), unfolding(crate::specs::Barred::bars_tag))]
 fn is_bar(c: &Listing, tag: u32, q: Line) -> bool
     ensures { result ≡ bars_tag c.now.numbers q.0 tag }
 {
@@ -57,19 +59,15 @@ fn is_barred(c: &Listing, x: &[u32; LANES], base: usize, n: usize, q: Line) -> b
 }
 
 // Exchange, compare and mfence.
+#[tactic(auto, using(cases::proofs::ChoiceLaws::choices), unfolding(machine::specs::Rules::is_barrier))]
 fn is_barrier(op: u32) -> bool
     ensures { result ≡ is_barrier op }
 {
-    if op == (EXCHANGE as u32) {
-        return true;
-    }
-    if op == (COMPARE as u32) {
-        return true;
-    }
-    op == (MFENCE as u32)
+    matches!(op, EXCHANGE | COMPARE | MFENCE)
 }
 
 // They wait for the own buffer and for the thread's markers.
+#[tactic(auto, using(cases::proofs::ChoiceLaws::choices), unfolding(crate::specs::Barred::operation_barred))]
 fn is_operation_barred(c: &Listing, x: &[u32; LANES], t: Thread, op: u32) -> bool
     requires { FewEntries c.now.numbers x.now × (t.0 < threads_in c.now.numbers) }
     ensures { result ≡ operation_barred c.now.numbers x.now t.0 op }
@@ -83,6 +81,7 @@ fn is_operation_barred(c: &Listing, x: &[u32; LANES], t: Thread, op: u32) -> boo
     false
 }
 
+#[tactic(auto, using(cases::proofs::ChoiceLaws::choices), unfolding(crate::specs::Barred::issue_barred))]
 fn is_issue_barred(c: &Listing, x: &[u32; LANES], t: Thread) -> bool
     requires { FewEntries c.now.numbers x.now × (t.0 < threads_in c.now.numbers) }
     ensures { result ≡ issue_barred c.now.numbers x.now t.0 }
@@ -95,6 +94,7 @@ fn is_issue_barred(c: &Listing, x: &[u32; LANES], t: Thread) -> bool
 }
 
 // Of an entry at the head of a thread's buffer.
+#[tactic(auto, using(cases::proofs::ChoiceLaws::choices), unfolding(crate::specs::Barred::head_barred))]
 fn is_head_barred(c: &Listing, x: &[u32; LANES], t: Thread, tag: u32) -> bool
     requires { FewEntries c.now.numbers x.now }
     ensures { result ≡ head_barred c.now.numbers x.now t.0 tag }
@@ -113,6 +113,7 @@ fn is_head_barred(c: &Listing, x: &[u32; LANES], t: Thread, tag: u32) -> bool
 }
 
 // Of an entry at position i behind it, the buffer's row starting at base.
+#[tactic(auto, using(cases::proofs::ChoiceLaws::choices), unfolding(crate::specs::Barred::pass_barred))]
 fn is_pass_barred(c: &Listing, x: &[u32; LANES], base: usize, i: usize, tag: u32) -> bool
     requires { base + 2 * i ≤ most_lanes }
     ensures { result ≡ pass_barred c.now.numbers x.now base i tag }
@@ -127,6 +128,7 @@ fn is_pass_barred(c: &Listing, x: &[u32; LANES], base: usize, i: usize, tag: u32
     true
 }
 
+#[tactic(auto, using(cases::proofs::ChoiceLaws::choices), unfolding(crate::specs::Barred::entry_barred))]
 fn is_entry_barred(c: &Listing, x: &[u32; LANES], t: Thread, base: usize, i: usize) -> bool
     requires { FewEntries c.now.numbers x.now × (base + 2 * i + 2 ≤ most_lanes) }
     ensures { result ≡ entry_barred c.now.numbers x.now t.0 base i }
@@ -271,6 +273,7 @@ pub(crate) fn next_steps(c: &Listing, x: &[u32; LANES]) -> Ranks
 }
 
 // The step of a rank.
+#[tactic(auto, using(cases::proofs::ChoiceLaws::choices), unfolding(crate::specs::Barred::step_at))]
 pub(crate) fn step_at(r: u8) -> Step
     ensures { result ≡ step_at r }
 {

@@ -10,13 +10,14 @@ ghost use Rattle.search.specs.Taken.{exchanged_lanes, compared_lanes, performed_
 ghost use Rattle.search.specs.Taken.{move_lanes, persist_lanes, step_lanes, CodeHere, Takes};
 
 use crate::listing::Listing;
+use crate::operations::{
+    COMPARE, EXCHANGE, FLUSH, FLUSH_OPT, LOAD, MFENCE, STORE_REGISTER, STORE_WORD,
+};
 use crate::rows::Row;
 use crate::sizes::{FLUSH_OPT_TAG, FLUSH_TAG, LANES, SFENCE_TAG};
 use crate::{listing, rows};
 use cases::case::{Line, Location, Register, Step, Thread};
-use cases::operations::{
-    COMPARE, EXCHANGE, FLUSH, FLUSH_OPT, ISSUE, LOAD, MFENCE, MOVE, STORE_REGISTER, STORE_WORD,
-};
+use cases::operations::{ISSUE, MOVE};
 use machine::sizes::MARKER;
 
 // An entry more before lane `at`: what stands from there to `end` goes two further.
@@ -92,35 +93,28 @@ fn carry_over(c: &Listing, x: &mut [u32; LANES], t: Thread, at: usize, q: Line, 
 }
 
 // The tag of the entry that an instruction puts into its thread's buffer, and its word.
+#[tactic(auto, using(cases::proofs::ChoiceLaws::choices), unfolding(crate::specs::Taken::entry_tag))]
 fn entry_tag(op: u32, l: Location) -> u32
     ensures { result ≡ entry_tag op l.0 }
 {
     let n = l.0 as u32;
-    if op == (STORE_WORD as u32) {
-        return n;
+    match op {
+        STORE_WORD | STORE_REGISTER => n,
+        FLUSH => FLUSH_TAG + n,
+        FLUSH_OPT => FLUSH_OPT_TAG + n,
+        _ => SFENCE_TAG,
     }
-    if op == (STORE_REGISTER as u32) {
-        return n;
-    }
-    if op == (FLUSH as u32) {
-        return FLUSH_TAG + n;
-    }
-    if op == (FLUSH_OPT as u32) {
-        return FLUSH_OPT_TAG + n;
-    }
-    SFENCE_TAG
 }
 
+#[tactic(auto, using(cases::proofs::ChoiceLaws::choices), unfolding(crate::specs::Taken::entry_word))]
 fn entry_word(op: u32, word: u32, register: u32) -> u32
     ensures { result ≡ entry_word op word register }
 {
-    if op == (STORE_WORD as u32) {
-        return word;
+    match op {
+        STORE_WORD => word,
+        STORE_REGISTER => register,
+        _ => 0,
     }
-    if op == (STORE_REGISTER as u32) {
-        return register;
-    }
-    0
 }
 
 // Stores, flushes, flush-opts and sfences join the end of the thread's buffer.
@@ -185,27 +179,18 @@ fn compare(c: &Listing, x: &mut [u32; LANES], t: Thread, at: usize)
 }
 
 // What an instruction does as it is issued.
+#[tactic(auto, using(cases::proofs::ChoiceLaws::choices), unfolding(crate::specs::Taken::performed_lanes))]
 fn perform(c: &Listing, x: &mut [u32; LANES], t: Thread, at: usize)
     requires { CodeHere c.now.numbers x.old t.0 at }
     ensures { x.new ≡ performed_lanes c.now.numbers x.old t.0 at }
 {
-    let op = c.numbers[at];
-    if op == (LOAD as u32) {
-        take_load(c, x, t, at);
-        return;
+    match c.numbers[at] {
+        LOAD => take_load(c, x, t, at),
+        EXCHANGE => exchange(c, x, t, at),
+        COMPARE => compare(c, x, t, at),
+        MFENCE => {}
+        _ => await_entry(c, x, t, at),
     }
-    if op == (EXCHANGE as u32) {
-        exchange(c, x, t, at);
-        return;
-    }
-    if op == (COMPARE as u32) {
-        compare(c, x, t, at);
-        return;
-    }
-    if op == (MFENCE as u32) {
-        return;
-    }
-    await_entry(c, x, t, at);
 }
 
 fn issue(c: &Listing, x: &mut [u32; LANES], t: Thread)
@@ -269,17 +254,14 @@ fn persist(c: &Listing, x: &mut [u32; LANES], q: Line)
 }
 
 // Takes a legal step.
+#[tactic(auto, using(cases::proofs::ChoiceLaws::choices), unfolding(crate::specs::Taken::step_lanes))]
 pub(crate) fn take(c: &Listing, x: &mut [u32; LANES], k: Step)
     requires { FewEntries c.now.numbers x.old × Takes c.now.numbers x.old k }
     ensures { x.new ≡ step_lanes c.now.numbers x.old k }
 {
-    if k.code == ISSUE {
-        issue(c, x, k.thread);
-        return;
+    match k.code {
+        ISSUE => issue(c, x, k.thread),
+        MOVE => move_entry(c, x, k.thread, k.position as usize),
+        _ => persist(c, x, Line(k.location.0)),
     }
-    if k.code == MOVE {
-        move_entry(c, x, k.thread, k.position as usize);
-        return;
-    }
-    persist(c, x, Line(k.location.0));
 }

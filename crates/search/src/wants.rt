@@ -11,6 +11,7 @@ use crate::sizes::LANES;
 use cases::case::{Ask, Location};
 
 // Does a location hold another word than is wanted there?
+#[tactic(auto, using(cases::proofs::ChoiceLaws::choices), unfolding(crate::specs::Question::misses))]
 fn misses(wanted: bool, want: u32, word: u32) -> bool
     ensures { result ≡ question.misses wanted want word }
 {
@@ -44,6 +45,7 @@ fn is_lacking(c: &Listing, a: &Ask, x: &[u32; LANES]) -> bool
 }
 
 // Does a crash in this state leave what is asked for, with what is asked for issued?
+#[tactic(auto, using(cases::proofs::ChoiceLaws::choices), unfolding(crate::specs::Taken::reaches_lanes))]
 pub(crate) fn is_reached(c: &Listing, a: &Ask, x: &[u32; LANES]) -> bool
     ensures { result
         ≡ reaches_lanes c.now.numbers a.now.wanted a.now.want a.now.passed

@@ -1,13 +1,7 @@
 -- `is_issue_barred` meets its contract. Assumes nothing.
 use Rattle.std.proofs.Common.{arith}
-use Rattle.cases.proofs.ChoiceLaws.{choices}
-use Rattle.search.specs.Barred.{issue_barred}
 use Rattle.search.proofs.rows.RowLoopLaws.{code_low}
 use Rattle.search.proofs.next.is_issue_barred.Goals as goal
-
-pub returns-then-c-t : goal.returns-then-c-t
-unfolding issue_barred
-returns-then-c-t c = search choices
 
 pub overflow_cast-i-2 : goal.overflow_cast-i-2
 overflow_cast-i-2 c =
@@ -33,7 +27,3 @@ bounds-c-code_at c =
     let w = code_low _ c.args.c.now.fits _ _ g.1 c.if-c-t.false in
     let e = c.code_at.ensures in
     omega arith
-
-pub returns : goal.returns
-unfolding issue_barred
-returns c = rw (← c.code_at.ensures) (search choices)
