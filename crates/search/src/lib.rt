@@ -4,6 +4,7 @@
 
 pub mod ask;
 pub mod distinct;
+mod kinds;
 mod listing;
 mod next;
 mod operations;

@@ -12,10 +12,11 @@ ghost use Rattle.search.specs.Barred.{bars_tag, bars_at, operation_barred, issue
 ghost use Rattle.search.specs.Barred.{entry_barred, move_barred, persist_barred, next_with, offered, offered_from};
 ghost use Rattle.search.specs.Barred.{offered_moves, next_lanes, step_at};
 
+use crate::kinds::Kind;
 use crate::listing::Listing;
 use crate::operations::{COMPARE, EXCHANGE, MFENCE};
-use crate::sizes::{COUNTS, FLUSH_OPT_TAG, FLUSH_TAG, LANES, SFENCE_TAG};
-use crate::{listing, rows};
+use crate::sizes::{COUNTS, LANES};
+use crate::{kinds, listing, rows};
 use cases::case::{Line, Location, Step, Thread};
 use cases::operations::{ISSUE, MOVE, PERSIST};
 use cases::sizes::INSTRUCTIONS;
@@ -33,16 +34,11 @@ pub struct Ranks {
 fn is_bar(c: &Listing, tag: u32, q: Line) -> bool
     ensures { result ≡ bars_tag c.now.numbers q.0 tag }
 {
-    if SFENCE_TAG <= tag {
-        return true;
+    match kinds::kind_of(tag) {
+        Kind::Sfence => true,
+        Kind::FlushOpt(_) => false,
+        Kind::Flush(l) | Kind::Store(l) => c.line_of(l).0 == q.0,
     }
-    if FLUSH_OPT_TAG <= tag {
-        return false;
-    }
-    if FLUSH_TAG <= tag {
-        return c.line_of(Location((tag - FLUSH_TAG) as u8)).0 == q.0;
-    }
-    c.line_of(Location(tag as u8)).0 == q.0
 }
 
 // Does one of the first n entries from base on?
@@ -99,17 +95,11 @@ fn is_head_barred(c: &Listing, x: &[u32; LANES], t: Thread, tag: u32) -> bool
     requires { FewEntries c.now.numbers x.now }
     ensures { result ≡ head_barred c.now.numbers x.now t.0 tag }
 {
-    if SFENCE_TAG <= tag {
-        return rows::is_marked(c, x, t);
+    match kinds::kind_of(tag) {
+        Kind::Sfence => rows::is_marked(c, x, t),
+        Kind::Flush(l) => rows::row_len(c, x, c.queue_row(c.line_of(l))) != 0,
+        Kind::FlushOpt(_) | Kind::Store(_) => false,
     }
-    if FLUSH_OPT_TAG <= tag {
-        return false;
-    }
-    if FLUSH_TAG <= tag {
-        let q = c.line_of(Location((tag - FLUSH_TAG) as u8));
-        return rows::row_len(c, x, c.queue_row(q)) != 0;
-    }
-    false
 }
 
 // Of an entry at position i behind it, the buffer's row starting at base.
@@ -118,14 +108,10 @@ fn is_pass_barred(c: &Listing, x: &[u32; LANES], base: usize, i: usize, tag: u32
     requires { base + 2 * i ≤ most_lanes }
     ensures { result ≡ pass_barred c.now.numbers x.now base i tag }
 {
-    if SFENCE_TAG <= tag {
-        return true;
+    match kinds::kind_of(tag) {
+        Kind::FlushOpt(l) => is_barred(c, x, base, i, c.line_of(l)),
+        Kind::Sfence | Kind::Flush(_) | Kind::Store(_) => true,
     }
-    if FLUSH_OPT_TAG <= tag {
-        let q = c.line_of(Location((tag - FLUSH_OPT_TAG) as u8));
-        return is_barred(c, x, base, i, q);
-    }
-    true
 }
 
 #[tactic(auto, using(cases::proofs::ChoiceLaws::choices), unfolding(crate::specs::Barred::entry_barred))]

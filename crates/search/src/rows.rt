@@ -1,5 +1,6 @@
 // Where each thing stands among a state's lanes, and what a look through them finds. No function here changes any.
 ghost use Rattle.std.specs.Prelude.{◌≡◌, ◌+◌, ◌*◌, ◌<◌, ◌≤◌};
+ghost use Rattle.machine.specs.View.{mark_of};
 ghost use Rattle.cases.specs.Sizes.{most_threads, most_instructions};
 ghost use Rattle.search.specs.Sizes.{most_lanes};
 ghost use Rattle.search.specs.Listing.{threads_in, locations_in, line_in, code_at};
@@ -89,12 +90,19 @@ pub(crate) fn loaded(c: &Listing, x: &[u32; LANES], t: Thread, l: Location) -> u
     newest(x, base, l.0 as u32, queued(c, x, l), n)
 }
 
+// A thread's markers in queues.
+pub(crate) fn mark_of(t: Thread) -> u32
+    ensures { result ≡ mark_of t.0 }
+{
+    (t.0 as u32) + (MARKER as u32)
+}
+
 // Does some queue hold a marker of the thread?
 pub(crate) fn is_marked(c: &Listing, x: &[u32; LANES], t: Thread) -> bool
     requires { FewEntries c.now.numbers x.now }
     ensures { result ≡ marked_lanes c.now.numbers x.now t.0 }
 {
-    let mark = (t.0 as u32) + (MARKER as u32);
+    let mark = mark_of(t);
     let threads = c.threads() as usize;
     let end = threads + (c.lines() as usize);
     let mut at = row_start(c, x, Row(threads));

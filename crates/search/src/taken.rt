@@ -9,16 +9,16 @@ ghost use Rattle.search.specs.Taken.{entry_tag, entry_word, awaited_lanes, took_
 ghost use Rattle.search.specs.Taken.{exchanged_lanes, compared_lanes, performed_lanes, issue_lanes, moved_lanes};
 ghost use Rattle.search.specs.Taken.{move_lanes, persist_lanes, step_lanes, CodeHere, Takes};
 
+use crate::kinds::Kind;
 use crate::listing::Listing;
 use crate::operations::{
     COMPARE, EXCHANGE, FLUSH, FLUSH_OPT, LOAD, MFENCE, STORE_REGISTER, STORE_WORD,
 };
 use crate::rows::Row;
 use crate::sizes::{FLUSH_OPT_TAG, FLUSH_TAG, LANES, SFENCE_TAG};
-use crate::{listing, rows};
+use crate::{kinds, listing, rows};
 use cases::case::{Line, Location, Register, Step, Thread};
 use cases::operations::{ISSUE, MOVE};
-use machine::sizes::MARKER;
 
 // An entry more before lane `at`: what stands from there to `end` goes two further.
 fn insert(x: &mut [u32; LANES], at: usize, end: usize, tag: u32, word: u32)
@@ -204,27 +204,18 @@ fn issue(c: &Listing, x: &mut [u32; LANES], t: Thread)
 }
 
 // By the tag of the entry at a lane of a thread's buffer.
+#[tactic(auto, using(cases::proofs::ChoiceLaws::choices), unfolding(crate::specs::Taken::moved_lanes))]
 fn move_tagged(c: &Listing, x: &mut [u32; LANES], t: Thread, at: usize, tag: u32)
     requires { FewEntries c.now.numbers x.old × (t.0 < threads_in c.now.numbers)
         × (0 < row_len c.now.numbers x.old t.0) × (pool_at c.now.numbers ≤ at)
         × (at + 2 ≤ row_start c.now.numbers x.old (t.0 + 1)) }
     ensures { x.new ≡ moved_lanes c.now.numbers x.old t.0 at tag }
 {
-    if SFENCE_TAG <= tag {
-        leave(c, x, rows::buffer_row(t), at);
-        return;
+    match kinds::kind_of(tag) {
+        Kind::Sfence | Kind::Flush(_) => leave(c, x, rows::buffer_row(t), at),
+        Kind::FlushOpt(l) => carry_over(c, x, t, at, c.line_of(l), rows::mark_of(t)),
+        Kind::Store(l) => carry_over(c, x, t, at, c.line_of(l), tag),
     }
-    if FLUSH_OPT_TAG <= tag {
-        let q = c.line_of(Location((tag - FLUSH_OPT_TAG) as u8));
-        carry_over(c, x, t, at, q, (t.0 as u32) + (MARKER as u32));
-        return;
-    }
-    if FLUSH_TAG <= tag {
-        leave(c, x, rows::buffer_row(t), at);
-        return;
-    }
-    let q = c.line_of(Location(tag as u8));
-    carry_over(c, x, t, at, q, tag);
 }
 
 fn move_entry(c: &Listing, x: &mut [u32; LANES], t: Thread, i: usize)

@@ -1,4 +1,4 @@
-use Rattle.std.proofs.Common.{refl, arith}
+use Rattle.std.proofs.Common.{arith}
 use Rattle.search.proofs.rows.MarkedLoopLaws.{marked_rows_start}
 use Rattle.search.proofs.rows.MarkedLoopLaws.{marked_rows_next, marked_entries_start}
 use Rattle.search.proofs.rows.MarkedLoopLaws.{marked_entries_next, marked_within, marked_here}
@@ -37,7 +37,7 @@ pub queues-preserved : goal.queues-preserved
 queues-preserved c = marked_rows_next c.entries.invariant (omega arith)
 
 pub returns-after-queues : goal.returns-after-queues
-returns-after-queues c = marked_end c.queues.invariant (omega arith) _ refl
+returns-after-queues c = marked_end c.queues.invariant (omega arith) _ c.mark_of-mark.ensures
 
 pub returns-then-x-at : goal.returns-then-x-at
-returns-then-x-at c = marked_here c.entries.invariant (omega arith) c.if-x-at.true _ refl
+returns-then-x-at c = marked_here c.entries.invariant (omega arith) c.if-x-at.true _ c.mark_of-mark.ensures
