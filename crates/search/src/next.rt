@@ -7,7 +7,7 @@ ghost use Rattle.machine.specs.Rules.{is_barrier};
 ghost use Rattle.machine.specs.Next.{issue_step, move_step, persist_step, rank_of};
 ghost use Rattle.search.specs.Sizes.{most_lanes};
 ghost use Rattle.search.specs.Listing.{threads_in, lines_in};
-ghost use Rattle.search.specs.Rows.{row_len, FewEntries};
+ghost use Rattle.search.specs.Rows.{row_len, row_start, FewEntries};
 ghost use Rattle.search.specs.Barred.{bars_tag, bars_at, operation_barred, issue_barred, head_barred, pass_barred};
 ghost use Rattle.search.specs.Barred.{entry_barred, move_barred, persist_barred, next_with, offered, offered_from};
 ghost use Rattle.search.specs.Barred.{offered_moves, next_lanes, step_at};
@@ -170,24 +170,24 @@ fn offer_issues(c: &Listing, x: &[u32; LANES], ranks: &mut [u8; CANDIDATES], cou
     n
 }
 
-// The moves of one thread.
+// The moves of one thread, whose buffer's row starts at base.
 fn offer_moves_of(
     c: &Listing,
     x: &[u32; LANES],
     t: Thread,
+    base: usize,
     ranks: &mut [u8; CANDIDATES],
     count: u8,
 ) -> u8
     requires { FewEntries c.now.numbers x.now × (t.0 < threads_in c.now.numbers)
+        × (base ≡ row_start c.now.numbers x.now t.0)
         × (count + row_len c.now.numbers x.now t.0 ≤ most_candidates) }
     ensures { (next_with result ranks.new
         ≡ offered_from (move_barred c.now.numbers x.now t.0) (move_step t.0) 0
         (row_len c.now.numbers x.now t.0) (next_with count ranks.old))
         × (result ≤ count + row_len c.now.numbers x.now t.0) }
 {
-    let r = rows::buffer_row(t);
-    let base = rows::row_start(c, x, r);
-    let many = rows::row_len(c, x, r) as u8;
+    let many = rows::row_len(c, x, rows::buffer_row(t)) as u8;
     let mut n = count;
     for i in 0..many {
         let barred = is_entry_barred(c, x, t, base, i as usize);
@@ -215,8 +215,10 @@ fn offer_moves(c: &Listing, x: &[u32; LANES], ranks: &mut [u8; CANDIDATES], coun
         × (result ≤ count + sum_to (threads_in c.now.numbers) (row_len c.now.numbers x.now)) }
 {
     let mut n = count;
+    let mut base = c.pool_at();
     for t in 0..c.threads() {
-        n = offer_moves_of(c, x, Thread(t), ranks, n);
+        n = offer_moves_of(c, x, Thread(t), base, ranks, n);
+        base += 2 * rows::row_len(c, x, rows::buffer_row(Thread(t)));
     }
     n
 }

@@ -1,26 +1,23 @@
 use Rattle.std.proofs.Common.{arith}
 use Rattle.machine.specs.Next.{rank_of}
 use Rattle.search.proofs.rows.RowLoopLaws.{row_room}
-use Rattle.search.proofs.next.RanksLoopLaws.{offered_start, offered_low, offered_next}
-use Rattle.search.proofs.next.RanksLoopLaws.{offered_end, move_made}
+use Rattle.search.proofs.next.RanksLoopLaws.{offered_start, offered_low, offered_next, offered_end, move_made}
 use Rattle.search.proofs.next.offer_moves_of.Goals as goal
 
 pub overflow_cast-many : goal.overflow_cast-many
 overflow_cast-many c =
-    let n = rw c.buffer_row-r.ensures at c.row_len-many.ensures in
-    let w = c.requires.2 in
+    let n = rw c.buffer_row.ensures at c.row_len-many.ensures in
+    let w = c.requires.3 in
     omega arith
 
 pub loop-i-init : goal.loop-i-init
-loop-i-init c =
-    let r = c.buffer_row-r.ensures in
-    (rw r at c.row_start-base.ensures, rw r at c.row_len-many.ensures, offered_start _ _ _ _)
+loop-i-init c = (rw c.buffer_row.ensures at c.row_len-many.ensures, offered_start _ _ _ _)
 
 pub is_entry_barred-barred-requires : goal.is_entry_barred-barred-requires
 is_entry_barred-barred-requires c =
-    let i = c.loop-i.invariant in
-    let w = row_room _ _ c.args.c.now.fits c.requires.0 c.args.t.0 (omega arith) _ _ i.0 i.1 in
-    (c.requires.0, omega arith)
+    let g = c.requires in
+    let w = row_room _ _ c.args.c.now.fits g.0 c.args.t.0 (omega arith) _ _ g.2 c.loop-i.invariant.0 in
+    (g.0, omega arith)
 
 pub offer-n-requires : goal.offer-n-requires
 unfolding rank_of
@@ -28,22 +25,22 @@ offer-n-requires c =
     let i = c.loop-i.invariant in
     let g = c.requires in
     let w = c.args.c.now.fits.few_threads in
-    let m = i.1 in
-    (offered_low i.2 (omega arith) (omega arith), omega arith)
+    let m = i.0 in
+    (offered_low i.1 (omega arith) (omega arith), omega arith)
 
 pub overflow_cast-i : goal.overflow_cast-i
 overflow_cast-i c =
-    let m = c.loop-i.invariant.1 in
-    let w = c.requires.2 in
+    let m = c.loop-i.invariant.0 in
+    let w = c.requires.3 in
     omega arith
 
 pub loop-i-preserved : goal.loop-i-preserved
 loop-i-preserved c =
     let i = c.loop-i.invariant in
-    let m = move_made _ _ _ _ _ _ i.0 c.is_entry_barred-barred.ensures in
-    (i.0, i.1, offered_next i.2 (omega arith) _ _ c.offer-n.ensures m)
+    let m = move_made _ _ _ _ _ _ c.requires.2 c.is_entry_barred-barred.ensures in
+    (i.0, offered_next i.1 (omega arith) _ _ c.offer-n.ensures m)
 
 pub returns : goal.returns
 returns c =
     let i = c.loop-i.invariant in
-    rw (← i.1) (offered_end i.2 (omega arith))
+    rw (← i.0) (offered_end i.1 (omega arith))
