@@ -1,7 +1,6 @@
 // The walk that remembers: as the walk, but that each state is looked up in the lent memory, kept there at its first
 // meeting, and never gone below twice.
 ghost use Rattle.std.specs.Prelude.{◌≡◌, ◌-◌, ◌<◌, ◌≤◌, length};
-ghost use Rattle.search.specs.Sizes.{most_lanes};
 ghost use Rattle.search.specs.Seek.{walked_of, stored_of};
 ghost use Rattle.search.specs.Rows.{FewEntries};
 ghost use Rattle.search.specs.Held.{Held};

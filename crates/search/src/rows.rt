@@ -1,16 +1,14 @@
 // Where each thing stands among a state's lanes, and what a look through them finds. No function here changes any.
-ghost use Rattle.std.specs.Prelude.{◌≡◌, ◌+◌, ◌*◌, ◌<◌, ◌≤◌};
+ghost use Rattle.std.specs.Prelude.{◌≡◌, ◌+◌, ◌*◌, ◌<◌, ◌≤◌, false};
 ghost use Rattle.machine.specs.View.{mark_of};
-ghost use Rattle.cases.specs.Sizes.{most_threads, most_instructions};
 ghost use Rattle.search.specs.Sizes.{most_lanes};
-ghost use Rattle.search.specs.Listing.{threads_in, locations_in, line_in, code_at};
-ghost use Rattle.search.specs.Rows.{rows_in, queue_row, row_len_at, word_at, register_at, row_len, row_start};
-ghost use Rattle.search.specs.Rows.{pool_end, FewEntries, newest_lane, queued_lane, loaded_lane, marked_lanes};
+ghost use Rattle.search.specs.Listing.{threads_in, locations_in};
+ghost use Rattle.search.specs.Rows.{rows_in, row_len, row_start};
+ghost use Rattle.search.specs.Rows.{pool_end, FewEntries, newest_lane, queued_lane, loaded_lane, marked_among, marked_lanes};
 
 use crate::listing::Listing;
 use crate::sizes::LANES;
-use cases::case::{Line, Location, Register, Thread};
-use cases::sizes::{INSTRUCTIONS, LOCATIONS, REGISTERS};
+use cases::case::{Line, Location, Thread};
 use machine::sizes::MARKER;
 
 // A row of entries: of a thread's buffer, or, behind all of these, of a line's queue.
@@ -97,29 +95,32 @@ pub(crate) fn mark_of(t: Thread) -> u32
     (t.0 as u32) + (MARKER as u32)
 }
 
+// Does one of n entries from base on have that tag?
+fn has_mark(x: &[u32; LANES], base: usize, n: usize, mark: u32) -> bool
+    requires { base + 2 * n ≤ most_lanes }
+    ensures { result ≡ marked_among x.now mark base n false }
+{
+    for i in 0..n {
+        if x[base + 2 * i] == mark {
+            return true;
+        }
+    }
+    false
+}
+
 // Does some queue hold a marker of the thread?
 pub(crate) fn is_marked(c: &Listing, x: &[u32; LANES], t: Thread) -> bool
     requires { FewEntries c.now.numbers x.now }
     ensures { result ≡ marked_lanes c.now.numbers x.now t.0 }
 {
     let mark = mark_of(t);
-    let threads = c.threads() as usize;
-    let end = threads + (c.lines() as usize);
-    let mut at = row_start(c, x, Row(threads));
-    let mut found = false;
-    let mut r = threads;
-    'queues: while r < end {
-        let n = row_len(c, x, Row(r));
-        let mut i: usize = 0;
-        'entries: while i < n {
-            if x[at] == mark {
-                found = true;
-                break 'queues;
-            }
-            at += 2;
-            i += 1;
+    let mut base = row_start(c, x, c.queue_row(Line(0)));
+    for q in 0..c.lines() {
+        let n = row_len(c, x, c.queue_row(Line(q)));
+        if has_mark(x, base, n, mark) {
+            return true;
         }
-        r += 1;
+        base += 2 * n;
     }
-    found
+    false
 }

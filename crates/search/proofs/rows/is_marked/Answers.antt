@@ -1,43 +1,39 @@
-use Rattle.std.proofs.Common.{arith}
-use Rattle.search.proofs.rows.MarkedLoopLaws.{marked_rows_start}
-use Rattle.search.proofs.rows.MarkedLoopLaws.{marked_rows_next, marked_entries_start}
-use Rattle.search.proofs.rows.MarkedLoopLaws.{marked_entries_next, marked_within, marked_here}
-use Rattle.search.proofs.rows.MarkedLoopLaws.{marked_end}
+use Rattle.std.proofs.Common.{◌+◌, ◌*◌, ◌≤◌, arith}
+use Rattle.search.specs.Sizes.{most_lanes}
+use Rattle.search.specs.Rows.{queue_row}
+use Rattle.search.proofs.rows.RowLoopLaws.{row_room}
+use Rattle.search.proofs.rows.MarkedLoopLaws.{marked_start, marked_next, marked_here, marked_end}
 use Rattle.search.proofs.rows.is_marked.Goals as goal
+use Rattle.search.proofs.rows.is_marked.Goals.{After-row_len-n}
 
-pub queues-init : goal.queues-init
-queues-init c =
-    rw c.threads-threads.ensures (marked_rows_start _ _ _ _ (rw c.threads-threads.ensures at c.row_start-at.ensures))
+pub loop-q-init : goal.loop-q-init
+loop-q-init c = marked_start _ _ _ _ _ c.queue_row.ensures c.row_start-base.ensures
 
-pub entries-init : goal.entries-init
-entries-init c = marked_entries_start c.queues.invariant (omega arith) _ c.row_len-n.ensures
+-- a queue's entries stand within the lanes
+within : (c : After-row_len-n) → c.loop-q.base + 2 * c.row_len-n.result ≤ most_lanes
+within c =
+    let r = rw c.queue_row-in-loop-q.ensures at c.row_len-n.ensures in
+    row_room _ _ c.args.c.now.fits c.requires (queue_row c.args.c.now.numbers c.loop-q.q) (omega arith) _ _
+    c.loop-q.invariant.start r
 
-pub offset_bounds-x-at : goal.offset_bounds-x-at
-offset_bounds-x-at c =
-    let g = c.requires in
-    let w = marked_within c.entries.invariant (omega arith) c.args.c.now.fits g in
-    omega arith
+pub has_mark-requires : goal.has_mark-requires
+has_mark-requires c = within (goal.at.has_mark-requires c).After-row_len-n
 
-pub bounds-x-at : goal.bounds-x-at
-bounds-x-at c =
-    let g = c.requires in
-    let w = marked_within c.entries.invariant (omega arith) c.args.c.now.fits g in
-    omega arith
+pub overflow_mul-base : goal.overflow_mul-base
+overflow_mul-base c = let w = within (goal.at.overflow_mul-base c).After-row_len-n in omega arith
 
-pub overflow_add-at : goal.overflow_add-at
-overflow_add-at c =
-    let g = c.requires in
-    let w = marked_within c.entries.invariant (omega arith) c.args.c.now.fits g in
-    omega arith
+pub overflow_add-base : goal.overflow_add-base
+overflow_add-base c = let w = within (goal.at.overflow_add-base c).After-row_len-n in omega arith
 
-pub entries-preserved : goal.entries-preserved
-entries-preserved c = marked_entries_next c.entries.invariant (omega arith) c.if-x-at.false
+pub returns-then-has_mark : goal.returns-then-has_mark
+returns-then-has_mark c =
+    marked_here c.loop-q.invariant (omega arith) _ _ c.queue_row-in-loop-q.ensures c.row_len-n.ensures _ c.has_mark.ensures
+    c.if-has_mark.true _ c.mark_of-mark.ensures
 
-pub queues-preserved : goal.queues-preserved
-queues-preserved c = marked_rows_next c.entries.invariant (omega arith)
+pub loop-q-preserved : goal.loop-q-preserved
+loop-q-preserved c =
+    marked_next c.loop-q.invariant (omega arith) _ _ c.queue_row-in-loop-q.ensures c.row_len-n.ensures _ c.has_mark.ensures
+    c.if-has_mark.false
 
-pub returns-after-queues : goal.returns-after-queues
-returns-after-queues c = marked_end c.queues.invariant (omega arith) _ c.mark_of-mark.ensures
-
-pub returns-then-x-at : goal.returns-then-x-at
-returns-then-x-at c = marked_here c.entries.invariant (omega arith) c.if-x-at.true _ c.mark_of-mark.ensures
+pub returns : goal.returns
+returns c = marked_end c.loop-q.invariant (omega arith) _ c.mark_of-mark.ensures
