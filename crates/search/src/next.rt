@@ -224,7 +224,7 @@ fn offer_moves(c: &Listing, x: &[u32; LANES], ranks: &mut [u8; CANDIDATES], coun
 }
 
 fn offer_persists(c: &Listing, x: &[u32; LANES], ranks: &mut [u8; CANDIDATES], count: u8) -> u8
-    requires { (count + lines_in c.now.numbers ≤ most_candidates) }
+    requires { count + lines_in c.now.numbers ≤ most_candidates }
     ensures { next_with result ranks.new ≡ offered_from (persist_barred c.now.numbers x.now)
         persist_step 0 (lines_in c.now.numbers) (next_with count ranks.old) }
 {

@@ -23,7 +23,7 @@ pub(crate) fn buffer_row(t: Thread) -> Row
 
 // How many entries a row has.
 pub(crate) fn row_len(c: &Listing, x: &[u32; LANES], r: Row) -> usize
-    requires { (r.0 < rows_in c.now.numbers) }
+    requires { r.0 < rows_in c.now.numbers }
     ensures { result ≡ row_len c.now.numbers x.now r.0 }
 {
     x[c.row_len_at(r)] as usize

@@ -28,13 +28,19 @@ get_or_sets_within (v ∷ vs) m at (suc i) h k =
     ap (λ y. get_or (sets (set m at v) (suc at) vs) y 0) e
     ∙ get_or_sets_within vs (set m at v) (suc at) i (omega arith) (omega arith)
 
+-- a part written over: the values put there
+pub written_over : (m ys : List ℕ) (at many : ℕ) → at + length ys ≤ length m → many ≡ length ys
+    → put_mid at many m ys ≡ sets m at ys
+written_over m ys at many h e =
+    rw (e, drop-drop (length ys) at m)
+    (sym (sets-eq ys m at h ∙ append_assoc (take at m) ys (drop (at + length ys) m)))
+
 -- the first n lanes of a key, copied over as many words
 pub copied : (m key ys : List ℕ) (at n many : ℕ) → at + n ≤ length m → n ≤ length key → many ≡ n → ys ≡ take n key
     → put_mid at many m ys ≡ sets m at (take n key)
 copied m key ys at n many h l e f =
     let long : length (take n key) ≡ n = length-take-le n key l in
-    rw (e, f, drop-drop n at m)
-    (sym (sets-eq (take n key) m at (rw long h) ∙ rw long (append_assoc (take at m) (take n key) (drop (at + n) m))))
+    rw f (written_over m (take n key) at many (rw long h) (e ∙ sym long))
 
 -- `last` is m with record `count` written behind the others, and the head of bucket b set to it
 pub record Written (m last : List ℕ) (limit count b : ℕ) (key : List ℕ) : Type 0 where
