@@ -15,6 +15,7 @@ ghost use Rattle.search.specs.Barred.{offered_moves, next_lanes, step_at};
 use crate::kinds::Kind;
 use crate::listing::Listing;
 use crate::operations::{COMPARE, EXCHANGE, MFENCE};
+use crate::rows::View;
 use crate::sizes::{COUNTS, LANES};
 use crate::{kinds, listing, rows};
 use cases::case::{Line, Location, Step, Thread};
@@ -42,12 +43,12 @@ fn is_bar(c: &Listing, tag: u32, q: Line) -> bool
 }
 
 // Does one of the first n entries from base on?
-fn is_barred(c: &Listing, x: &[u32; LANES], base: usize, n: usize, q: Line) -> bool
+fn is_barred(v: &View, base: usize, n: usize, q: Line) -> bool
     requires { base + 2 * n ≤ most_lanes }
-    ensures { result ≡ any_from 0 n (bars_at c.now.numbers q.0 x.now base) }
+    ensures { result ≡ any_from 0 n (bars_at v.now.listing.now.numbers q.0 v.now.lanes.now base) }
 {
     for i in 0..n {
-        if is_bar(c, x[base + 2 * i], q) {
+        if is_bar(v.listing, v.lanes[base + 2 * i], q) {
             return true;
         }
     }
@@ -64,66 +65,65 @@ fn is_barrier(op: u32) -> bool
 
 // They wait for the own buffer and for the thread's markers.
 #[tactic(auto, using(cases::proofs::ChoiceLaws::choices), unfolding(crate::specs::Barred::operation_barred))]
-fn is_operation_barred(c: &Listing, x: &[u32; LANES], t: Thread, op: u32) -> bool
-    requires { FewEntries c.now.numbers x.now × (t.0 < threads_in c.now.numbers) }
-    ensures { result ≡ operation_barred c.now.numbers x.now t.0 op }
+fn is_operation_barred(v: &View, t: Thread, op: u32) -> bool
+    requires { t.0 < threads_in v.now.listing.now.numbers }
+    ensures { result ≡ operation_barred v.now.listing.now.numbers v.now.lanes.now t.0 op }
 {
     if is_barrier(op) {
-        if rows::row_len(c, x, rows::buffer_row(t)) != 0 {
+        if v.row_len(rows::buffer_row(t)) != 0 {
             return true;
         }
-        return rows::is_marked(c, x, t);
+        return v.is_marked(t);
     }
     false
 }
 
 #[tactic(auto, using(cases::proofs::ChoiceLaws::choices), unfolding(crate::specs::Barred::issue_barred))]
-fn is_issue_barred(c: &Listing, x: &[u32; LANES], t: Thread) -> bool
-    requires { FewEntries c.now.numbers x.now × (t.0 < threads_in c.now.numbers) }
-    ensures { result ≡ issue_barred c.now.numbers x.now t.0 }
+fn is_issue_barred(v: &View, t: Thread) -> bool
+    requires { t.0 < threads_in v.now.listing.now.numbers }
+    ensures { result ≡ issue_barred v.now.listing.now.numbers v.now.lanes.now t.0 }
 {
-    let i = x[t.0 as usize];
-    if c.numbers[COUNTS + (t.0 as usize)] <= i {
+    let i = v.lanes[t.0 as usize];
+    if v.listing.numbers[COUNTS + (t.0 as usize)] <= i {
         return true;
     }
-    is_operation_barred(c, x, t, c.numbers[listing::code_at(t, i as usize)])
+    is_operation_barred(v, t, v.listing.numbers[listing::code_at(t, i as usize)])
 }
 
 // Of an entry at the head of a thread's buffer.
 #[tactic(auto, using(cases::proofs::ChoiceLaws::choices), unfolding(crate::specs::Barred::head_barred))]
-fn is_head_barred(c: &Listing, x: &[u32; LANES], t: Thread, tag: u32) -> bool
-    requires { FewEntries c.now.numbers x.now }
-    ensures { result ≡ head_barred c.now.numbers x.now t.0 tag }
+fn is_head_barred(v: &View, t: Thread, tag: u32) -> bool
+    ensures { result ≡ head_barred v.now.listing.now.numbers v.now.lanes.now t.0 tag }
 {
     match kinds::kind_of(tag) {
-        Kind::Sfence => rows::is_marked(c, x, t),
-        Kind::Flush(l) => rows::row_len(c, x, c.queue_row(c.line_of(l))) != 0,
+        Kind::Sfence => v.is_marked(t),
+        Kind::Flush(l) => v.row_len(v.listing.queue_row(v.listing.line_of(l))) != 0,
         Kind::FlushOpt(_) | Kind::Store(_) => false,
     }
 }
 
 // Of an entry at position i behind it, the buffer's row starting at base.
 #[tactic(auto, using(cases::proofs::ChoiceLaws::choices), unfolding(crate::specs::Barred::pass_barred))]
-fn is_pass_barred(c: &Listing, x: &[u32; LANES], base: usize, i: usize, tag: u32) -> bool
+fn is_pass_barred(v: &View, base: usize, i: usize, tag: u32) -> bool
     requires { base + 2 * i ≤ most_lanes }
-    ensures { result ≡ pass_barred c.now.numbers x.now base i tag }
+    ensures { result ≡ pass_barred v.now.listing.now.numbers v.now.lanes.now base i tag }
 {
     match kinds::kind_of(tag) {
-        Kind::FlushOpt(l) => is_barred(c, x, base, i, c.line_of(l)),
+        Kind::FlushOpt(l) => is_barred(v, base, i, v.listing.line_of(l)),
         Kind::Sfence | Kind::Flush(_) | Kind::Store(_) => true,
     }
 }
 
 #[tactic(auto, using(cases::proofs::ChoiceLaws::choices), unfolding(crate::specs::Barred::entry_barred))]
-fn is_entry_barred(c: &Listing, x: &[u32; LANES], t: Thread, base: usize, i: usize) -> bool
-    requires { FewEntries c.now.numbers x.now × (base + 2 * i + 2 ≤ most_lanes) }
-    ensures { result ≡ entry_barred c.now.numbers x.now t.0 base i }
+fn is_entry_barred(v: &View, t: Thread, base: usize, i: usize) -> bool
+    requires { base + 2 * i + 2 ≤ most_lanes }
+    ensures { result ≡ entry_barred v.now.listing.now.numbers v.now.lanes.now t.0 base i }
 {
-    let tag = x[base + 2 * i];
+    let tag = v.lanes[base + 2 * i];
     if i == 0 {
-        return is_head_barred(c, x, t, tag);
+        return is_head_barred(v, t, tag);
     }
-    is_pass_barred(c, x, base, i, tag)
+    is_pass_barred(v, base, i, tag)
 }
 
 // A step's rank in the order.
@@ -146,15 +146,15 @@ fn offer(ranks: &mut [u8; CANDIDATES], count: u8, barred: bool, k: Step) -> u8
     count + 1
 }
 
-fn offer_issues(c: &Listing, x: &[u32; LANES], ranks: &mut [u8; CANDIDATES], count: u8) -> u8
-    requires { FewEntries c.now.numbers x.now × (count + threads_in c.now.numbers ≤ most_candidates) }
-    ensures { (next_with result ranks.new ≡ offered_from (issue_barred c.now.numbers x.now)
-        issue_step 0 (threads_in c.now.numbers) (next_with count ranks.old))
-        × (result ≤ count + threads_in c.now.numbers) }
+fn offer_issues(v: &View, ranks: &mut [u8; CANDIDATES], count: u8) -> u8
+    requires { count + threads_in v.now.listing.now.numbers ≤ most_candidates }
+    ensures { (next_with result ranks.new ≡ offered_from (issue_barred v.now.listing.now.numbers v.now.lanes.now)
+        issue_step 0 (threads_in v.now.listing.now.numbers) (next_with count ranks.old))
+        × (result ≤ count + threads_in v.now.listing.now.numbers) }
 {
     let mut n = count;
-    for t in 0..c.threads() {
-        let barred = is_issue_barred(c, x, Thread(t));
+    for t in 0..v.listing.threads() {
+        let barred = is_issue_barred(v, Thread(t));
         n = offer(
             ranks,
             n,
@@ -171,26 +171,19 @@ fn offer_issues(c: &Listing, x: &[u32; LANES], ranks: &mut [u8; CANDIDATES], cou
 }
 
 // The moves of one thread, whose buffer's row starts at base.
-fn offer_moves_of(
-    c: &Listing,
-    x: &[u32; LANES],
-    t: Thread,
-    base: usize,
-    ranks: &mut [u8; CANDIDATES],
-    count: u8,
-) -> u8
-    requires { FewEntries c.now.numbers x.now × (t.0 < threads_in c.now.numbers)
-        × (base ≡ row_start c.now.numbers x.now t.0)
-        × (count + row_len c.now.numbers x.now t.0 ≤ most_candidates) }
+fn offer_moves_of(v: &View, t: Thread, base: usize, ranks: &mut [u8; CANDIDATES], count: u8) -> u8
+    requires { (t.0 < threads_in v.now.listing.now.numbers)
+        × (base ≡ row_start v.now.listing.now.numbers v.now.lanes.now t.0)
+        × (count + row_len v.now.listing.now.numbers v.now.lanes.now t.0 ≤ most_candidates) }
     ensures { (next_with result ranks.new
-        ≡ offered_from (move_barred c.now.numbers x.now t.0) (move_step t.0) 0
-        (row_len c.now.numbers x.now t.0) (next_with count ranks.old))
-        × (result ≤ count + row_len c.now.numbers x.now t.0) }
+        ≡ offered_from (move_barred v.now.listing.now.numbers v.now.lanes.now t.0) (move_step t.0) 0
+        (row_len v.now.listing.now.numbers v.now.lanes.now t.0) (next_with count ranks.old))
+        × (result ≤ count + row_len v.now.listing.now.numbers v.now.lanes.now t.0) }
 {
-    let many = rows::row_len(c, x, rows::buffer_row(t)) as u8;
+    let many = v.row_len(rows::buffer_row(t)) as u8;
     let mut n = count;
     for i in 0..many {
-        let barred = is_entry_barred(c, x, t, base, i as usize);
+        let barred = is_entry_barred(v, t, base, i as usize);
         n = offer(
             ranks,
             n,
@@ -206,31 +199,30 @@ fn offer_moves_of(
     n
 }
 
-fn offer_moves(c: &Listing, x: &[u32; LANES], ranks: &mut [u8; CANDIDATES], count: u8) -> u8
-    requires { FewEntries c.now.numbers x.now
-        × (count + sum_to (threads_in c.now.numbers) (row_len c.now.numbers x.now) ≤ most_candidates) }
+fn offer_moves(v: &View, ranks: &mut [u8; CANDIDATES], count: u8) -> u8
+    requires { count + sum_to (threads_in v.now.listing.now.numbers) (row_len v.now.listing.now.numbers v.now.lanes.now) ≤ most_candidates }
     ensures { (next_with result ranks.new
-        ≡ offered_moves c.now.numbers x.now 0 (threads_in c.now.numbers)
+        ≡ offered_moves v.now.listing.now.numbers v.now.lanes.now 0 (threads_in v.now.listing.now.numbers)
         (next_with count ranks.old))
-        × (result ≤ count + sum_to (threads_in c.now.numbers) (row_len c.now.numbers x.now)) }
+        × (result ≤ count + sum_to (threads_in v.now.listing.now.numbers) (row_len v.now.listing.now.numbers v.now.lanes.now)) }
 {
     let mut n = count;
-    let mut base = c.pool_at();
-    for t in 0..c.threads() {
-        n = offer_moves_of(c, x, Thread(t), base, ranks, n);
-        base += 2 * rows::row_len(c, x, rows::buffer_row(Thread(t)));
+    let mut base = v.listing.pool_at();
+    for t in 0..v.listing.threads() {
+        n = offer_moves_of(v, Thread(t), base, ranks, n);
+        base += 2 * v.row_len(rows::buffer_row(Thread(t)));
     }
     n
 }
 
-fn offer_persists(c: &Listing, x: &[u32; LANES], ranks: &mut [u8; CANDIDATES], count: u8) -> u8
-    requires { count + lines_in c.now.numbers ≤ most_candidates }
-    ensures { next_with result ranks.new ≡ offered_from (persist_barred c.now.numbers x.now)
-        persist_step 0 (lines_in c.now.numbers) (next_with count ranks.old) }
+fn offer_persists(v: &View, ranks: &mut [u8; CANDIDATES], count: u8) -> u8
+    requires { count + lines_in v.now.listing.now.numbers ≤ most_candidates }
+    ensures { next_with result ranks.new ≡ offered_from (persist_barred v.now.listing.now.numbers v.now.lanes.now)
+        persist_step 0 (lines_in v.now.listing.now.numbers) (next_with count ranks.old) }
 {
     let mut n = count;
-    for q in 0..c.lines() {
-        let barred = rows::row_len(c, x, c.queue_row(Line(q))) == 0;
+    for q in 0..v.listing.lines() {
+        let barred = v.row_len(v.listing.queue_row(Line(q))) == 0;
         n = offer(
             ranks,
             n,
@@ -246,14 +238,13 @@ fn offer_persists(c: &Listing, x: &[u32; LANES], ranks: &mut [u8; CANDIDATES], c
     n
 }
 
-pub(crate) fn next_steps(c: &Listing, x: &[u32; LANES]) -> Ranks
-    requires { FewEntries c.now.numbers x.now }
-    ensures { result ≡ next_lanes c.now.numbers x.now }
+pub(crate) fn next_steps(v: &View) -> Ranks
+    ensures { result ≡ next_lanes v.now.listing.now.numbers v.now.lanes.now }
 {
     let mut ranks = [0u8; CANDIDATES];
-    let issues = offer_issues(c, x, &mut ranks, 0);
-    let moves = offer_moves(c, x, &mut ranks, issues);
-    let count = offer_persists(c, x, &mut ranks, moves);
+    let issues = offer_issues(v, &mut ranks, 0);
+    let moves = offer_moves(v, &mut ranks, issues);
+    let count = offer_persists(v, &mut ranks, moves);
     Ranks {
         count: count,
         ranks: ranks,

@@ -8,9 +8,10 @@ ghost use Rattle.search.specs.Table.{keys_in, Chained};
 ghost use Rattle.search.specs.Recall.{met_by, key_lanes, new_from, sought_new, MetAfter, Meets};
 
 use crate::listing::Listing;
+use crate::rows::View;
 use crate::sizes::LANES;
 use crate::walk::Walked;
-use crate::{next, rows, shown, table, taken, wants};
+use crate::{next, shown, table, taken, wants};
 use cases::case::Ask;
 use cases::sizes::STEP_SIZE;
 
@@ -23,20 +24,20 @@ pub enum Met {
 }
 
 // Looks a state up, and keeps it where it is new: `left` more have room, of `limit` in all.
-fn meet<'a, 'k>(c: &Listing, x: &'k [u32; LANES], limit: u32, left: u32, memory: &mut [u32]) -> Met
-    requires { FewEntries c.now.numbers x.now × (0 < limit) × (left ≤ limit)
-        × Chained memory.old limit (limit - left) }
-    ensures { Meets result memory.old memory.new limit left (key_lanes c.now.numbers x.now) }
+fn meet(v: &View, limit: u32, left: u32, memory: &mut [u32]) -> Met
+    requires { (0 < limit) × (left ≤ limit) × Chained memory.old limit (limit - left) }
+    ensures { Meets result memory.old memory.new limit left
+        (key_lanes v.now.listing.now.numbers v.now.lanes.now) }
 {
-    let n = rows::pool_end(c, x);
-    let b = table::bucket(limit, x, n);
-    if table::is_kept(memory, limit, limit - left, b, x, n) {
+    let n = v.pool_end();
+    let b = table::bucket(limit, v.lanes, n);
+    if table::is_kept(memory, limit, limit - left, b, v.lanes, n) {
         return Met::Before;
     }
     if left == 0 {
         return Met::Full;
     }
-    table::keep(memory, limit, limit - left, b, x, n);
+    table::keep(memory, limit, limit - left, b, v.lanes, n);
     Met::New
 }
 
@@ -62,15 +63,19 @@ pub(crate) fn recall(
         (met_by (key_lanes c.now.numbers) (keys_in memory.old limit (limit - left))
         (new_from c.now.numbers depth (keys_in memory.old limit (limit - left)) x.now)) }
 {
-    match meet(c, x, limit, left, memory) {
+    let v = View {
+        listing: c,
+        lanes: x,
+    };
+    match meet(&v, limit, left, memory) {
         Met::Before => return Walked::Finished(left),
         Met::Full => return Walked::Stopped,
         Met::New => {}
     }
-    if wants::is_reached(c, a, x) {
+    if wants::is_reached(&v, a) {
         return Walked::Found(depth);
     }
-    let next = next::next_steps(c, x);
+    let next = next::next_steps(&v);
     let mut rest = left - 1;
     for i in 0..next.count {
         let k = next::step_at(next.ranks[i as usize]);

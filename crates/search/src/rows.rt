@@ -15,38 +15,18 @@ use machine::sizes::MARKER;
 #[derive(Clone, Copy)]
 pub struct Row(pub usize);
 
+// A state's lanes beside the listing of its program, to be looked at.
+#[derive(Clone, Copy)]
+pub struct View<'a> {
+    pub listing: &'a Listing,
+    pub lanes: &'a [u32; LANES],
+    ghost few: { FewEntries listing.now.numbers lanes.now },
+}
+
 pub(crate) fn buffer_row(t: Thread) -> Row
     ensures { result.0 ≡ t.0 }
 {
     Row(t.0 as usize)
-}
-
-// How many entries a row has.
-pub(crate) fn row_len(c: &Listing, x: &[u32; LANES], r: Row) -> usize
-    requires { r.0 < rows_in c.now.numbers }
-    ensures { result ≡ row_len c.now.numbers x.now r.0 }
-{
-    x[c.row_len_at(r)] as usize
-}
-
-// Where a row starts; behind the last row, where that one ends.
-pub(crate) fn row_start(c: &Listing, x: &[u32; LANES], r: Row) -> usize
-    requires { FewEntries c.now.numbers x.now × (r.0 ≤ rows_in c.now.numbers) }
-    ensures { result ≡ row_start c.now.numbers x.now r.0 }
-{
-    let mut n = c.pool_at();
-    for i in 0..r.0 {
-        n += 2 * row_len(c, x, Row(i));
-    }
-    n
-}
-
-// Where the last row ends.
-pub(crate) fn pool_end(c: &Listing, x: &[u32; LANES]) -> usize
-    requires { FewEntries c.now.numbers x.now }
-    ensures { result ≡ pool_end c.now.numbers x.now }
-{
-    row_start(c, x, Row(c.rows()))
 }
 
 // Of n entries from base on, the word of the newest with that tag, else the word given: the first one found from
@@ -62,30 +42,6 @@ fn newest(x: &[u32; LANES], base: usize, tag: u32, other: u32, n: usize) -> u32
         }
     }
     other
-}
-
-// What stands for a location where no buffer is looked at.
-pub(crate) fn queued(c: &Listing, x: &[u32; LANES], l: Location) -> u32
-    requires { FewEntries c.now.numbers x.now × (l.0 < locations_in c.now.numbers) }
-    ensures { result ≡ queued_lane c.now.numbers x.now l.0 }
-{
-    let q = c.line_of(l);
-    let r = c.queue_row(q);
-    let base = row_start(c, x, r);
-    let n = row_len(c, x, r);
-    newest(x, base, l.0 as u32, x[c.word_at(l)], n)
-}
-
-// What a load takes.
-pub(crate) fn loaded(c: &Listing, x: &[u32; LANES], t: Thread, l: Location) -> u32
-    requires { FewEntries c.now.numbers x.now × (t.0 < threads_in c.now.numbers)
-        × (l.0 < locations_in c.now.numbers) }
-    ensures { result ≡ loaded_lane c.now.numbers x.now t.0 l.0 }
-{
-    let r = buffer_row(t);
-    let base = row_start(c, x, r);
-    let n = row_len(c, x, r);
-    newest(x, base, l.0 as u32, queued(c, x, l), n)
 }
 
 // A thread's markers in queues.
@@ -108,19 +64,77 @@ fn has_mark(x: &[u32; LANES], base: usize, n: usize, mark: u32) -> bool
     false
 }
 
-// Does some queue hold a marker of the thread?
-pub(crate) fn is_marked(c: &Listing, x: &[u32; LANES], t: Thread) -> bool
-    requires { FewEntries c.now.numbers x.now }
-    ensures { result ≡ marked_lanes c.now.numbers x.now t.0 }
-{
-    let mark = mark_of(t);
-    let mut base = row_start(c, x, c.queue_row(Line(0)));
-    for q in 0..c.lines() {
-        let n = row_len(c, x, c.queue_row(Line(q)));
-        if has_mark(x, base, n, mark) {
-            return true;
-        }
-        base += 2 * n;
+impl<'a> View<'a> {
+    // How many entries a row has.
+    pub(crate) fn row_len(&self, r: Row) -> usize
+        requires { r.0 < rows_in self.now.listing.now.numbers }
+        ensures { result ≡ row_len self.now.listing.now.numbers self.now.lanes.now r.0 }
+    {
+        self.lanes[self.listing.row_len_at(r)] as usize
     }
-    false
+
+    // Where a row starts; behind the last row, where that one ends.
+    pub(crate) fn row_start(&self, r: Row) -> usize
+        requires { r.0 ≤ rows_in self.now.listing.now.numbers }
+        ensures { result ≡ row_start self.now.listing.now.numbers self.now.lanes.now r.0 }
+    {
+        let mut n = self.listing.pool_at();
+        for i in 0..r.0 {
+            n += 2 * self.row_len(Row(i));
+        }
+        n
+    }
+
+    // Where the last row ends.
+    pub(crate) fn pool_end(&self) -> usize
+        ensures { result ≡ pool_end self.now.listing.now.numbers self.now.lanes.now }
+    {
+        self.row_start(Row(self.listing.rows()))
+    }
+
+    // What stands for a location where no buffer is looked at.
+    pub(crate) fn queued(&self, l: Location) -> u32
+        requires { l.0 < locations_in self.now.listing.now.numbers }
+        ensures { result ≡ queued_lane self.now.listing.now.numbers self.now.lanes.now l.0 }
+    {
+        let q = self.listing.line_of(l);
+        let r = self.listing.queue_row(q);
+        let base = self.row_start(r);
+        let n = self.row_len(r);
+        newest(
+            self.lanes,
+            base,
+            l.0 as u32,
+            self.lanes[self.listing.word_at(l)],
+            n,
+        )
+    }
+
+    // What a load takes.
+    pub(crate) fn loaded(&self, t: Thread, l: Location) -> u32
+        requires { (t.0 < threads_in self.now.listing.now.numbers)
+            × (l.0 < locations_in self.now.listing.now.numbers) }
+        ensures { result ≡ loaded_lane self.now.listing.now.numbers self.now.lanes.now t.0 l.0 }
+    {
+        let r = buffer_row(t);
+        let base = self.row_start(r);
+        let n = self.row_len(r);
+        newest(self.lanes, base, l.0 as u32, self.queued(l), n)
+    }
+
+    // Does some queue hold a marker of the thread?
+    pub(crate) fn is_marked(&self, t: Thread) -> bool
+        ensures { result ≡ marked_lanes self.now.listing.now.numbers self.now.lanes.now t.0 }
+    {
+        let mark = mark_of(t);
+        let mut base = self.row_start(self.listing.queue_row(Line(0)));
+        for q in 0..self.listing.lines() {
+            let n = self.row_len(self.listing.queue_row(Line(q)));
+            if has_mark(self.lanes, base, n, mark) {
+                return true;
+            }
+            base += 2 * n;
+        }
+        false
+    }
 }

@@ -8,6 +8,7 @@ ghost use Rattle.search.specs.Taken.{lanes_machine, reaches_lanes};
 ghost use Rattle.search.specs.Held.{Held};
 
 use crate::listing::Listing;
+use crate::rows::View;
 use crate::sizes::LANES;
 use crate::{next, shown, taken, wants};
 use cases::case::Ask;
@@ -41,10 +42,14 @@ pub(crate) fn walk(
     if budget == 0 {
         return Walked::Stopped;
     }
-    if wants::is_reached(c, a, x) {
+    let v = View {
+        listing: c,
+        lanes: x,
+    };
+    if wants::is_reached(&v, a) {
         return Walked::Found(depth);
     }
-    let next = next::next_steps(c, x);
+    let next = next::next_steps(&v);
     let mut left = budget - 1;
     for i in 0..next.count {
         let k = next::step_at(next.ranks[i as usize]);

@@ -6,8 +6,7 @@ ghost use Rattle.search.specs.Question.{lacks_at};
 ghost use Rattle.search.specs.Listing.{threads_in, locations_in};
 ghost use Rattle.search.specs.Taken.{misses_lane, reaches_lanes};
 
-use crate::listing::Listing;
-use crate::sizes::LANES;
+use crate::rows::View;
 use cases::case::{Ask, Location};
 
 // Does a location hold another word than is wanted there?
@@ -19,13 +18,17 @@ fn misses(wanted: bool, want: u32, word: u32) -> bool
 }
 
 // Does some location?
-fn is_missed(c: &Listing, a: &Ask, x: &[u32; LANES]) -> bool
-    ensures { result ≡ any_from 0 (locations_in c.now.numbers)
-        (misses_lane c.now.numbers a.now.wanted a.now.want x.now) }
+fn is_missed(v: &View, a: &Ask) -> bool
+    ensures { result ≡ any_from 0 (locations_in v.now.listing.now.numbers)
+        (misses_lane v.now.listing.now.numbers a.now.wanted a.now.want v.now.lanes.now) }
 {
-    for l in 0..c.locations() {
+    for l in 0..v.listing.locations() {
         let at = l as usize;
-        if misses(a.wanted[at], a.want[at], x[c.word_at(Location(l))]) {
+        if misses(
+            a.wanted[at],
+            a.want[at],
+            v.lanes[v.listing.word_at(Location(l))],
+        ) {
             return true;
         }
     }
@@ -33,11 +36,11 @@ fn is_missed(c: &Listing, a: &Ask, x: &[u32; LANES]) -> bool
 }
 
 // Has some thread issued fewer instructions than asked for?
-fn is_lacking(c: &Listing, a: &Ask, x: &[u32; LANES]) -> bool
-    ensures { result ≡ any_from 0 (threads_in c.now.numbers) (lacks_at a.now.passed x.now) }
+fn is_lacking(v: &View, a: &Ask) -> bool
+    ensures { result ≡ any_from 0 (threads_in v.now.listing.now.numbers) (lacks_at a.now.passed v.now.lanes.now) }
 {
-    for t in 0..(c.threads() as usize) {
-        if x[t] < (a.passed[t] as u32) {
+    for t in 0..(v.listing.threads() as usize) {
+        if v.lanes[t] < (a.passed[t] as u32) {
             return true;
         }
     }
@@ -46,13 +49,13 @@ fn is_lacking(c: &Listing, a: &Ask, x: &[u32; LANES]) -> bool
 
 // Does a crash in this state leave what is asked for, with what is asked for issued?
 #[tactic(auto, using(cases::proofs::ChoiceLaws::choices), unfolding(crate::specs::Taken::reaches_lanes))]
-pub(crate) fn is_reached(c: &Listing, a: &Ask, x: &[u32; LANES]) -> bool
+pub(crate) fn is_reached(v: &View, a: &Ask) -> bool
     ensures { result
-        ≡ reaches_lanes c.now.numbers a.now.wanted a.now.want a.now.passed
-        x.now }
+        ≡ reaches_lanes v.now.listing.now.numbers a.now.wanted a.now.want a.now.passed
+        v.now.lanes.now }
 {
-    if is_missed(c, a, x) {
+    if is_missed(v, a) {
         return false;
     }
-    !is_lacking(c, a, x)
+    !is_lacking(v, a)
 }

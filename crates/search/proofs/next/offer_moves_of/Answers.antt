@@ -7,7 +7,7 @@ use Rattle.search.proofs.next.offer_moves_of.Goals as goal
 pub overflow_cast-many : goal.overflow_cast-many
 overflow_cast-many c =
     let n = rw c.buffer_row.ensures at c.row_len-many.ensures in
-    let w = c.requires.3 in
+    let w = c.requires.2 in
     omega arith
 
 pub loop-i-init : goal.loop-i-init
@@ -16,28 +16,28 @@ loop-i-init c = (rw c.buffer_row.ensures at c.row_len-many.ensures, offered_star
 pub is_entry_barred-barred-requires : goal.is_entry_barred-barred-requires
 is_entry_barred-barred-requires c =
     let g = c.requires in
-    let w = row_room _ _ c.args.c.now.fits g.0 c.args.t.0 (omega arith) _ _ g.2 c.loop-i.invariant.0 in
-    (g.0, omega arith)
+    let w = row_room _ _ c.args.v.now.listing.now.fits c.args.v.now.few c.args.t.0 (omega arith) _ _ g.1 c.loop-i.invariant.0 in
+    (omega arith)
 
 pub offer-n-requires : goal.offer-n-requires
 unfolding rank_of
 offer-n-requires c =
     let i = c.loop-i.invariant in
     let g = c.requires in
-    let w = c.args.c.now.fits.few_threads in
+    let w = c.args.v.now.listing.now.fits.few_threads in
     let m = i.0 in
     (offered_low i.1 (omega arith) (omega arith), omega arith)
 
 pub overflow_cast-i : goal.overflow_cast-i
 overflow_cast-i c =
     let m = c.loop-i.invariant.0 in
-    let w = c.requires.3 in
+    let w = c.requires.2 in
     omega arith
 
 pub loop-i-preserved : goal.loop-i-preserved
 loop-i-preserved c =
     let i = c.loop-i.invariant in
-    let m = move_made _ _ _ _ _ _ c.requires.2 c.is_entry_barred-barred.ensures in
+    let m = move_made _ _ _ _ _ _ c.requires.1 c.is_entry_barred-barred.ensures in
     (i.0, offered_next i.1 (omega arith) _ _ c.offer-n.ensures m)
 
 pub returns : goal.returns

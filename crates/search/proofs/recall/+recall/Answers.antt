@@ -11,7 +11,7 @@ use Rattle.search.proofs.recall.+recall.Goals as goal
 pub meet-requires : goal.meet-requires
 meet-requires t c =
     let g = c.requires in
-    (held_few g.0, g.1, g.2, g.3)
+    (g.1, g.2, g.3)
 
 pub returns-in-Before : goal.returns-in-Before
 returns-in-Before t c =
@@ -27,9 +27,8 @@ returns-then-is_reached t c =
     recall_here _ _ _ _ _ _ _ _ _ _ _ _ c.meet.ensures c.in-New.is _ c.is_reached.ensures
     c.if-is_reached.true _
 
-pub next_steps-next-requires : goal.next_steps-next-requires
-next_steps-next-requires t c =
-    held_few c.requires.0
+pub invariant_of-v : goal.invariant_of-v
+invariant_of-v t c = record { few = held_few c.requires.0 }
 
 pub overflow_sub-rest : goal.overflow_sub-rest
 overflow_sub-rest t c =

@@ -19,9 +19,8 @@ returns-then-is_reached t c =
     let l = left_here _ b.budget b.depth b.run.now _ _ _ c.if-budget-eq0.false _ e c.if-is_reached.true in
     (l.told, l.stored)
 
-pub next_steps-next-requires : goal.next_steps-next-requires
-next_steps-next-requires t c =
-    held_few c.requires
+pub invariant_of-v : goal.invariant_of-v
+invariant_of-v t c = record { few = held_few c.requires }
 
 pub loop-i-init : goal.loop-i-init
 loop-i-init t c =

@@ -6,15 +6,15 @@ use Rattle.search.proofs.wants.is_lacking.Goals as goal
 pub loop-t-init : goal.loop-t-init
 loop-t-init c = any_start _ _
 
-pub returns-then-x-t : goal.returns-then-x-t
-returns-then-x-t c =
+pub returns-then-v-t : goal.returns-then-v-t
+returns-then-v-t c =
     any_here c.loop-t.invariant (omega arith)
-    (lacks_some _ _ _ _ refl c.if-x-t.true)
+    (lacks_some _ _ _ _ refl c.if-v-t.true)
 
 pub loop-t-preserved : goal.loop-t-preserved
 loop-t-preserved c =
     any_next c.loop-t.invariant (omega arith)
-    (lacks_none _ _ _ _ refl c.if-x-t.false)
+    (lacks_none _ _ _ _ refl c.if-v-t.false)
 
 pub returns : goal.returns
 returns c = any_end c.loop-t.invariant (omega arith)

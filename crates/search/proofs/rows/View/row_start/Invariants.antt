@@ -1,7 +1,7 @@
 -- `row_start` meets its contract. Assumes nothing.
 use Rattle.search.proofs.rows.RowLoopLaws.{RowsSoFar}
-use Rattle.search.proofs.rows.row_start.Given as goal
+use Rattle.search.proofs.rows.View.row_start.Given as goal
 
 -- n is where row i starts
 abbrev pub invariant-loop-i : goal.invariant-loop-i
-invariant-loop-i l = RowsSoFar l.c.numbers l.x l.i-end l.n l.i
+invariant-loop-i l = RowsSoFar l.self.listing.now.numbers l.self.lanes.now l.i-end l.n l.i

@@ -1,13 +1,13 @@
 -- `loaded` meets its contract. Assumes nothing.
 use Rattle.std.proofs.Common.{arith}
 use Rattle.search.proofs.rows.RowLoopLaws.{row_room, loaded_made}
-use Rattle.search.proofs.rows.loaded.Goals as goal
+use Rattle.search.proofs.rows.View.loaded.Goals as goal
 
 pub newest-requires : goal.newest-requires
 newest-requires c =
     let g = c.requires in
     let e = c.buffer_row-r.ensures in
-    row_room _ _ c.args.c.now.fits g.0 c.buffer_row-r.result.0 (omega arith) _ _ c.row_start-base.ensures
+    row_room _ _ c.args.self.now.listing.now.fits c.args.self.now.few c.buffer_row-r.result.0 (omega arith) _ _ c.row_start-base.ensures
     c.row_len-n.ensures
 
 pub returns : goal.returns

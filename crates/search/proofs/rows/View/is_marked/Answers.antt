@@ -3,8 +3,8 @@ use Rattle.search.specs.Sizes.{most_lanes}
 use Rattle.search.specs.Rows.{queue_row}
 use Rattle.search.proofs.rows.RowLoopLaws.{row_room}
 use Rattle.search.proofs.rows.MarkedLoopLaws.{marked_start, marked_next, marked_here, marked_end}
-use Rattle.search.proofs.rows.is_marked.Goals as goal
-use Rattle.search.proofs.rows.is_marked.Goals.{After-row_len-n}
+use Rattle.search.proofs.rows.View.is_marked.Goals as goal
+use Rattle.search.proofs.rows.View.is_marked.Goals.{After-row_len-n}
 
 pub loop-q-init : goal.loop-q-init
 loop-q-init c = marked_start _ _ _ _ _ c.queue_row.ensures c.row_start-base.ensures
@@ -13,7 +13,7 @@ loop-q-init c = marked_start _ _ _ _ _ c.queue_row.ensures c.row_start-base.ensu
 within : (c : After-row_len-n) → c.loop-q.base + 2 * c.row_len-n.result ≤ most_lanes
 within c =
     let r = rw c.queue_row-in-loop-q.ensures at c.row_len-n.ensures in
-    row_room _ _ c.args.c.now.fits c.requires (queue_row c.args.c.now.numbers c.loop-q.q) (omega arith) _ _
+    row_room _ _ c.args.self.now.listing.now.fits c.args.self.now.few (queue_row c.args.self.now.listing.now.numbers c.loop-q.q) (omega arith) _ _
     c.loop-q.invariant.start r
 
 pub has_mark-requires : goal.has_mark-requires

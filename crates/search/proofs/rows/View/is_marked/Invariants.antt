@@ -1,7 +1,7 @@
 -- `is_marked` meets its contract. Assumes nothing.
 use Rattle.search.proofs.rows.MarkedLoopLaws.{MarkedSoFar}
-use Rattle.search.proofs.rows.is_marked.Given as goal
+use Rattle.search.proofs.rows.View.is_marked.Given as goal
 
 -- the queues from number q on say what all of them say
 abbrev pub invariant-loop-q : goal.invariant-loop-q
-invariant-loop-q l = MarkedSoFar l.c.numbers l.x l.mark l.base l.q
+invariant-loop-q l = MarkedSoFar l.self.listing.now.numbers l.self.lanes.now l.mark l.base l.q
