@@ -45,10 +45,10 @@ fn is_bar(c: &Listing, tag: u32, q: Line) -> bool
 // Does one of the first n entries from base on?
 fn is_barred(v: &View, base: usize, n: usize, q: Line) -> bool
     requires { base + 2 * n ≤ most_lanes }
-    ensures { result ≡ any_from 0 n (bars_at v.now.listing.now.numbers q.0 v.now.lanes.now base) }
+    ensures { result ≡ any_from 0 n (bars_at v.now.c.now.numbers q.0 v.now.x.now base) }
 {
     for i in 0..n {
-        if is_bar(v.listing, v.lanes[base + 2 * i], q) {
+        if is_bar(v.c, v.x[base + 2 * i], q) {
             return true;
         }
     }
@@ -66,8 +66,8 @@ fn is_barrier(op: u32) -> bool
 // They wait for the own buffer and for the thread's markers.
 #[tactic(auto, using(cases::proofs::ChoiceLaws::choices), unfolding(crate::specs::Barred::operation_barred))]
 fn is_operation_barred(v: &View, t: Thread, op: u32) -> bool
-    requires { t.0 < threads_in v.now.listing.now.numbers }
-    ensures { result ≡ operation_barred v.now.listing.now.numbers v.now.lanes.now t.0 op }
+    requires { t.0 < threads_in v.now.c.now.numbers }
+    ensures { result ≡ operation_barred v.now.c.now.numbers v.now.x.now t.0 op }
 {
     if is_barrier(op) {
         if v.row_len(rows::buffer_row(t)) != 0 {
@@ -80,24 +80,24 @@ fn is_operation_barred(v: &View, t: Thread, op: u32) -> bool
 
 #[tactic(auto, using(cases::proofs::ChoiceLaws::choices), unfolding(crate::specs::Barred::issue_barred))]
 fn is_issue_barred(v: &View, t: Thread) -> bool
-    requires { t.0 < threads_in v.now.listing.now.numbers }
-    ensures { result ≡ issue_barred v.now.listing.now.numbers v.now.lanes.now t.0 }
+    requires { t.0 < threads_in v.now.c.now.numbers }
+    ensures { result ≡ issue_barred v.now.c.now.numbers v.now.x.now t.0 }
 {
-    let i = v.lanes[t.0 as usize];
-    if v.listing.numbers[COUNTS + (t.0 as usize)] <= i {
+    let i = v.x[t.0 as usize];
+    if v.c.numbers[COUNTS + (t.0 as usize)] <= i {
         return true;
     }
-    is_operation_barred(v, t, v.listing.numbers[listing::code_at(t, i as usize)])
+    is_operation_barred(v, t, v.c.numbers[listing::code_at(t, i as usize)])
 }
 
 // Of an entry at the head of a thread's buffer.
 #[tactic(auto, using(cases::proofs::ChoiceLaws::choices), unfolding(crate::specs::Barred::head_barred))]
 fn is_head_barred(v: &View, t: Thread, tag: u32) -> bool
-    ensures { result ≡ head_barred v.now.listing.now.numbers v.now.lanes.now t.0 tag }
+    ensures { result ≡ head_barred v.now.c.now.numbers v.now.x.now t.0 tag }
 {
     match kinds::kind_of(tag) {
         Kind::Sfence => v.is_marked(t),
-        Kind::Flush(l) => v.row_len(v.listing.queue_row(v.listing.line_of(l))) != 0,
+        Kind::Flush(l) => v.row_len(v.c.queue_row(v.c.line_of(l))) != 0,
         Kind::FlushOpt(_) | Kind::Store(_) => false,
     }
 }
@@ -106,10 +106,10 @@ fn is_head_barred(v: &View, t: Thread, tag: u32) -> bool
 #[tactic(auto, using(cases::proofs::ChoiceLaws::choices), unfolding(crate::specs::Barred::pass_barred))]
 fn is_pass_barred(v: &View, base: usize, i: usize, tag: u32) -> bool
     requires { base + 2 * i ≤ most_lanes }
-    ensures { result ≡ pass_barred v.now.listing.now.numbers v.now.lanes.now base i tag }
+    ensures { result ≡ pass_barred v.now.c.now.numbers v.now.x.now base i tag }
 {
     match kinds::kind_of(tag) {
-        Kind::FlushOpt(l) => is_barred(v, base, i, v.listing.line_of(l)),
+        Kind::FlushOpt(l) => is_barred(v, base, i, v.c.line_of(l)),
         Kind::Sfence | Kind::Flush(_) | Kind::Store(_) => true,
     }
 }
@@ -117,9 +117,9 @@ fn is_pass_barred(v: &View, base: usize, i: usize, tag: u32) -> bool
 #[tactic(auto, using(cases::proofs::ChoiceLaws::choices), unfolding(crate::specs::Barred::entry_barred))]
 fn is_entry_barred(v: &View, t: Thread, base: usize, i: usize) -> bool
     requires { base + 2 * i + 2 ≤ most_lanes }
-    ensures { result ≡ entry_barred v.now.listing.now.numbers v.now.lanes.now t.0 base i }
+    ensures { result ≡ entry_barred v.now.c.now.numbers v.now.x.now t.0 base i }
 {
-    let tag = v.lanes[base + 2 * i];
+    let tag = v.x[base + 2 * i];
     if i == 0 {
         return is_head_barred(v, t, tag);
     }
@@ -147,13 +147,13 @@ fn offer(ranks: &mut [u8; CANDIDATES], count: u8, barred: bool, k: Step) -> u8
 }
 
 fn offer_issues(v: &View, ranks: &mut [u8; CANDIDATES], count: u8) -> u8
-    requires { count + threads_in v.now.listing.now.numbers ≤ most_candidates }
-    ensures { (next_with result ranks.new ≡ offered_from (issue_barred v.now.listing.now.numbers v.now.lanes.now)
-        issue_step 0 (threads_in v.now.listing.now.numbers) (next_with count ranks.old))
-        × (result ≤ count + threads_in v.now.listing.now.numbers) }
+    requires { count + threads_in v.now.c.now.numbers ≤ most_candidates }
+    ensures { (next_with result ranks.new ≡ offered_from (issue_barred v.now.c.now.numbers v.now.x.now)
+        issue_step 0 (threads_in v.now.c.now.numbers) (next_with count ranks.old))
+        × (result ≤ count + threads_in v.now.c.now.numbers) }
 {
     let mut n = count;
-    for t in 0..v.listing.threads() {
+    for t in 0..v.c.threads() {
         let barred = is_issue_barred(v, Thread(t));
         n = offer(
             ranks,
@@ -172,13 +172,13 @@ fn offer_issues(v: &View, ranks: &mut [u8; CANDIDATES], count: u8) -> u8
 
 // The moves of one thread, whose buffer's row starts at base.
 fn offer_moves_of(v: &View, t: Thread, base: usize, ranks: &mut [u8; CANDIDATES], count: u8) -> u8
-    requires { (t.0 < threads_in v.now.listing.now.numbers)
-        × (base ≡ row_start v.now.listing.now.numbers v.now.lanes.now t.0)
-        × (count + row_len v.now.listing.now.numbers v.now.lanes.now t.0 ≤ most_candidates) }
+    requires { (t.0 < threads_in v.now.c.now.numbers)
+        × (base ≡ row_start v.now.c.now.numbers v.now.x.now t.0)
+        × (count + row_len v.now.c.now.numbers v.now.x.now t.0 ≤ most_candidates) }
     ensures { (next_with result ranks.new
-        ≡ offered_from (move_barred v.now.listing.now.numbers v.now.lanes.now t.0) (move_step t.0) 0
-        (row_len v.now.listing.now.numbers v.now.lanes.now t.0) (next_with count ranks.old))
-        × (result ≤ count + row_len v.now.listing.now.numbers v.now.lanes.now t.0) }
+        ≡ offered_from (move_barred v.now.c.now.numbers v.now.x.now t.0) (move_step t.0) 0
+        (row_len v.now.c.now.numbers v.now.x.now t.0) (next_with count ranks.old))
+        × (result ≤ count + row_len v.now.c.now.numbers v.now.x.now t.0) }
 {
     let many = v.row_len(rows::buffer_row(t)) as u8;
     let mut n = count;
@@ -200,15 +200,15 @@ fn offer_moves_of(v: &View, t: Thread, base: usize, ranks: &mut [u8; CANDIDATES]
 }
 
 fn offer_moves(v: &View, ranks: &mut [u8; CANDIDATES], count: u8) -> u8
-    requires { count + sum_to (threads_in v.now.listing.now.numbers) (row_len v.now.listing.now.numbers v.now.lanes.now) ≤ most_candidates }
+    requires { count + sum_to (threads_in v.now.c.now.numbers) (row_len v.now.c.now.numbers v.now.x.now) ≤ most_candidates }
     ensures { (next_with result ranks.new
-        ≡ offered_moves v.now.listing.now.numbers v.now.lanes.now 0 (threads_in v.now.listing.now.numbers)
+        ≡ offered_moves v.now.c.now.numbers v.now.x.now 0 (threads_in v.now.c.now.numbers)
         (next_with count ranks.old))
-        × (result ≤ count + sum_to (threads_in v.now.listing.now.numbers) (row_len v.now.listing.now.numbers v.now.lanes.now)) }
+        × (result ≤ count + sum_to (threads_in v.now.c.now.numbers) (row_len v.now.c.now.numbers v.now.x.now)) }
 {
     let mut n = count;
-    let mut base = v.listing.pool_at();
-    for t in 0..v.listing.threads() {
+    let mut base = v.c.pool_at();
+    for t in 0..v.c.threads() {
         n = offer_moves_of(v, Thread(t), base, ranks, n);
         base += 2 * v.row_len(rows::buffer_row(Thread(t)));
     }
@@ -216,13 +216,13 @@ fn offer_moves(v: &View, ranks: &mut [u8; CANDIDATES], count: u8) -> u8
 }
 
 fn offer_persists(v: &View, ranks: &mut [u8; CANDIDATES], count: u8) -> u8
-    requires { count + lines_in v.now.listing.now.numbers ≤ most_candidates }
-    ensures { next_with result ranks.new ≡ offered_from (persist_barred v.now.listing.now.numbers v.now.lanes.now)
-        persist_step 0 (lines_in v.now.listing.now.numbers) (next_with count ranks.old) }
+    requires { count + lines_in v.now.c.now.numbers ≤ most_candidates }
+    ensures { next_with result ranks.new ≡ offered_from (persist_barred v.now.c.now.numbers v.now.x.now)
+        persist_step 0 (lines_in v.now.c.now.numbers) (next_with count ranks.old) }
 {
     let mut n = count;
-    for q in 0..v.listing.lines() {
-        let barred = v.row_len(v.listing.queue_row(Line(q))) == 0;
+    for q in 0..v.c.lines() {
+        let barred = v.row_len(v.c.queue_row(Line(q))) == 0;
         n = offer(
             ranks,
             n,
@@ -239,7 +239,7 @@ fn offer_persists(v: &View, ranks: &mut [u8; CANDIDATES], count: u8) -> u8
 }
 
 pub(crate) fn next_steps(v: &View) -> Ranks
-    ensures { result ≡ next_lanes v.now.listing.now.numbers v.now.lanes.now }
+    ensures { result ≡ next_lanes v.now.c.now.numbers v.now.x.now }
 {
     let mut ranks = [0u8; CANDIDATES];
     let issues = offer_issues(v, &mut ranks, 0);

@@ -27,17 +27,17 @@ pub enum Met {
 fn meet(v: &View, limit: u32, left: u32, memory: &mut [u32]) -> Met
     requires { (0 < limit) × (left ≤ limit) × Chained memory.old limit (limit - left) }
     ensures { Meets result memory.old memory.new limit left
-        (key_lanes v.now.listing.now.numbers v.now.lanes.now) }
+        (key_lanes v.now.c.now.numbers v.now.x.now) }
 {
     let n = v.pool_end();
-    let b = table::bucket(limit, v.lanes, n);
-    if table::is_kept(memory, limit, limit - left, b, v.lanes, n) {
+    let b = table::bucket(limit, v.x, n);
+    if table::is_kept(memory, limit, limit - left, b, v.x, n) {
         return Met::Before;
     }
     if left == 0 {
         return Met::Full;
     }
-    table::keep(memory, limit, limit - left, b, v.lanes, n);
+    table::keep(memory, limit, limit - left, b, v.x, n);
     Met::New
 }
 
@@ -63,10 +63,7 @@ pub(crate) fn recall(
         (met_by (key_lanes c.now.numbers) (keys_in memory.old limit (limit - left))
         (new_from c.now.numbers depth (keys_in memory.old limit (limit - left)) x.now)) }
 {
-    let v = View {
-        listing: c,
-        lanes: x,
-    };
+    let v = View { c, x };
     match meet(&v, limit, left, memory) {
         Met::Before => return Walked::Finished(left),
         Met::Full => return Walked::Stopped,

@@ -18,9 +18,9 @@ pub struct Row(pub usize);
 // A state's lanes beside the listing of its program, to be looked at.
 #[derive(Clone, Copy)]
 pub struct View<'a> {
-    pub listing: &'a Listing,
-    pub lanes: &'a [u32; LANES],
-    ghost few: { FewEntries listing.now.numbers lanes.now },
+    pub c: &'a Listing,
+    pub x: &'a [u32; LANES],
+    ghost few: { FewEntries c.now.numbers x.now },
 }
 
 pub(crate) fn buffer_row(t: Thread) -> Row
@@ -67,18 +67,18 @@ fn has_mark(x: &[u32; LANES], base: usize, n: usize, mark: u32) -> bool
 impl<'a> View<'a> {
     // How many entries a row has.
     pub(crate) fn row_len(&self, r: Row) -> usize
-        requires { r.0 < rows_in self.now.listing.now.numbers }
-        ensures { result ≡ row_len self.now.listing.now.numbers self.now.lanes.now r.0 }
+        requires { r.0 < rows_in self.now.c.now.numbers }
+        ensures { result ≡ row_len self.now.c.now.numbers self.now.x.now r.0 }
     {
-        self.lanes[self.listing.row_len_at(r)] as usize
+        self.x[self.c.row_len_at(r)] as usize
     }
 
     // Where a row starts; behind the last row, where that one ends.
     pub(crate) fn row_start(&self, r: Row) -> usize
-        requires { r.0 ≤ rows_in self.now.listing.now.numbers }
-        ensures { result ≡ row_start self.now.listing.now.numbers self.now.lanes.now r.0 }
+        requires { r.0 ≤ rows_in self.now.c.now.numbers }
+        ensures { result ≡ row_start self.now.c.now.numbers self.now.x.now r.0 }
     {
-        let mut n = self.listing.pool_at();
+        let mut n = self.c.pool_at();
         for i in 0..r.0 {
             n += 2 * self.row_len(Row(i));
         }
@@ -87,50 +87,44 @@ impl<'a> View<'a> {
 
     // Where the last row ends.
     pub(crate) fn pool_end(&self) -> usize
-        ensures { result ≡ pool_end self.now.listing.now.numbers self.now.lanes.now }
+        ensures { result ≡ pool_end self.now.c.now.numbers self.now.x.now }
     {
-        self.row_start(Row(self.listing.rows()))
+        self.row_start(Row(self.c.rows()))
     }
 
     // What stands for a location where no buffer is looked at.
     pub(crate) fn queued(&self, l: Location) -> u32
-        requires { l.0 < locations_in self.now.listing.now.numbers }
-        ensures { result ≡ queued_lane self.now.listing.now.numbers self.now.lanes.now l.0 }
+        requires { l.0 < locations_in self.now.c.now.numbers }
+        ensures { result ≡ queued_lane self.now.c.now.numbers self.now.x.now l.0 }
     {
-        let q = self.listing.line_of(l);
-        let r = self.listing.queue_row(q);
+        let q = self.c.line_of(l);
+        let r = self.c.queue_row(q);
         let base = self.row_start(r);
         let n = self.row_len(r);
-        newest(
-            self.lanes,
-            base,
-            l.0 as u32,
-            self.lanes[self.listing.word_at(l)],
-            n,
-        )
+        newest(self.x, base, l.0 as u32, self.x[self.c.word_at(l)], n)
     }
 
     // What a load takes.
     pub(crate) fn loaded(&self, t: Thread, l: Location) -> u32
-        requires { (t.0 < threads_in self.now.listing.now.numbers)
-            × (l.0 < locations_in self.now.listing.now.numbers) }
-        ensures { result ≡ loaded_lane self.now.listing.now.numbers self.now.lanes.now t.0 l.0 }
+        requires { (t.0 < threads_in self.now.c.now.numbers)
+            × (l.0 < locations_in self.now.c.now.numbers) }
+        ensures { result ≡ loaded_lane self.now.c.now.numbers self.now.x.now t.0 l.0 }
     {
         let r = buffer_row(t);
         let base = self.row_start(r);
         let n = self.row_len(r);
-        newest(self.lanes, base, l.0 as u32, self.queued(l), n)
+        newest(self.x, base, l.0 as u32, self.queued(l), n)
     }
 
     // Does some queue hold a marker of the thread?
     pub(crate) fn is_marked(&self, t: Thread) -> bool
-        ensures { result ≡ marked_lanes self.now.listing.now.numbers self.now.lanes.now t.0 }
+        ensures { result ≡ marked_lanes self.now.c.now.numbers self.now.x.now t.0 }
     {
         let mark = mark_of(t);
-        let mut base = self.row_start(self.listing.queue_row(Line(0)));
-        for q in 0..self.listing.lines() {
-            let n = self.row_len(self.listing.queue_row(Line(q)));
-            if has_mark(self.lanes, base, n, mark) {
+        let mut base = self.row_start(self.c.queue_row(Line(0)));
+        for q in 0..self.c.lines() {
+            let n = self.row_len(self.c.queue_row(Line(q)));
+            if has_mark(self.x, base, n, mark) {
                 return true;
             }
             base += 2 * n;

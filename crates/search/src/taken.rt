@@ -59,10 +59,7 @@ fn join(c: &Listing, x: &mut [u32; LANES], r: Row, tag: u32, word: u32)
     requires { RoomForOne c.now.numbers x.old × (r.0 < rows_in c.now.numbers) }
     ensures { x.new ≡ row_joined c.now.numbers x.old r.0 tag word }
 {
-    let v = View {
-        listing: c,
-        lanes: x,
-    };
+    let v = View { c, x };
     let at = v.row_start(Row(r.0 + 1));
     let end = v.pool_end();
     insert(x, at, end, tag, word);
@@ -76,11 +73,7 @@ fn leave(c: &Listing, x: &mut [u32; LANES], r: Row, at: usize)
         × (at + 2 ≤ row_start c.now.numbers x.old (r.0 + 1)) }
     ensures { x.new ≡ row_left c.now.numbers x.old r.0 at }
 {
-    let end = View {
-        listing: c,
-        lanes: x,
-    }
-    .pool_end();
+    let end = View { c, x }.pool_end();
     carry(x, at, end, 0, 0);
     discount(x, c.row_len_at(r));
 }
@@ -94,11 +87,7 @@ fn carry_over(c: &Listing, x: &mut [u32; LANES], t: Thread, at: usize, q: Line, 
     ensures { x.new ≡ row_carried c.now.numbers x.old t.0 at q.0 tag }
 {
     let r = c.queue_row(q);
-    let to = View {
-        listing: c,
-        lanes: x,
-    }
-    .row_start(Row(r.0 + 1));
+    let to = View { c, x }.row_start(Row(r.0 + 1));
     let word = x[at + 1];
     carry(x, at, to, tag, word);
     discount(x, c.row_len_at(rows::buffer_row(t)));
@@ -147,11 +136,7 @@ fn take_load(c: &Listing, x: &mut [u32; LANES], t: Thread, at: usize)
     ensures { x.new ≡ took_lanes c.now.numbers x.old t.0 at }
 {
     let r = c.register_at(t, Register(c.numbers[at + 2] as u8));
-    let word = View {
-        listing: c,
-        lanes: x,
-    }
-    .loaded(t, Location(c.numbers[at + 1] as u8));
+    let word = View { c, x }.loaded(t, Location(c.numbers[at + 1] as u8));
     x[r] = word;
 }
 
@@ -161,11 +146,7 @@ fn fetch(c: &Listing, x: &mut [u32; LANES], t: Thread, at: usize)
     ensures { x.new ≡ fetched_lanes c.now.numbers x.old t.0 at }
 {
     let r = c.register_at(t, Register(c.numbers[at + 2] as u8));
-    let word = View {
-        listing: c,
-        lanes: x,
-    }
-    .queued(Location(c.numbers[at + 1] as u8));
+    let word = View { c, x }.queued(Location(c.numbers[at + 1] as u8));
     x[r] = word;
 }
 
@@ -191,11 +172,7 @@ fn compare(c: &Listing, x: &mut [u32; LANES], t: Thread, at: usize)
     ensures { x.new ≡ compared_lanes c.now.numbers x.old t.0 at }
 {
     let r = c.register_at(t, Register(c.numbers[at + 2] as u8));
-    let word = View {
-        listing: c,
-        lanes: x,
-    }
-    .queued(Location(c.numbers[at + 1] as u8));
+    let word = View { c, x }.queued(Location(c.numbers[at + 1] as u8));
     if word == x[r] {
         exchange(c, x, t, at);
         return;
@@ -248,12 +225,7 @@ fn move_entry(c: &Listing, x: &mut [u32; LANES], t: Thread, i: usize)
         × (i < row_len c.now.numbers x.old t.0) }
     ensures { x.new ≡ move_lanes c.now.numbers x.old t.0 i }
 {
-    let at = View {
-        listing: c,
-        lanes: x,
-    }
-    .row_start(rows::buffer_row(t))
-        + 2 * i;
+    let at = View { c, x }.row_start(rows::buffer_row(t)) + 2 * i;
     let tag = x[at];
     move_tagged(c, x, t, at, tag);
 }
@@ -264,11 +236,7 @@ fn persist(c: &Listing, x: &mut [u32; LANES], q: Line)
     ensures { x.new ≡ persist_lanes c.now.numbers x.old q.0 }
 {
     let r = c.queue_row(q);
-    let at = View {
-        listing: c,
-        lanes: x,
-    }
-    .row_start(r);
+    let at = View { c, x }.row_start(r);
     let tag = x[at];
     let word = x[at + 1];
     leave(c, x, r, at);

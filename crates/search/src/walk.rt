@@ -42,10 +42,7 @@ pub(crate) fn walk(
     if budget == 0 {
         return Walked::Stopped;
     }
-    let v = View {
-        listing: c,
-        lanes: x,
-    };
+    let v = View { c, x };
     if wants::is_reached(&v, a) {
         return Walked::Found(depth);
     }

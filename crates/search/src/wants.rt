@@ -19,16 +19,12 @@ fn misses(wanted: bool, want: u32, word: u32) -> bool
 
 // Does some location?
 fn is_missed(v: &View, a: &Ask) -> bool
-    ensures { result ≡ any_from 0 (locations_in v.now.listing.now.numbers)
-        (misses_lane v.now.listing.now.numbers a.now.wanted a.now.want v.now.lanes.now) }
+    ensures { result ≡ any_from 0 (locations_in v.now.c.now.numbers)
+        (misses_lane v.now.c.now.numbers a.now.wanted a.now.want v.now.x.now) }
 {
-    for l in 0..v.listing.locations() {
+    for l in 0..v.c.locations() {
         let at = l as usize;
-        if misses(
-            a.wanted[at],
-            a.want[at],
-            v.lanes[v.listing.word_at(Location(l))],
-        ) {
+        if misses(a.wanted[at], a.want[at], v.x[v.c.word_at(Location(l))]) {
             return true;
         }
     }
@@ -37,10 +33,10 @@ fn is_missed(v: &View, a: &Ask) -> bool
 
 // Has some thread issued fewer instructions than asked for?
 fn is_lacking(v: &View, a: &Ask) -> bool
-    ensures { result ≡ any_from 0 (threads_in v.now.listing.now.numbers) (lacks_at a.now.passed v.now.lanes.now) }
+    ensures { result ≡ any_from 0 (threads_in v.now.c.now.numbers) (lacks_at a.now.passed v.now.x.now) }
 {
-    for t in 0..(v.listing.threads() as usize) {
-        if v.lanes[t] < (a.passed[t] as u32) {
+    for t in 0..(v.c.threads() as usize) {
+        if v.x[t] < (a.passed[t] as u32) {
             return true;
         }
     }
@@ -51,8 +47,8 @@ fn is_lacking(v: &View, a: &Ask) -> bool
 #[tactic(auto, using(cases::proofs::ChoiceLaws::choices), unfolding(crate::specs::Taken::reaches_lanes))]
 pub(crate) fn is_reached(v: &View, a: &Ask) -> bool
     ensures { result
-        ≡ reaches_lanes v.now.listing.now.numbers a.now.wanted a.now.want a.now.passed
-        v.now.lanes.now }
+        ≡ reaches_lanes v.now.c.now.numbers a.now.wanted a.now.want a.now.passed
+        v.now.x.now }
 {
     if is_missed(v, a) {
         return false;

@@ -5,4 +5,4 @@ use Rattle.search.proofs.next.is_barred.Given as goal
 
 -- the entries still to look at say what all n say
 abbrev pub invariant-loop-i : goal.invariant-loop-i
-invariant-loop-i l = AskedSoFar (bars_at l.v.listing.now.numbers l.q.0 l.v.lanes.now l.base) l.n l.i
+invariant-loop-i l = AskedSoFar (bars_at l.v.c.now.numbers l.q.0 l.v.x.now l.base) l.n l.i

@@ -11,7 +11,7 @@ pub offer-n-requires : goal.offer-n-requires
 unfolding rank_of
 offer-n-requires c =
     let g = c.requires in
-    let w = c.args.v.now.listing.now.fits.few_threads in
+    let w = c.args.v.now.c.now.fits.few_threads in
     (offered_low c.loop-t.invariant (omega arith) (rw c.threads-t-end.ensures g), omega arith)
 
 pub loop-t-preserved : goal.loop-t-preserved

@@ -7,5 +7,5 @@ use Rattle.search.proofs.next.offer_issues.Given as goal
 -- the issues from thread t on, offered to the list so far, give what all of them give to the list at the start
 abbrev pub invariant-loop-t : goal.invariant-loop-t
 invariant-loop-t l =
-    OfferedSoFar (issue_barred l.v.listing.now.numbers l.v.lanes.now) issue_step l.t-end l.t
+    OfferedSoFar (issue_barred l.v.c.now.numbers l.v.x.now) issue_step l.t-end l.t
     (next_with l.n l.ranks) (next_with l.initial.n l.initial.ranks)

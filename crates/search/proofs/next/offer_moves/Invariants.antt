@@ -9,5 +9,5 @@ use Rattle.search.proofs.next.offer_moves.Given as goal
 -- the list at the start
 abbrev pub invariant-loop-t : goal.invariant-loop-t
 invariant-loop-t l =
-    (l.base ≡ row_start l.v.listing.now.numbers l.v.lanes.now l.t)
-    × MovesSoFar l.v.listing.now.numbers l.v.lanes.now l.t-end l.t (next_with l.n l.ranks) (next_with l.initial.n l.initial.ranks)
+    (l.base ≡ row_start l.v.c.now.numbers l.v.x.now l.t)
+    × MovesSoFar l.v.c.now.numbers l.v.x.now l.t-end l.t (next_with l.n l.ranks) (next_with l.initial.n l.initial.ranks)

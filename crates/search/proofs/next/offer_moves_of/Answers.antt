@@ -16,7 +16,7 @@ loop-i-init c = (rw c.buffer_row.ensures at c.row_len-many.ensures, offered_star
 pub is_entry_barred-barred-requires : goal.is_entry_barred-barred-requires
 is_entry_barred-barred-requires c =
     let g = c.requires in
-    let w = row_room _ _ c.args.v.now.listing.now.fits c.args.v.now.few c.args.t.0 (omega arith) _ _ g.1 c.loop-i.invariant.0 in
+    let w = row_room _ _ c.args.v.now.c.now.fits c.args.v.now.few c.args.t.0 (omega arith) _ _ g.1 c.loop-i.invariant.0 in
     (omega arith)
 
 pub offer-n-requires : goal.offer-n-requires
@@ -24,7 +24,7 @@ unfolding rank_of
 offer-n-requires c =
     let i = c.loop-i.invariant in
     let g = c.requires in
-    let w = c.args.v.now.listing.now.fits.few_threads in
+    let w = c.args.v.now.c.now.fits.few_threads in
     let m = i.0 in
     (offered_low i.1 (omega arith) (omega arith), omega arith)
 

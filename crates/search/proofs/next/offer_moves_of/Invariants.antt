@@ -10,6 +10,6 @@ use Rattle.search.proofs.next.offer_moves_of.Given as goal
 -- what all of them give to the list at the start
 abbrev pub invariant-loop-i : goal.invariant-loop-i
 invariant-loop-i l =
-    (l.many ≡ row_len l.v.listing.now.numbers l.v.lanes.now l.t.0)
-    × OfferedSoFar (move_barred l.v.listing.now.numbers l.v.lanes.now l.t.0) (move_step l.t.0) l.many l.i
+    (l.many ≡ row_len l.v.c.now.numbers l.v.x.now l.t.0)
+    × OfferedSoFar (move_barred l.v.c.now.numbers l.v.x.now l.t.0) (move_step l.t.0) l.many l.i
     (next_with l.n l.ranks) (next_with l.initial.n l.initial.ranks)

@@ -12,7 +12,7 @@ pub offer-n-requires : goal.offer-n-requires
 unfolding rank_of
 offer-n-requires c =
     let g = c.requires in
-    let w = c.args.v.now.listing.now.fits.few_lines in
+    let w = c.args.v.now.c.now.fits.few_lines in
     (offered_low c.loop-q.invariant (omega arith) (rw c.lines-q-end.ensures g), omega arith)
 
 pub loop-q-preserved : goal.loop-q-preserved

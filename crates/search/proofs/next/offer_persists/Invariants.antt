@@ -7,5 +7,5 @@ use Rattle.search.proofs.next.offer_persists.Given as goal
 -- the persists from queue q on, offered to the list so far, give what all of them give to the list at the start
 abbrev pub invariant-loop-q : goal.invariant-loop-q
 invariant-loop-q l =
-    OfferedSoFar (persist_barred l.v.listing.now.numbers l.v.lanes.now) persist_step l.q-end l.q
+    OfferedSoFar (persist_barred l.v.c.now.numbers l.v.x.now) persist_step l.q-end l.q
     (next_with l.n l.ranks) (next_with l.initial.n l.initial.ranks)

@@ -6,4 +6,4 @@ use Rattle.search.proofs.wants.is_lacking.Given as goal
 
 -- the threads from t on say what all say
 abbrev pub invariant-loop-t : goal.invariant-loop-t
-invariant-loop-t l = AskedSoFar (lacks_at l.a.passed l.v.lanes.now) (threads_in l.v.listing.now.numbers) l.t
+invariant-loop-t l = AskedSoFar (lacks_at l.a.passed l.v.x.now) (threads_in l.v.c.now.numbers) l.t

@@ -6,4 +6,4 @@ use Rattle.search.proofs.wants.is_missed.Given as goal
 
 -- the locations from l on say what all say
 abbrev pub invariant-loop-l : goal.invariant-loop-l
-invariant-loop-l l = AskedSoFar (misses_lane l.v.listing.now.numbers l.a.wanted l.a.want l.v.lanes.now) (locations_in l.v.listing.now.numbers) l.l
+invariant-loop-l l = AskedSoFar (misses_lane l.v.c.now.numbers l.a.wanted l.a.want l.v.x.now) (locations_in l.v.c.now.numbers) l.l

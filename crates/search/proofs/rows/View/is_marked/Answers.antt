@@ -13,7 +13,7 @@ loop-q-init c = marked_start _ _ _ _ _ c.queue_row.ensures c.row_start-base.ensu
 within : (c : After-row_len-n) → c.loop-q.base + 2 * c.row_len-n.result ≤ most_lanes
 within c =
     let r = rw c.queue_row-in-loop-q.ensures at c.row_len-n.ensures in
-    row_room _ _ c.args.self.now.listing.now.fits c.args.self.now.few (queue_row c.args.self.now.listing.now.numbers c.loop-q.q) (omega arith) _ _
+    row_room _ _ c.args.self.now.c.now.fits c.args.self.now.few (queue_row c.args.self.now.c.now.numbers c.loop-q.q) (omega arith) _ _
     c.loop-q.invariant.start r
 
 pub has_mark-requires : goal.has_mark-requires

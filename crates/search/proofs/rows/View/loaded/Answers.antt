@@ -7,7 +7,7 @@ pub newest-requires : goal.newest-requires
 newest-requires c =
     let g = c.requires in
     let e = c.buffer_row-r.ensures in
-    row_room _ _ c.args.self.now.listing.now.fits c.args.self.now.few c.buffer_row-r.result.0 (omega arith) _ _ c.row_start-base.ensures
+    row_room _ _ c.args.self.now.c.now.fits c.args.self.now.few c.buffer_row-r.result.0 (omega arith) _ _ c.row_start-base.ensures
     c.row_len-n.ensures
 
 pub returns : goal.returns

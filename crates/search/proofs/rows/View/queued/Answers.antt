@@ -6,19 +6,19 @@ use Rattle.search.proofs.rows.View.queued.Goals as goal
 pub row_start-base-requires : goal.row_start-base-requires
 row_start-base-requires c =
     let g = c.requires in
-    let w = queue_low _ c.args.self.now.listing.now.fits _ _ _ c.line_of-q.ensures c.queue_row-r.ensures in
+    let w = queue_low _ c.args.self.now.c.now.fits _ _ _ c.line_of-q.ensures c.queue_row-r.ensures in
     (omega arith)
 
 pub row_len-n-requires : goal.row_len-n-requires
 row_len-n-requires c =
     let g = c.requires in
-    (queue_low _ c.args.self.now.listing.now.fits _ _ _ c.line_of-q.ensures c.queue_row-r.ensures)
+    (queue_low _ c.args.self.now.c.now.fits _ _ _ c.line_of-q.ensures c.queue_row-r.ensures)
 
 pub newest-requires : goal.newest-requires
 newest-requires c =
     let g = c.requires in
-    let w = queue_low _ c.args.self.now.listing.now.fits _ _ _ c.line_of-q.ensures c.queue_row-r.ensures in
-    row_room _ _ c.args.self.now.listing.now.fits c.args.self.now.few _ w _ _ c.row_start-base.ensures c.row_len-n.ensures
+    let w = queue_low _ c.args.self.now.c.now.fits _ _ _ c.line_of-q.ensures c.queue_row-r.ensures in
+    row_room _ _ c.args.self.now.c.now.fits c.args.self.now.few _ w _ _ c.row_start-base.ensures c.row_len-n.ensures
 
 pub returns : goal.returns
 returns c =

@@ -9,14 +9,14 @@ pub overflow_mul-n : goal.overflow_mul-n
 overflow_mul-n c =
     let g = c.requires in
     let l = c.loop-i in
-    let w = row_room _ _ c.args.self.now.listing.now.fits c.args.self.now.few l.i (omega arith) _ _ l.invariant.start c.row_len.ensures in
+    let w = row_room _ _ c.args.self.now.c.now.fits c.args.self.now.few l.i (omega arith) _ _ l.invariant.start c.row_len.ensures in
     omega arith
 
 pub overflow_add-n : goal.overflow_add-n
 overflow_add-n c =
     let g = c.requires in
     let l = c.loop-i in
-    let w = row_room _ _ c.args.self.now.listing.now.fits c.args.self.now.few l.i (omega arith) _ _ l.invariant.start c.row_len.ensures in
+    let w = row_room _ _ c.args.self.now.c.now.fits c.args.self.now.few l.i (omega arith) _ _ l.invariant.start c.row_len.ensures in
     omega arith
 
 pub loop-i-preserved : goal.loop-i-preserved
