@@ -127,6 +127,7 @@ fn is_entry_barred(v: &View, t: Thread, base: usize, i: usize) -> bool
 }
 
 // A step's rank in the order.
+#[tactic(auto, unfolding(machine::specs::Next::rank_of))]
 fn rank(k: Step) -> u8
     requires { rank_of k < 256 }
     ensures { result ≡ rank_of k }
@@ -135,6 +136,7 @@ fn rank(k: Step) -> u8
 }
 
 // A step more, where it is not barred; says how many there are now.
+#[tactic(auto, using(cases::proofs::ChoiceLaws::choices), unfolding(crate::specs::Barred::offered, crate::specs::Barred::pushed))]
 fn offer(ranks: &mut [u8; CANDIDATES], count: u8, barred: bool, k: Step) -> u8
     requires { (count < most_candidates) × (rank_of k < 256) }
     ensures { next_with result ranks.new ≡ offered barred k (next_with count ranks.old) }

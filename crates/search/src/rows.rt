@@ -66,6 +66,7 @@ fn has_mark(x: &[u32; LANES], base: usize, n: usize, mark: u32) -> bool
 
 impl<'a> View<'a> {
     // How many entries a row has.
+    #[tactic(auto, unfolding(crate::specs::Rows::row_len))]
     pub(crate) fn row_len(&self, r: Row) -> usize
         requires { r.0 < rows_in self.now.c.now.numbers }
         ensures { result ≡ row_len self.now.c.now.numbers self.now.x.now r.0 }

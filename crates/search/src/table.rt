@@ -21,6 +21,7 @@ fn fold(h: u64) -> u32
 }
 
 // A number of 64 bits with a lane more mixed in: both halves and the lane, times an odd number.
+#[tactic(auto, unfolding(crate::specs::Table::mixed))]
 fn mix(h: u64, lane: u32) -> u64
     ensures { result ≡ mixed h lane }
 {

@@ -40,6 +40,7 @@ fn carry(x: &mut [u32; LANES], at: usize, to: usize, tag: u32, word: u32)
     x[to - 1] = word;
 }
 
+#[tactic(auto, unfolding(crate::specs::Taken::counted))]
 fn count(x: &mut [u32; LANES], at: usize)
     requires { (at < most_lanes) × (get_or x.old at 0 < all_code) }
     ensures { x.new ≡ counted x.old at }
@@ -47,6 +48,7 @@ fn count(x: &mut [u32; LANES], at: usize)
     x[at] = x[at] + 1;
 }
 
+#[tactic(auto, unfolding(crate::specs::Taken::discounted))]
 fn discount(x: &mut [u32; LANES], at: usize)
     requires { (at < most_lanes) × (0 < get_or x.old at 0) }
     ensures { x.new ≡ discounted x.old at }
@@ -120,6 +122,7 @@ fn entry_word(op: u32, word: u32, register: u32) -> u32
 }
 
 // Stores, flushes, flush-opts and sfences join the end of the thread's buffer.
+#[tactic(auto, unfolding(crate::specs::Taken::awaited_lanes))]
 fn await_entry(c: &Listing, x: &mut [u32; LANES], t: Thread, at: usize)
     requires { CodeHere c.now.numbers x.old t.0 at }
     ensures { x.new ≡ awaited_lanes c.now.numbers x.old t.0 at }
@@ -131,6 +134,7 @@ fn await_entry(c: &Listing, x: &mut [u32; LANES], t: Thread, at: usize)
 }
 
 // A load's register takes the word that the load finds.
+#[tactic(auto, unfolding(crate::specs::Taken::took_lanes))]
 fn take_load(c: &Listing, x: &mut [u32; LANES], t: Thread, at: usize)
     requires { CodeHere c.now.numbers x.old t.0 at }
     ensures { x.new ≡ took_lanes c.now.numbers x.old t.0 at }
@@ -141,6 +145,7 @@ fn take_load(c: &Listing, x: &mut [u32; LANES], t: Thread, at: usize)
 }
 
 // An exchange's or a compare's register takes the word read.
+#[tactic(auto, unfolding(crate::specs::Taken::fetched_lanes))]
 fn fetch(c: &Listing, x: &mut [u32; LANES], t: Thread, at: usize)
     requires { CodeHere c.now.numbers x.old t.0 at }
     ensures { x.new ≡ fetched_lanes c.now.numbers x.old t.0 at }
