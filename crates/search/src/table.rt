@@ -48,7 +48,8 @@ pub(crate) fn bucket(limit: u32, key: &[u32; LANES], n: usize) -> u32
 }
 
 // Do the n words from `at` on equal the first n of the key?
-fn is_same<'a, 'k>(memory: &'a [u32], at: usize, key: &'k [u32; LANES], n: usize) -> bool
+#[tactic(auto, using(crate::proofs::table::CompareLaws::same_lanes))]
+fn is_same(memory: &[u32], at: usize, key: &[u32; LANES], n: usize) -> bool
     requires { (at + n ≤ length memory.now) × (n ≤ most_lanes) }
     ensures { result ≡ eq_lanes (take n key.now) (part at n memory.now) }
 {
@@ -56,7 +57,7 @@ fn is_same<'a, 'k>(memory: &'a [u32], at: usize, key: &'k [u32; LANES], n: usize
 }
 
 // Does the record at `at` hold the first n lanes of the key, and no more?
-fn is_record<'a, 'k>(memory: &'a [u32], at: usize, key: &'k [u32; LANES], n: usize) -> bool
+fn is_record(memory: &[u32], at: usize, key: &[u32; LANES], n: usize) -> bool
     requires { (at + record_words ≤ length memory.now) × (get_or memory.now (at + 1) 0 ≤ most_lanes)
         × (n ≤ most_lanes) }
     ensures { result ≡ eq_lanes (take n key.now) (key_at memory.now at) }
@@ -68,12 +69,12 @@ fn is_record<'a, 'k>(memory: &'a [u32], at: usize, key: &'k [u32; LANES], n: usi
 }
 
 // Is the key among those kept? b is its bucket.
-pub(crate) fn is_kept<'a, 'k>(
-    memory: &'a [u32],
+pub(crate) fn is_kept(
+    memory: &[u32],
     limit: u32,
     count: u32,
     b: u32,
-    key: &'k [u32; LANES],
+    key: &[u32; LANES],
     n: usize,
 ) -> bool
     requires { Chained memory.now limit count × (b < limit) × (b ≡ bucket_of limit (take n key.now))
@@ -92,7 +93,8 @@ pub(crate) fn is_kept<'a, 'k>(
 }
 
 // The first n lanes of the key, from `at` on.
-fn copy<'k>(memory: &mut [u32], at: usize, key: &'k [u32; LANES], n: usize)
+#[tactic(auto, using(crate::proofs::table::CopyLaws::copied))]
+fn copy(memory: &mut [u32], at: usize, key: &[u32; LANES], n: usize)
     requires { (at + n ≤ length memory.old) × (n ≤ most_lanes) }
     ensures { memory.new ≡ sets memory.old at (take n key.now) }
 {
@@ -100,14 +102,7 @@ fn copy<'k>(memory: &mut [u32], at: usize, key: &'k [u32; LANES], n: usize)
 }
 
 // The key as one more record, in front of its bucket's chain.
-pub(crate) fn keep<'k>(
-    memory: &mut [u32],
-    limit: u32,
-    count: u32,
-    b: u32,
-    key: &'k [u32; LANES],
-    n: usize,
-)
+pub(crate) fn keep(memory: &mut [u32], limit: u32, count: u32, b: u32, key: &[u32; LANES], n: usize)
     requires { Chained memory.old limit count × (count < limit) × (b < limit)
         × (b ≡ bucket_of limit (take n key.now)) × (n ≤ most_lanes) }
     ensures { Chained memory.new limit (suc count)

@@ -21,6 +21,7 @@ use cases::case::{Line, Location, Register, Step, Thread};
 use cases::operations::{ISSUE, MOVE};
 
 // An entry more before lane `at`: what stands from there to `end` goes two further.
+#[tactic(auto, using(crate::proofs::taken::InPlaceLaws::inserted_made))]
 fn insert(x: &mut [u32; LANES], at: usize, end: usize, tag: u32, word: u32)
     requires { (at ≤ end) × (end + 2 ≤ most_lanes) }
     ensures { x.new ≡ inserted x.old at end tag word }
@@ -31,6 +32,7 @@ fn insert(x: &mut [u32; LANES], at: usize, end: usize, tag: u32, word: u32)
 }
 
 // The entry at lane `at` goes, as tag and word, to just before lane `to`: what stands between comes two nearer.
+#[tactic(auto, using(crate::proofs::taken::InPlaceLaws::carried_made))]
 fn carry(x: &mut [u32; LANES], at: usize, to: usize, tag: u32, word: u32)
     requires { (at + 2 ≤ to) × (to ≤ most_lanes) }
     ensures { x.new ≡ carried x.old at to tag word }
@@ -57,6 +59,7 @@ fn discount(x: &mut [u32; LANES], at: usize)
 }
 
 // An entry more at a row's end.
+#[tactic(auto, unfolding(crate::specs::Taken::row_joined))]
 fn join(c: &Listing, x: &mut [u32; LANES], r: Row, tag: u32, word: u32)
     requires { RoomForOne c.now.numbers x.old × (r.0 < rows_in c.now.numbers) }
     ensures { x.new ≡ row_joined c.now.numbers x.old r.0 tag word }
@@ -69,6 +72,7 @@ fn join(c: &Listing, x: &mut [u32; LANES], r: Row, tag: u32, word: u32)
 }
 
 // The entry at a lane of a row leaves it.
+#[tactic(auto, unfolding(crate::specs::Taken::row_left))]
 fn leave(c: &Listing, x: &mut [u32; LANES], r: Row, at: usize)
     requires { FewEntries c.now.numbers x.old × (r.0 < rows_in c.now.numbers)
         × (0 < row_len c.now.numbers x.old r.0) × (pool_at c.now.numbers ≤ at)
@@ -81,6 +85,7 @@ fn leave(c: &Listing, x: &mut [u32; LANES], r: Row, at: usize)
 }
 
 // The entry at a lane of a buffer's row goes to the end of a line's queue, with another tag.
+#[tactic(auto, unfolding(crate::specs::Taken::row_carried))]
 #[inline(always)]
 fn carry_over(c: &Listing, x: &mut [u32; LANES], t: Thread, at: usize, q: Line, tag: u32)
     requires { FewEntries c.now.numbers x.old × (t.0 < threads_in c.now.numbers)
@@ -156,6 +161,7 @@ fn fetch(c: &Listing, x: &mut [u32; LANES], t: Thread, at: usize)
 }
 
 // The word goes to the end of the location's queue.
+#[tactic(auto, unfolding(crate::specs::Taken::exchanged_lanes))]
 fn exchange(c: &Listing, x: &mut [u32; LANES], t: Thread, at: usize)
     requires { CodeHere c.now.numbers x.old t.0 at }
     ensures { x.new ≡ exchanged_lanes c.now.numbers x.old t.0 at }
@@ -172,6 +178,7 @@ fn exchange(c: &Listing, x: &mut [u32; LANES], t: Thread, at: usize)
 }
 
 // An exchange where the word read is the register's.
+#[tactic(auto, using(cases::proofs::ChoiceLaws::choices), unfolding(crate::specs::Taken::compared_lanes, crate::specs::Taken::fetched_lanes))]
 fn compare(c: &Listing, x: &mut [u32; LANES], t: Thread, at: usize)
     requires { CodeHere c.now.numbers x.old t.0 at }
     ensures { x.new ≡ compared_lanes c.now.numbers x.old t.0 at }
@@ -200,6 +207,7 @@ fn perform(c: &Listing, x: &mut [u32; LANES], t: Thread, at: usize)
     }
 }
 
+#[tactic(auto, unfolding(crate::specs::Taken::issue_lanes))]
 fn issue(c: &Listing, x: &mut [u32; LANES], t: Thread)
     requires { RoomForOne c.now.numbers x.old × (t.0 < threads_in c.now.numbers)
         × (get_or x.old t.0 0 < count_in c.now.numbers t.0) }
@@ -225,6 +233,7 @@ fn move_tagged(c: &Listing, x: &mut [u32; LANES], t: Thread, at: usize, tag: u32
     }
 }
 
+#[tactic(auto, unfolding(crate::specs::Taken::move_lanes))]
 fn move_entry(c: &Listing, x: &mut [u32; LANES], t: Thread, i: usize)
     requires { FewEntries c.now.numbers x.old × (t.0 < threads_in c.now.numbers)
         × (i < row_len c.now.numbers x.old t.0) }
@@ -235,6 +244,7 @@ fn move_entry(c: &Listing, x: &mut [u32; LANES], t: Thread, i: usize)
     move_tagged(c, x, t, at, tag);
 }
 
+#[tactic(auto, using(cases::proofs::ChoiceLaws::choices), unfolding(crate::specs::Taken::persist_lanes, crate::specs::Taken::settled_lanes))]
 fn persist(c: &Listing, x: &mut [u32; LANES], q: Line)
     requires { FewEntries c.now.numbers x.old × (q.0 < lines_in c.now.numbers)
         × (0 < row_len c.now.numbers x.old (queue_row c.now.numbers q.0)) }

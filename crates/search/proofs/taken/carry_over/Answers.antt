@@ -1,7 +1,6 @@
 -- `carry_over` meets its contract. Assumes nothing.
 use Rattle.std.proofs.Common.{◌+◌, ◌≤◌, arith}
 use Rattle.search.specs.Sizes.{most_lanes}
-use Rattle.search.specs.Taken.{row_carried}
 use Rattle.search.proofs.taken.RowLenLaws.{carried_within, carried_discount, carried_count}
 use Rattle.search.proofs.taken.carry_over.Goals as goal
 use Rattle.search.proofs.taken.carry_over.Goals.{After-row_start-to}
@@ -43,17 +42,3 @@ count-requires c =
     carried_count _ _ c.args.c.now.fits c.requires.0 _ _ (omega arith) c.requires.5 c.requires.4 c.requires.3 _ _ _ _ _
     c.carry.ensures (omega arith) _ _ _ (omega arith) (omega arith) c.discount.ensures
     c.row_len_at-2.ensures
-
-pub returns : goal.returns
-unfolding row_carried
-returns c =
-    rw (
-      c.count.ensures,
-      c.discount.ensures,
-      c.carry.ensures,
-      c.row_start-to.ensures,
-      c.row_len_at-2.ensures,
-      c.row_len_at.ensures,
-      c.buffer_row.ensures,
-      c.queue_row-r.ensures,
-    )

@@ -1,6 +1,5 @@
 -- `issue` meets its contract. Assumes nothing.
 use Rattle.std.proofs.Common.{arith}
-use Rattle.search.specs.Taken.{issue_lanes}
 use Rattle.search.proofs.rows.RowLoopLaws.{code_low}
 use Rattle.search.proofs.taken.RowLenLaws.{code_here}
 use Rattle.search.proofs.taken.issue.Goals as goal
@@ -21,8 +20,3 @@ perform-requires c =
     let p = c.requires in
     code_here _ _ _ _ _ c.args.c.now.fits p.0 p.1 p.2 c.code_at-at.ensures
     c.count.ensures
-
-pub returns : goal.returns
-unfolding issue_lanes
-returns c =
-    rw (c.perform.ensures, c.count.ensures, c.code_at-at.ensures)

@@ -1,5 +1,4 @@
 -- `join` meets its contract. Assumes nothing.
-use Rattle.search.specs.Taken.{row_joined}
 use Rattle.search.proofs.taken.RowLenLaws.{joined_within, joined_count}
 use Rattle.search.proofs.taken.join.Goals as goal
 
@@ -12,14 +11,3 @@ pub count-requires : goal.count-requires
 count-requires c =
     joined_count _ _ c.args.c.now.fits c.requires.0 _ _ _ c.requires.1 c.row_start-at.ensures _ _ _ _
     c.insert.ensures c.row_len_at.ensures
-
-pub returns : goal.returns
-unfolding row_joined
-returns c =
-    rw (
-      c.count.ensures,
-      c.insert.ensures,
-      c.row_start-at.ensures,
-      c.pool_end-end.ensures,
-      c.row_len_at.ensures,
-    )

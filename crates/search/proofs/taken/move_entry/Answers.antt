@@ -1,6 +1,5 @@
 -- `move_entry` meets its contract. Assumes nothing.
 use Rattle.std.proofs.Common.{◌+◌, ◌*◌, arith}
-use Rattle.search.specs.Taken.{move_lanes}
 use Rattle.search.proofs.taken.RowLenLaws.{EntryWithin, entry_within}
 use Rattle.search.proofs.taken.move_entry.Goals as goal
 use Rattle.search.proofs.taken.move_entry.Goals.{After-row_start}
@@ -28,8 +27,3 @@ move_tagged-requires c =
     let p = c.requires in
     let e = entry (goal.at.move_tagged-requires c).After-row_start in
     (p.0, p.1, omega arith, e.behind, e.before)
-
-pub returns : goal.returns
-unfolding move_lanes
-returns c =
-    rw (c.move_tagged.ensures, c.row_start.ensures, c.buffer_row.ensures)

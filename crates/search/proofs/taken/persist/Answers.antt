@@ -2,7 +2,6 @@
 use Rattle.std.proofs.Common.{◌+◌, ◌*◌, arith}
 use Rattle.search.specs.Rows.{queue_row}
 use Rattle.search.proofs.taken.RowLenLaws.{EntryWithin, entry_within}
-use Rattle.search.proofs.taken.TakenLaws.{persist_write, persist_marker}
 use Rattle.search.proofs.taken.persist.Goals as goal
 use Rattle.search.proofs.taken.persist.Goals.{After-row_start-at}
 
@@ -33,13 +32,3 @@ leave-requires c =
     let p = c.requires in
     let e = entry (goal.at.leave-requires c).After-row_start-at in
     rw c.queue_row-r.ensures (p.0, omega arith, p.2, omega arith, omega arith)
-
-pub returns-then-tag-locations : goal.returns-then-tag-locations
-returns-then-tag-locations c =
-    persist_write _ _ _ _ _ c.queue_row-r.ensures c.row_start-at.ensures _
-    c.leave.ensures _ (rw c.locations.ensures at c.if-tag-locations.true) c.word_at.ensures
-
-pub returns-else-tag-locations : goal.returns-else-tag-locations
-returns-else-tag-locations c =
-    persist_marker _ _ _ _ _ c.queue_row-r.ensures c.row_start-at.ensures _
-    c.leave.ensures (rw c.locations.ensures at c.if-tag-locations.false)
