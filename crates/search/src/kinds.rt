@@ -1,7 +1,7 @@
 // What a buffer's entry is: its lane has it as a number, its tag. Nothing else reads one.
 ghost use Rattle.search.specs.Kinds.{Says};
 
-use crate::sizes::{FLUSH_OPT_TAG, FLUSH_TAG, SFENCE_TAG};
+use crate::sizes::TAGS;
 use cases::case::Location;
 
 #[derive(Clone, Copy)]
@@ -15,14 +15,11 @@ pub enum Kind {
 pub(crate) fn kind_of(tag: u32) -> Kind
     ensures { Says result tag }
 {
-    if SFENCE_TAG <= tag {
-        return Kind::Sfence;
+    let l = Location((tag % TAGS) as u8);
+    match tag / TAGS {
+        0 => Kind::Store(l),
+        1 => Kind::Flush(l),
+        2 => Kind::FlushOpt(l),
+        _ => Kind::Sfence,
     }
-    if FLUSH_OPT_TAG <= tag {
-        return Kind::FlushOpt(Location((tag - FLUSH_OPT_TAG) as u8));
-    }
-    if FLUSH_TAG <= tag {
-        return Kind::Flush(Location((tag - FLUSH_TAG) as u8));
-    }
-    Kind::Store(Location(tag as u8))
 }
