@@ -52,6 +52,7 @@ pub(crate) fn mark_of(t: Thread) -> u32
 }
 
 // Does one of n entries from base on have that tag?
+#[tactic(auto, using(crate::proofs::rows::MarkedLoopLaws::mark_next, crate::proofs::rows::MarkedLoopLaws::mark_here, crate::proofs::rows::MarkedLoopLaws::mark_end))]
 fn has_mark(x: &[u32; LANES], base: usize, n: usize, mark: u32) -> bool
     requires { base + 2 * n ≤ most_lanes }
     ensures { result ≡ marked_among x.now mark base n false }

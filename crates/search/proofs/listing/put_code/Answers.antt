@@ -1,5 +1,5 @@
 use Rattle.std.proofs.Common.{arith}
-use Rattle.search.proofs.listing.ListingLoopLaws.{codes_start, codes_next, codes_end}
+use Rattle.search.proofs.listing.ListingLoopLaws.{codes_start, codes_next}
 use Rattle.search.proofs.listing.put_code.Goals as goal
 
 pub loop-i-init : goal.loop-i-init
@@ -7,6 +7,3 @@ loop-i-init c = codes_start _ _
 
 pub loop-i-preserved : goal.loop-i-preserved
 loop-i-preserved c = codes_next c.loop-i.invariant (omega arith)
-
-pub returns : goal.returns
-returns c = codes_end c.loop-i.invariant (omega arith)

@@ -1,11 +1,8 @@
 use Rattle.std.proofs.Common.{arith}
 use Rattle.cases.proofs.ChoiceLaws.{told}
-use Rattle.machine.proofs.lists.AnyLaws.{any_start, any_next, any_here, any_end}
+use Rattle.machine.proofs.lists.AnyLaws.{any_next, any_here, any_end}
 use Rattle.search.specs.Barred.{bars_at}
 use Rattle.search.proofs.next.is_barred.Goals as goal
-
-pub loop-i-init : goal.loop-i-init
-loop-i-init c = any_start _ _
 
 pub returns-then-is_bar : goal.returns-then-is_bar
 unfolding bars_at

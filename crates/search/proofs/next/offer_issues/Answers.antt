@@ -1,11 +1,8 @@
 use Rattle.std.proofs.Common.{arith}
 use Rattle.machine.specs.Next.{rank_of}
-use Rattle.search.proofs.next.RanksLoopLaws.{offered_start, offered_low, offered_next}
+use Rattle.search.proofs.next.RanksLoopLaws.{offered_low, offered_next}
 use Rattle.search.proofs.next.RanksLoopLaws.{offered_end}
 use Rattle.search.proofs.next.offer_issues.Goals as goal
-
-pub loop-t-init : goal.loop-t-init
-loop-t-init c = offered_start _ _ _ _
 
 pub offer-n-requires : goal.offer-n-requires
 unfolding rank_of

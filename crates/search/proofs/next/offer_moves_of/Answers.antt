@@ -1,17 +1,8 @@
 use Rattle.std.proofs.Common.{arith}
 use Rattle.machine.specs.Next.{rank_of}
 use Rattle.search.proofs.rows.RowLoopLaws.{row_room}
-use Rattle.search.proofs.next.RanksLoopLaws.{offered_start, offered_low, offered_next, offered_end, move_made}
+use Rattle.search.proofs.next.RanksLoopLaws.{offered_low, offered_next, offered_end, move_made}
 use Rattle.search.proofs.next.offer_moves_of.Goals as goal
-
-pub overflow_cast-many : goal.overflow_cast-many
-overflow_cast-many c =
-    let n = rw c.buffer_row.ensures at c.row_len-many.ensures in
-    let w = c.requires.2 in
-    omega arith
-
-pub loop-i-init : goal.loop-i-init
-loop-i-init c = (rw c.buffer_row.ensures at c.row_len-many.ensures, offered_start _ _ _ _)
 
 pub is_entry_barred-barred-requires : goal.is_entry_barred-barred-requires
 is_entry_barred-barred-requires c =
@@ -27,12 +18,6 @@ offer-n-requires c =
     let w = c.args.v.now.c.now.fits.few_threads in
     let m = i.0 in
     (offered_low i.1 (omega arith) (omega arith), omega arith)
-
-pub overflow_cast-i : goal.overflow_cast-i
-overflow_cast-i c =
-    let m = c.loop-i.invariant.0 in
-    let w = c.requires.2 in
-    omega arith
 
 pub loop-i-preserved : goal.loop-i-preserved
 loop-i-preserved c =

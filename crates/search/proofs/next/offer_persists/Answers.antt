@@ -1,12 +1,9 @@
 use Rattle.std.proofs.Common.{arith}
 use Rattle.machine.specs.Next.{rank_of}
 use Rattle.search.specs.Barred.{persist_barred}
-use Rattle.search.proofs.next.RanksLoopLaws.{offered_start, offered_low, offered_next}
+use Rattle.search.proofs.next.RanksLoopLaws.{offered_low, offered_next}
 use Rattle.search.proofs.next.RanksLoopLaws.{offered_end}
 use Rattle.search.proofs.next.offer_persists.Goals as goal
-
-pub loop-q-init : goal.loop-q-init
-loop-q-init c = offered_start _ _ _ _
 
 pub offer-n-requires : goal.offer-n-requires
 unfolding rank_of

@@ -2,12 +2,9 @@ use Rattle.std.proofs.Common.{◌+◌, ◌*◌, ◌≤◌, arith}
 use Rattle.search.specs.Sizes.{most_lanes}
 use Rattle.search.specs.Rows.{queue_row}
 use Rattle.search.proofs.rows.RowLoopLaws.{row_room}
-use Rattle.search.proofs.rows.MarkedLoopLaws.{marked_start, marked_next, marked_here, marked_end}
+use Rattle.search.proofs.rows.MarkedLoopLaws.{marked_next, marked_here, marked_end}
 use Rattle.search.proofs.rows.View.is_marked.Goals as goal
 use Rattle.search.proofs.rows.View.is_marked.Goals.{After-row_len-n}
-
-pub loop-q-init : goal.loop-q-init
-loop-q-init c = marked_start _ _ _ _ _ c.queue_row.ensures c.row_start-base.ensures
 
 -- a queue's entries stand within the lanes
 within : (c : After-row_len-n) → c.loop-q.base + 2 * c.row_len-n.result ≤ most_lanes

@@ -1,18 +1,6 @@
 -- `queued` meets its contract. Assumes nothing.
-use Rattle.std.proofs.Common.{arith}
 use Rattle.search.proofs.rows.RowLoopLaws.{queue_low, row_room, queued_made}
 use Rattle.search.proofs.rows.View.queued.Goals as goal
-
-pub row_start-base-requires : goal.row_start-base-requires
-row_start-base-requires c =
-    let g = c.requires in
-    let w = queue_low _ c.args.self.now.c.now.fits _ _ _ c.line_of-q.ensures c.queue_row-r.ensures in
-    (omega arith)
-
-pub row_len-n-requires : goal.row_len-n-requires
-row_len-n-requires c =
-    let g = c.requires in
-    (queue_low _ c.args.self.now.c.now.fits _ _ _ c.line_of-q.ensures c.queue_row-r.ensures)
 
 pub newest-requires : goal.newest-requires
 newest-requires c =

@@ -1,5 +1,5 @@
 use Rattle.std.proofs.Common.{arith}
-use Rattle.search.proofs.rows.RowLoopLaws.{rows_start, rows_next, rows_end, row_room}
+use Rattle.search.proofs.rows.RowLoopLaws.{rows_start, rows_next, row_room}
 use Rattle.search.proofs.rows.View.row_start.Goals as goal
 
 pub loop-i-init : goal.loop-i-init
@@ -21,6 +21,3 @@ overflow_add-n c =
 
 pub loop-i-preserved : goal.loop-i-preserved
 loop-i-preserved c = rows_next c.loop-i.invariant (omega arith) _ c.row_len.ensures
-
-pub returns : goal.returns
-returns c = rows_end c.loop-i.invariant (omega arith)
