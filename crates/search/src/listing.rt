@@ -23,6 +23,7 @@ pub struct Listing {
 }
 
 // Some numbers, from a place on.
+#[tactic(auto, using(crate::proofs::listing::ListingLoopLaws::numbers_next))]
 fn put_numbers(c: &mut [u32; LISTING], at: usize, numbers: &[u8])
     requires { at + length numbers.now ≤ all_listing }
     ensures { c.new ≡ sets c.old at numbers.now }
@@ -33,6 +34,7 @@ fn put_numbers(c: &mut [u32; LISTING], at: usize, numbers: &[u8])
 }
 
 // All instructions, four numbers each.
+#[tactic(auto, using(crate::proofs::listing::ListingLoopLaws::codes_start, crate::proofs::listing::ListingLoopLaws::codes_next))]
 fn put_code(c: &mut [u32; LISTING], code: &[Instruction; CODE])
     ensures { c.new ≡ sets c.old codes_at (join_to all_code (instruction_numbers code.now)) }
 {

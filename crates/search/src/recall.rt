@@ -24,6 +24,7 @@ pub enum Met {
 }
 
 // Looks a state up, and keeps it where it is new: `left` more have room, of `limit` in all.
+#[tactic(auto, using(crate::proofs::recall::MeetLaws::meets_before, crate::proofs::recall::MeetLaws::meets_full, crate::proofs::recall::MeetLaws::meets_new))]
 fn meet(v: &View, limit: u32, left: u32, memory: &mut [u32]) -> Met
     requires { (0 < limit) × (left ≤ limit) × Chained memory.old limit (limit - left) }
     ensures { Meets result memory.old memory.new limit left

@@ -31,6 +31,7 @@ pub(crate) fn buffer_row(t: Thread) -> Row
 
 // Of n entries from base on, the word of the newest with that tag, else the word given: the first one found from
 // their end.
+#[tactic(auto, using(crate::proofs::rows::RowLoopLaws::newest_next, crate::proofs::rows::RowLoopLaws::newest_here, crate::proofs::rows::RowLoopLaws::newest_end))]
 fn newest(x: &[u32; LANES], base: usize, tag: u32, other: u32, n: usize) -> u32
     requires { base + 2 * n ≤ most_lanes }
     ensures { result ≡ newest_lane x.now base tag other n }
@@ -95,6 +96,7 @@ impl<'a> View<'a> {
     }
 
     // What stands for a location where no buffer is looked at.
+    #[tactic(auto, using(crate::proofs::rows::RowLoopLaws::row_room, crate::proofs::rows::RowLoopLaws::queued_made))]
     pub(crate) fn queued(&self, l: Location) -> u32
         requires { l.0 < locations_in self.now.c.now.numbers }
         ensures { result ≡ queued_lane self.now.c.now.numbers self.now.x.now l.0 }
@@ -107,6 +109,7 @@ impl<'a> View<'a> {
     }
 
     // What a load takes.
+    #[tactic(auto, using(crate::proofs::rows::RowLoopLaws::row_room, crate::proofs::rows::RowLoopLaws::loaded_made))]
     pub(crate) fn loaded(&self, t: Thread, l: Location) -> u32
         requires { (t.0 < threads_in self.now.c.now.numbers)
             × (l.0 < locations_in self.now.c.now.numbers) }

@@ -29,6 +29,7 @@ fn mix(h: u64, lane: u32) -> u64
 }
 
 // The bucket of a key, its first n lanes. Four numbers take them in turn, since each mixing waits for the one before.
+#[tactic(auto, using(crate::proofs::table::MixLaws::mixed_next, crate::proofs::table::MixLaws::mixed_end))]
 pub(crate) fn bucket(limit: u32, key: &[u32; LANES], n: usize) -> u32
     requires { (n ≤ most_lanes) × (0 < limit) }
     ensures { (result ≡ bucket_of limit (take n key.now)) × (result < limit) }
@@ -57,6 +58,7 @@ fn is_same(memory: &[u32], at: usize, key: &[u32; LANES], n: usize) -> bool
 }
 
 // Does the record at `at` hold the first n lanes of the key, and no more?
+#[tactic(auto, using(crate::proofs::table::CompareLaws::record_other, crate::proofs::table::CompareLaws::record_same))]
 fn is_record(memory: &[u32], at: usize, key: &[u32; LANES], n: usize) -> bool
     requires { (at + record_words ≤ length memory.now) × (get_or memory.now (at + 1) 0 ≤ most_lanes)
         × (n ≤ most_lanes) }
