@@ -86,7 +86,6 @@ fn leave(c: &Listing, x: &mut [u32; LANES], r: Row, at: usize)
 
 // The entry at a lane of a buffer's row goes to the end of a line's queue, with another tag.
 #[tactic(auto, unfolding(crate::specs::Taken::row_carried))]
-#[inline(always)]
 fn carry_over(c: &Listing, x: &mut [u32; LANES], t: Thread, at: usize, q: Line, tag: u32)
     requires { FewEntries c.now.numbers x.old × (t.0 < threads_in c.now.numbers)
         × (q.0 < lines_in c.now.numbers) × (0 < row_len c.now.numbers x.old t.0) × (pool_at c.now.numbers ≤ at)
