@@ -58,8 +58,9 @@ fn discount(x: &mut [u32; LANES], at: usize)
     x[at] = x[at] - 1;
 }
 
-// An entry more at a row's end.
+// An entry more at a row's end. A hint where the machine's code is faster for it, here and below.
 #[tactic(auto, unfolding(crate::specs::Taken::row_joined))]
+#[inline(always)]
 fn join(c: &Listing, x: &mut [u32; LANES], r: Row, tag: u32, word: u32)
     requires { RoomForOne c.now.numbers x.old × (r.0 < rows_in c.now.numbers) }
     ensures { x.new ≡ row_joined c.now.numbers x.old r.0 tag word }
@@ -86,6 +87,7 @@ fn leave(c: &Listing, x: &mut [u32; LANES], r: Row, at: usize)
 
 // The entry at a lane of a buffer's row goes to the end of a line's queue, with another tag.
 #[tactic(auto, unfolding(crate::specs::Taken::row_carried))]
+#[inline(always)]
 fn carry_over(c: &Listing, x: &mut [u32; LANES], t: Thread, at: usize, q: Line, tag: u32)
     requires { FewEntries c.now.numbers x.old × (t.0 < threads_in c.now.numbers)
         × (q.0 < lines_in c.now.numbers) × (0 < row_len c.now.numbers x.old t.0) × (pool_at c.now.numbers ≤ at)
@@ -161,6 +163,7 @@ fn fetch(c: &Listing, x: &mut [u32; LANES], t: Thread, at: usize)
 
 // The word goes to the end of the location's queue.
 #[tactic(auto, unfolding(crate::specs::Taken::exchanged_lanes))]
+#[inline(never)]
 fn exchange(c: &Listing, x: &mut [u32; LANES], t: Thread, at: usize)
     requires { CodeHere c.now.numbers x.old t.0 at }
     ensures { x.new ≡ exchanged_lanes c.now.numbers x.old t.0 at }

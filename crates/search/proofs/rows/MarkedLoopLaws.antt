@@ -22,12 +22,6 @@ pub record MarkSoFar (x : List ℕ) (mark base n i : ℕ) : Type 0 where
   pub far : i ≤ n
   pub rest : marked_among x mark (base + 2 * i) (n - i) false ≡ marked_among x mark base n false
 
-pub mark_start : (x : List ℕ) (mark base n : ℕ) → MarkSoFar x mark base n 0
-mark_start x mark base n =
-    let e : base + 2 * 0 ≡ base = omega arith in
-    let f : n - 0 ≡ n = omega arith in
-    record { far = omega arith; rest = rw (e, f) refl }
-
 module _ {x : List ℕ} {mark base n i : ℕ} (o : MarkSoFar x mark base n i) where
   module _ (h : i < n) where
     mark_at : pick (eqb (get_or x (base + 2 * i) 0) mark) true (marked_among x mark (base + 2 * i + 2) (n - (i + 1)) false)
@@ -67,13 +61,6 @@ pub record MarkedSoFar (c x : List ℕ) (mark base q : ℕ) : Type 0 where
   pub start : base ≡ row_start c x (threads_in c + q)
   pub rest : marked_from c x mark base (threads_in c + q) (lines_in c - q)
       ≡ marked_from c x mark (row_start c x (threads_in c)) (threads_in c) (lines_in c)
-
-pub marked_start : (c x : List ℕ) (mark base r : ℕ) → r ≡ threads_in c + 0 → base ≡ row_start c x r
-    → MarkedSoFar c x mark base 0
-marked_start c x mark base r e s =
-    let f : threads_in c + 0 ≡ threads_in c = omega arith in
-    let g : lines_in c - 0 ≡ lines_in c = omega arith in
-    record { far = omega arith; start = rw e at s; rest = rw (s, e, f, g) refl }
 
 module _ {c x : List ℕ} {mark base q : ℕ} (o : MarkedSoFar c x mark base q) where
   module _ (h : q < lines_in c) (r many : ℕ) (r_is : r ≡ threads_in c + q) (many_is : many ≡ row_len c x r)

@@ -84,9 +84,6 @@ module _ {c x : List ℕ} {r n i : ℕ} (o : RowsSoFar c x r n i) where
       let w = row_next c x i in
       record { far = omega arith; start = omega arith }
 
-  pub rows_end : r ≤ i → n ≡ row_start c x r
-  rows_end h = let e : i ≡ r = let w = o.far in omega arith in rw e at o.start
-
 -- newest_lane: the first i entries say what all n say
 pub record NewestSoFar (x : List ℕ) (base tag other n i : ℕ) : Type 0 where
   pub far : i ≤ n

@@ -1,6 +1,6 @@
 use Rattle.std.proofs.Common.{sym, ◌∙◌, arith}
-use Rattle.search.proofs.table.ChainLaws.{head_within, seek_start, seek_within}
-use Rattle.search.proofs.table.ChainLaws.{seek_size, seek_falls, seek_here, seek_next, seek_end}
+use Rattle.search.proofs.table.ChainLaws.{seek_start}
+use Rattle.search.proofs.table.ChainLaws.{seek_falls, seek_here, seek_next, seek_end}
 use Rattle.search.proofs.table.is_kept.Goals as goal
 
 pub loop-x-init : goal.loop-x-init
