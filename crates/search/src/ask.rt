@@ -15,7 +15,8 @@ use cases::reader;
 use cases::sizes::STEP_SIZE;
 use machine::{steps, work};
 
-// Reached with the number of steps of the run that is shown; refused with the number and the offset.
+// Reached with the number of steps of the run that is shown; refused with the number and the offset. The definitions of
+// specs/Question.antt, and theorems of other crates, are about these four.
 #[derive(Clone, Copy)]
 pub enum Outcome {
     Reached(usize),
@@ -24,7 +25,7 @@ pub enum Outcome {
     Refused(u8, usize),
 }
 
-// 100, 101, 102, or the refusal's number.
+// 100, 101, 102, or the refusal's number: what the C interface hands out.
 pub fn outcome_number(o: Outcome) -> u8
     ensures { result ≡ outcome_no o }
 {
@@ -65,6 +66,7 @@ fn ask(p: &Program, a: &Ask, run: &mut [u8], budget: u32) -> Outcome
     ensures { (result ≡ answer_for (ptso p.now) (reaches a.now) (length run.old) budget)
         × (run.new ≡ shown_for (ptso p.now) (reaches a.now) budget run.old) }
 {
+    // the machine's functions take programs by value
     let s = steps::start_of(*p);
     if run.len() < STEP_SIZE * work::work_in(*p, s) {
         return Outcome::Refused(31, 0);

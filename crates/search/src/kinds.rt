@@ -1,4 +1,4 @@
-// What a buffer's entry is: its lane has it as a number, its tag. Nothing else reads one.
+// What a buffer's entry is. Its lane has it as a number, its tag, as the definitions of lanes say; only here one is read.
 ghost use Rattle.search.specs.Kinds.{Says};
 
 use crate::sizes::TAGS;

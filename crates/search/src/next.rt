@@ -23,7 +23,8 @@ use cases::operations::{ISSUE, MOVE, PERSIST};
 use cases::sizes::INSTRUCTIONS;
 use machine::sizes::{CANDIDATES, RANKS};
 
-// The first `count` ranks are those of the legal next steps; the others are 0.
+// The first `count` ranks are those of the legal next steps; the others are 0. A buffer with its length, since there is
+// no heap, and a list that is handed back by value has no other length.
 #[derive(Clone, Copy)]
 pub struct Ranks {
     pub count: u8,

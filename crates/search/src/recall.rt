@@ -15,7 +15,8 @@ use crate::{next, shown, table, taken, wants};
 use cases::case::Ask;
 use cases::sizes::STEP_SIZE;
 
-// A state was met before; it is new, and kept; it is new, and there is no room for it.
+// A state was met before; it is new, and kept; it is new, and there is no room for it. Three answers, none of them an
+// error: no Option or Result says it.
 #[derive(Clone, Copy)]
 pub enum Met {
     Before,
@@ -23,6 +24,8 @@ pub enum Met {
     Full,
 }
 
+// The lent words, limit and count stay apart here and in table.rt: that they belong together (Chained) is no proposition,
+// so no struct can hold it as a ghost field, and each function would have to promise that the same words are lent.
 // Looks a state up, and keeps it where it is new: `left` more have room, of `limit` in all.
 #[tactic(auto, using(crate::proofs::recall::MeetLaws::meets_before, crate::proofs::recall::MeetLaws::meets_full, crate::proofs::recall::MeetLaws::meets_new))]
 fn meet(v: &View, limit: u32, left: u32, memory: &mut [u32]) -> Met

@@ -13,6 +13,7 @@ pub(crate) fn put_step(out: &mut [u8], at: usize, k: Step)
     requires { at + step_size ≤ length out.old }
     ensures { out.new ≡ sets out.old at (record_bytes (Take k)) }
 {
+    // a payload of 4 bytes and kind 6, two bytes each, then the payload
     let record = [4, 0, 6, 0, k.thread.0, k.code, k.position, k.location.0];
     out[at..at + STEP_SIZE].copy_from_slice(&record);
 }

@@ -84,6 +84,7 @@ pub(crate) fn is_kept(
     ensures { result ≡ among (take n key.now) (keys_in memory.now limit count) }
 {
     let mut x = memory[b as usize];
+    // a chain has no count to go by
     while x != 0 {
         let at = (limit as usize) + ((x - 1) as usize) * RECORD;
         if is_record(memory, at, key, n) {

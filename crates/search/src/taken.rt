@@ -42,12 +42,13 @@ fn carry(x: &mut [u32; LANES], at: usize, to: usize, tag: u32, word: u32)
     x[to - 1] = word;
 }
 
+// A number of a lane one more, and one less: one function for both would only hide which.
 #[tactic(auto, unfolding(crate::specs::Taken::counted))]
 fn count(x: &mut [u32; LANES], at: usize)
     requires { (at < most_lanes) × (get_or x.old at 0 < all_code) }
     ensures { x.new ≡ counted x.old at }
 {
-    x[at] = x[at] + 1;
+    x[at] += 1;
 }
 
 #[tactic(auto, unfolding(crate::specs::Taken::discounted))]
@@ -55,7 +56,7 @@ fn discount(x: &mut [u32; LANES], at: usize)
     requires { (at < most_lanes) × (0 < get_or x.old at 0) }
     ensures { x.new ≡ discounted x.old at }
 {
-    x[at] = x[at] - 1;
+    x[at] -= 1;
 }
 
 // An entry more at a row's end. A hint where the machine's code is faster for it, here and below.

@@ -14,7 +14,8 @@ use crate::{next, shown, taken, wants};
 use cases::case::Ask;
 use cases::sizes::STEP_SIZE;
 
-// A run that reaches, with its length; or none does, and so much of the budget is left; or it is used up.
+// A run that reaches, with its length; or none does, and so much of the budget is left; or it is used up. Three answers,
+// none of them an error: no Option or Result says it.
 #[derive(Clone, Copy)]
 pub enum Walked {
     Found(usize),

@@ -1,5 +1,4 @@
--- Laws of lent words with zeros in front: the loop that writes them, that no record stands in them, and all of
--- them cleared. Assumes nothing.
+-- Laws of lent words with zeros in front: that no record stands in them, and all of them cleared. Assumes nothing.
 use Prim.Native.Nat.{ℕ, ◌*◌, ◌≤◌, ◌<◌}
 use mathlib.Core.Path.{◌≡◌}
 use mathlib.Core.List.{List, ◌++◌, append-nil}

@@ -1,5 +1,4 @@
--- Laws of lanes that are compared: the loop that compares a key with what stands in the lent words, and a record that
--- is compared as a whole. Assumes nothing.
+-- Laws of lanes that are compared: a key with as many of the lent words, and with a record as a whole. Assumes nothing.
 use Prim.Native.Nat.{ℕ, ◌+◌, ◌-◌, ◌≤◌}
 use mathlib.Core.Path.{◌≡◌, refl, sym, ap, ◌∙◌}
 use mathlib.Core.Logic.{◌≢◌}

@@ -1,4 +1,4 @@
--- Laws of the stores into the lent words: a key copied lane by lane, and what the stores of a record and of its
+-- Laws of the stores into the lent words: a part written over, a key copied, and what the stores of a record and of its
 -- bucket's head leave. Assumes nothing.
 use Prim.Native.Nat.{ℕ, zero, suc, ◌+◌, ◌*◌, ◌≤◌, ◌<◌}
 use mathlib.Core.Path.{◌≡◌, sym, ap, ◌∙◌}

@@ -1,5 +1,4 @@
--- Laws of a step's choices, one for each way of the code: what a compare, a persist and a step come to.
--- Assumes nothing.
+-- What Takes tells of a step, by its code. Assumes nothing.
 use Prim.Native.Nat.{ℕ, ◌<◌}
 use mathlib.Core.Path.{◌≡◌}
 use mathlib.Core.Logic.{◌≢◌, ⊎_elim}
