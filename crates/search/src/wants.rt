@@ -23,9 +23,9 @@ fn is_missed(v: &View, a: &Ask) -> bool
     ensures { result ≡ any_from 0 (locations_in v.now.c.now.numbers)
         (misses_lane v.now.c.now.numbers a.now.wanted a.now.want v.now.x.now) }
 {
-    for l in 0..v.c.locations() {
-        let at = l as usize;
-        if misses(a.wanted[at], a.want[at], v.x[v.c.word_at(Location(l))]) {
+    let first = v.c.word_at(Location(0));
+    for l in 0..(v.c.locations() as usize) {
+        if misses(a.wanted[l], a.want[l], v.x[first + l]) {
             return true;
         }
     }

@@ -1,10 +1,17 @@
-use Rattle.std.proofs.Common.{◌∙◌, arith, rules}
+use Rattle.std.proofs.Common.{ℕ, ◌∙◌, arith}
+use Rattle.machine.specs.Model.{Listed}
+use Rattle.search.specs.Barred.{legal_lanes}
 use Rattle.search.proofs.walk.WalkLoopLaws.{left_used_up, left_here, walking_end}
 use Rattle.search.proofs.walk.WalkTurnLaws.{turn_listed, turn_length, turn_found, turn_stopped}
 use Rattle.search.proofs.walk.WalkTurnLaws.{turn_finished}
 use Rattle.search.proofs.walk.WalkHeldLaws.{walks_start, held_few, held_takes}
 use Rattle.search.proofs.walk.WalkHeldLaws.{held_deep, held_room, held_next, held_below}
 use Rattle.search.proofs.walk.+walk.Goals as goal
+use Rattle.search.proofs.walk.+walk.Goals.{After-step_at-k}
+
+-- the step that a turn takes is one of the next
+listed : (t : ℕ) (c : After-step_at-k t) → Listed c.step_at-k.result (legal_lanes c.args.c.now.numbers c.args.x.now)
+listed t c = turn_listed c.loop-i.invariant.1 (omega arith) _ c.step_at-k.ensures
 
 pub returns-then-budget-eq0 : goal.returns-then-budget-eq0
 returns-then-budget-eq0 t c =
@@ -28,40 +35,26 @@ loop-i-init t c =
     let e = c.is_reached.ensures in
     (h, walks_start h _ _ _ _ _ _ c.next_steps-next.ensures c.if-budget-eq0.false _ e c.if-is_reached.false)
 
-pub bounds-next-i : goal.bounds-next-i
-bounds-next-i t c = let few = c.loop-i.invariant.1.list.few in omega arith
-
 pub take-requires : goal.take-requires
 take-requires t c =
     let l = c.loop-i in
-    let on = turn_listed l.invariant.1 (omega arith) _ c.step_at-k.ensures in
+    let on = listed t (goal.at.take-requires t c).After-step_at-k in
     (held_few l.invariant.0, held_takes l.invariant.0 _ on)
-
-pub overflow_add-depth : goal.overflow_add-depth
-overflow_add-depth t c =
-    let l = c.loop-i in
-    let d = l.invariant.0.deep in
-    search rules
 
 pub walk-below-requires : goal.walk-below-requires
 walk-below-requires t c =
     let l = c.loop-i in
-    let on = turn_listed l.invariant.1 (omega arith) _ c.step_at-k.ensures in
+    let on = listed t (goal.at.walk-below-requires t c).After-step_at-k in
     let d = held_deep l.invariant.0 _ on in
     let m = c.decreases in
     (omega arith, held_next l.invariant.0 _ on _ c.take.ensures)
-
-pub overflow_mul-depth : goal.overflow_mul-depth
-overflow_mul-depth t c =
-    let d = c.loop-i.invariant.0.deep in
-    search rules
 
 pub put_step-requires : goal.put_step-requires
 put_step-requires t c =
     let z = c.take.ensures in
     let k = c.step_at-k.ensures in
     let l = c.loop-i in
-    let on = turn_listed l.invariant.1 (omega arith) _ k in
+    let on = listed t (goal.at.put_step-requires t c).After-step_at-k in
     let n = held_below l.invariant.0 _ on in
     let e = turn_length l.invariant.1 (omega arith) _ k _ z _ n _ _ _ c.walk-below.ensures in
     let r = held_room l.invariant.0 _ on in
@@ -72,7 +65,7 @@ returns-in-Found t c =
     let z = c.take.ensures in
     let k = c.step_at-k.ensures in
     let l = c.loop-i in
-    let on = turn_listed l.invariant.1 (omega arith) _ k in
+    let on = listed t (goal.at.returns-in-Found t c).After-step_at-k in
     let n = held_below l.invariant.0 _ on in
     let f = c.in-Found.is in
     let x = turn_found l.invariant.1 (omega arith) _ k _ z _ n _ _ _ c.walk-below.ensures _ f in
@@ -83,7 +76,7 @@ returns-in-Stopped t c =
     let z = c.take.ensures in
     let k = c.step_at-k.ensures in
     let l = c.loop-i in
-    let on = turn_listed l.invariant.1 (omega arith) _ k in
+    let on = listed t (goal.at.returns-in-Stopped t c).After-step_at-k in
     let n = held_below l.invariant.0 _ on in
     let x = turn_stopped l.invariant.1 (omega arith) _ k _ z _ n _ _ _ c.walk-below.ensures c.in-Stopped.is in
     (x.told, x.stored)
@@ -93,7 +86,7 @@ loop-i-preserved t c =
     let z = c.take.ensures in
     let k = c.step_at-k.ensures in
     let l = c.loop-i in
-    let on = turn_listed l.invariant.1 (omega arith) _ k in
+    let on = listed t (goal.at.loop-i-preserved t c).After-step_at-k in
     let n = held_below l.invariant.0 _ on in
     let e = turn_length l.invariant.1 (omega arith) _ k _ z _ n _ _ _ c.walk-below.ensures in
     let r = c.in-Finished.is in
