@@ -44,7 +44,7 @@ fn is_bar(c: &Listing, tag: u32, q: Line) -> bool
 }
 
 // Does one of the first n entries from base on?
-#[tactic(auto, using(machine::proofs::lists::AnyLaws::any_here, machine::proofs::lists::AnyLaws::any_next, machine::proofs::lists::AnyLaws::any_end), unfolding(crate::specs::Barred::bars_at))]
+#[tactic(auto, using(crate::proofs::next::RanksLoopLaws::bars), unfolding(crate::specs::Barred::bars_at))]
 fn is_barred(v: &View, base: usize, n: usize, q: Line) -> bool
     requires { base + 2 * n ≤ most_lanes }
     ensures { result ≡ any_from 0 n (bars_at v.now.c.now.numbers q.0 v.now.x.now base) }
@@ -242,7 +242,7 @@ fn offer_persists(v: &View, ranks: &mut [u8; CANDIDATES], count: u8) -> u8
     n
 }
 
-#[tactic(auto, using(crate::proofs::next::RanksLoopLaws::moves_fit, crate::proofs::next::RanksLoopLaws::persists_fit, crate::proofs::next::RanksLoopLaws::next_made))]
+#[tactic(auto, using(crate::proofs::next::RanksLoopLaws::steps))]
 pub(crate) fn next_steps(v: &View) -> Ranks
     ensures { result ≡ next_lanes v.now.c.now.numbers v.now.x.now }
 {

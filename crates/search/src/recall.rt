@@ -27,7 +27,7 @@ pub enum Met {
 // The lent words, limit and count stay apart here and in table.rt: that they belong together (Chained) is no proposition,
 // so no struct can hold it as a ghost field, and each function would have to promise that the same words are lent.
 // Looks a state up, and keeps it where it is new: `left` more have room, of `limit` in all.
-#[tactic(auto, using(crate::proofs::recall::MeetLaws::meets_before, crate::proofs::recall::MeetLaws::meets_full, crate::proofs::recall::MeetLaws::meets_new))]
+#[tactic(auto, using(crate::proofs::recall::MeetLaws::meets))]
 fn meet(v: &View, limit: u32, left: u32, memory: &mut [u32]) -> Met
     requires { (0 < limit) × (left ≤ limit) × Chained memory.old limit (limit - left) }
     ensures { Meets result memory.old memory.new limit left

@@ -31,7 +31,7 @@ pub(crate) fn buffer_row(t: Thread) -> Row
 
 // Of n entries from base on, the word of the newest with that tag, else the word given: the first one found from
 // their end.
-#[tactic(auto, using(crate::proofs::rows::RowLoopLaws::newest_next, crate::proofs::rows::RowLoopLaws::newest_here, crate::proofs::rows::RowLoopLaws::newest_end))]
+#[tactic(auto, using(crate::proofs::rows::RowLoopLaws::newest))]
 fn newest(x: &[u32; LANES], base: usize, tag: u32, other: u32, n: usize) -> u32
     requires { base + 2 * n ≤ most_lanes }
     ensures { result ≡ newest_lane x.now base tag other n }
@@ -53,7 +53,7 @@ pub(crate) fn mark_of(t: Thread) -> u32
 }
 
 // Does one of n entries from base on have that tag?
-#[tactic(auto, using(crate::proofs::rows::MarkedLoopLaws::mark_next, crate::proofs::rows::MarkedLoopLaws::mark_here, crate::proofs::rows::MarkedLoopLaws::mark_end))]
+#[tactic(auto, using(crate::proofs::rows::MarkedLoopLaws::mark))]
 fn has_mark(x: &[u32; LANES], base: usize, n: usize, mark: u32) -> bool
     requires { base + 2 * n ≤ most_lanes }
     ensures { result ≡ marked_among x.now mark base n false }

@@ -18,7 +18,7 @@ fn misses(wanted: bool, want: u32, word: u32) -> bool
 }
 
 // Does some location?
-#[tactic(auto, using(machine::proofs::lists::AnyLaws::any_here, machine::proofs::lists::AnyLaws::any_next, machine::proofs::lists::AnyLaws::any_end, crate::proofs::wants::WantLoopLaws::missed_told))]
+#[tactic(auto, using(crate::proofs::wants::WantLoopLaws::missed))]
 fn is_missed(v: &View, a: &Ask) -> bool
     ensures { result ≡ any_from 0 (locations_in v.now.c.now.numbers)
         (misses_lane v.now.c.now.numbers a.now.wanted a.now.want v.now.x.now) }
@@ -33,7 +33,7 @@ fn is_missed(v: &View, a: &Ask) -> bool
 }
 
 // Has some thread issued fewer instructions than asked for?
-#[tactic(auto, using(machine::proofs::lists::AnyLaws::any_here, machine::proofs::lists::AnyLaws::any_next, machine::proofs::lists::AnyLaws::any_end, crate::proofs::wants::WantLoopLaws::lacks_some, crate::proofs::wants::WantLoopLaws::lacks_none))]
+#[tactic(auto, using(crate::proofs::wants::WantLoopLaws::lacked))]
 fn is_lacking(v: &View, a: &Ask) -> bool
     ensures { result ≡ any_from 0 (threads_in v.now.c.now.numbers) (lacks_at a.now.passed v.now.x.now) }
 {

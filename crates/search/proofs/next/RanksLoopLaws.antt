@@ -18,6 +18,7 @@ use Rattle.search.specs.Rows.{rows_in, row_len, row_start, FewEntries}
 use Rattle.search.specs.Barred.{issue_barred, entry_barred, move_barred, persist_barred, next_with}
 use Rattle.search.specs.Barred.{pushed, offered, offered_from, offered_moves, next_lanes}
 use Rattle.search.proofs.lanes.GeneralLaws.{sum_front}
+use Rattle.machine.proofs.lists.AnyLaws.{any_here, any_next, any_end}
 
 -- offered: the list is longer by one at most
 count_offered : (barred : Bool) (k : Step) (n : Ranks) → (offered barred k n).count ≤ n.count + 1
@@ -144,3 +145,8 @@ pub next_made : (c x : List ℕ) (issues moves all : Ranks)
     → all ≡ next_lanes c x
 unfolding next_lanes
 next_made c x issues moves all d e f = rw (f, e, d)
+
+-- what `next_steps` needs, and the loop of `is_barred`
+pub ruleset steps = (moves_fit, persists_fit, next_made)
+
+pub ruleset bars = (any_here, any_next, any_end)

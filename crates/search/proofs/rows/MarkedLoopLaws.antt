@@ -94,3 +94,6 @@ module _ {c x : List ℕ} {mark base q : ℕ} (o : MarkedSoFar c x mark base q) 
   pub marked_end : lines_in c ≤ q → (t : ℕ) → mark ≡ mark_of t → false ≡ marked_lanes c x t
   unfolding marked_lanes marked_from
   marked_end h t e = let k : lines_in c - q ≡ 0 = omega arith in rw (k, e) at o.rest
+
+-- what the loop of `has_mark` needs
+pub ruleset mark = (mark_next, mark_here, mark_end)

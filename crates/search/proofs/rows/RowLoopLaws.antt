@@ -126,3 +126,6 @@ module _ (c x : List ℕ) (l row base n result : ℕ) (s : base ≡ row_start c 
       → result ≡ loaded_lane c x t l
   unfolding loaded_lane
   loaded_made t other r o f = f ∙ rw (o, m, s, r)
+
+-- what the loop of `newest` needs
+pub ruleset newest = (newest_next, newest_here, newest_end)

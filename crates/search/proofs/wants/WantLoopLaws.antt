@@ -8,6 +8,7 @@ use lib.ListN.{get_or}
 use Rattle.search.specs.Question.{misses, lacks_at}
 use Rattle.search.specs.Rows.{word_at}
 use Rattle.search.specs.Taken.{misses_lane}
+use Rattle.machine.proofs.lists.AnyLaws.{any_here, any_next, any_end}
 
 -- what the code finds of a location's word is what its lane says
 pub missed_told : (c : List ℕ) (wanted : List Bool) (want x : List ℕ) (l at : ℕ) (found told : Bool)
@@ -27,3 +28,8 @@ module _ (passed x : List ℕ) (t many : ℕ) (e : many ≡ get_or passed t 0) w
   pub lacks_none : many ≤ get_or x t 0 → lacks_at passed x t ≡ false
   unfolding lacks_at
   lacks_none h = rw (sym e) (le-ltb (get_or x t 0) many h)
+
+-- what the two loops need
+pub ruleset missed = (any_here, any_next, any_end, missed_told)
+
+pub ruleset lacked = (any_here, any_next, any_end, lacks_some, lacks_none)
