@@ -1,8 +1,8 @@
 // A program as one list of numbers, its listing: made once for a question, lent from then on, and where each thing of it
 // stands, among its own numbers and among a state's lanes.
-ghost use Rattle.std.specs.Prelude.{◌≡◌, ◌+◌, ◌*◌, ◌<◌, ◌≤◌, length};
+ghost use Rattle.std.specs.Prelude.{◌≡◌, ◌+◌, ◌*◌, ◌<◌, ◌≤◌, length, get_or};
 ghost use Rattle.std.proofs.lemmas.List.Edits.{sets};
-ghost use Rattle.cases.specs.Sizes.{all_code, most_threads, most_instructions};
+ghost use Rattle.cases.specs.Sizes.{all_code, most_threads, most_instructions, most_registers};
 ghost use Rattle.cases.specs.Ranges.{ProgramFits};
 ghost use Rattle.search.specs.Sizes.{codes_at, all_listing};
 ghost use Rattle.search.specs.Lanes.{join_to};
@@ -136,6 +136,23 @@ impl Listing {
             + self.rows()
             + (self.locations() as usize)
             + ((t.0 as usize) * REGISTERS + (r.0 as usize))
+    }
+
+    // The location of the instruction that stands at a place.
+    pub(crate) fn location_at(&self, at: usize) -> Location
+        requires { (at + 4 ≤ all_listing)
+            × (get_or self.now.numbers (at + 1) 0 < locations_in self.now.numbers) }
+        ensures { result.0 ≡ get_or self.now.numbers (at + 1) 0 }
+    {
+        Location(self.numbers[at + 1] as u8)
+    }
+
+    // Where its register stands, of a thread.
+    pub(crate) fn target_at(&self, t: Thread, at: usize) -> usize
+        requires { (at + 4 ≤ all_listing) × (get_or self.now.numbers (at + 2) 0 < most_registers) }
+        ensures { result ≡ register_at self.now.numbers t.0 (get_or self.now.numbers (at + 2) 0) }
+    {
+        self.register_at(t, Register(self.numbers[at + 2] as u8))
     }
 
     // Where the rows start.

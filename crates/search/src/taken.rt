@@ -17,7 +17,7 @@ use crate::operations::{
 use crate::rows::{Row, View};
 use crate::sizes::{FLUSH_OPT_TAG, FLUSH_TAG, LANES, SFENCE_TAG};
 use crate::{kinds, listing, rows};
-use cases::case::{Line, Location, Register, Step, Thread};
+use cases::case::{Line, Location, Step, Thread};
 use cases::operations::{ISSUE, MOVE};
 
 // An entry more before lane `at`: what stands from there to `end` goes two further.
@@ -134,8 +134,8 @@ fn await_entry(c: &Listing, x: &mut [u32; LANES], t: Thread, at: usize)
     requires { CodeHere c.now.numbers x.old t.0 at }
     ensures { x.new ≡ awaited_lanes c.now.numbers x.old t.0 at }
 {
-    let r = c.register_at(t, Register(c.numbers[at + 2] as u8));
-    let tag = entry_tag(c.numbers[at], Location(c.numbers[at + 1] as u8));
+    let r = c.target_at(t, at);
+    let tag = entry_tag(c.numbers[at], c.location_at(at));
     let word = entry_word(c.numbers[at], c.numbers[at + 3], x[r]);
     join(c, x, rows::buffer_row(t), tag, word);
 }
@@ -146,8 +146,8 @@ fn take_load(c: &Listing, x: &mut [u32; LANES], t: Thread, at: usize)
     requires { CodeHere c.now.numbers x.old t.0 at }
     ensures { x.new ≡ took_lanes c.now.numbers x.old t.0 at }
 {
-    let r = c.register_at(t, Register(c.numbers[at + 2] as u8));
-    let word = View { c, x }.loaded(t, Location(c.numbers[at + 1] as u8));
+    let r = c.target_at(t, at);
+    let word = View { c, x }.loaded(t, c.location_at(at));
     x[r] = word;
 }
 
@@ -157,8 +157,8 @@ fn fetch(c: &Listing, x: &mut [u32; LANES], t: Thread, at: usize)
     requires { CodeHere c.now.numbers x.old t.0 at }
     ensures { x.new ≡ fetched_lanes c.now.numbers x.old t.0 at }
 {
-    let r = c.register_at(t, Register(c.numbers[at + 2] as u8));
-    let word = View { c, x }.queued(Location(c.numbers[at + 1] as u8));
+    let r = c.target_at(t, at);
+    let word = View { c, x }.queued(c.location_at(at));
     x[r] = word;
 }
 
@@ -170,7 +170,7 @@ fn exchange(c: &Listing, x: &mut [u32; LANES], t: Thread, at: usize)
     ensures { x.new ≡ exchanged_lanes c.now.numbers x.old t.0 at }
 {
     fetch(c, x, t, at);
-    let l = Location(c.numbers[at + 1] as u8);
+    let l = c.location_at(at);
     join(
         c,
         x,
@@ -186,8 +186,8 @@ fn compare(c: &Listing, x: &mut [u32; LANES], t: Thread, at: usize)
     requires { CodeHere c.now.numbers x.old t.0 at }
     ensures { x.new ≡ compared_lanes c.now.numbers x.old t.0 at }
 {
-    let r = c.register_at(t, Register(c.numbers[at + 2] as u8));
-    let word = View { c, x }.queued(Location(c.numbers[at + 1] as u8));
+    let r = c.target_at(t, at);
+    let word = View { c, x }.queued(c.location_at(at));
     if word == x[r] {
         exchange(c, x, t, at);
         return;
