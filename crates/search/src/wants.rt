@@ -23,9 +23,9 @@ fn is_missed(v: &View, a: &Ask) -> bool
     ensures { result ≡ any_from 0 (locations_in v.now.c.now.numbers)
         (misses_lane v.now.c.now.numbers a.now.wanted a.now.want v.now.x.now) }
 {
-    let first = v.c.word_at(Location(0));
-    for l in 0..(v.c.locations() as usize) {
-        if misses(a.wanted[l], a.want[l], v.x[first + l]) {
+    for l in 0..v.c.locations() {
+        let at = l as usize;
+        if misses(a.wanted[at], a.want[at], v.x[v.c.word_at(Location(l))]) {
             return true;
         }
     }
@@ -37,8 +37,9 @@ fn is_missed(v: &View, a: &Ask) -> bool
 fn is_lacking(v: &View, a: &Ask) -> bool
     ensures { result ≡ any_from 0 (threads_in v.now.c.now.numbers) (lacks_at a.now.passed v.now.x.now) }
 {
-    for t in 0..(v.c.threads() as usize) {
-        if v.x[t] < (a.passed[t] as u32) {
+    for t in 0..v.c.threads() {
+        let at = t as usize;
+        if v.x[at] < (a.passed[at] as u32) {
             return true;
         }
     }
