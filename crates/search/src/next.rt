@@ -137,31 +137,29 @@ fn rank(k: Step) -> u8
     k.code * (RANKS as u8) + k.thread.0 * (INSTRUCTIONS as u8) + k.position + k.location.0
 }
 
-// A step more, where it is not barred; says how many there are now.
-#[tactic(auto, using(cases::proofs::ChoiceLaws::choices), unfolding(crate::specs::Barred::offered, crate::specs::Barred::pushed))]
-fn offer(ranks: &mut [u8; CANDIDATES], count: u8, barred: bool, k: Step) -> u8
-    requires { (count < most_candidates) × (rank_of k < 256) }
-    ensures { next_with result ranks.new ≡ offered barred k (next_with count ranks.old) }
-{
-    if barred {
-        return count;
+impl Ranks {
+    // A step more, where it is not barred.
+    #[tactic(auto, using(cases::proofs::ChoiceLaws::choices), unfolding(crate::specs::Barred::offered, crate::specs::Barred::pushed))]
+    fn offer(&mut self, barred: bool, k: Step)
+        requires { (self.old.count < most_candidates) × (rank_of k < 256) }
+        ensures { self.new ≡ offered barred k self.old }
+    {
+        if !barred {
+            self.ranks[self.count as usize] = rank(k);
+            self.count += 1;
+        }
     }
-    ranks[count as usize] = rank(k);
-    count + 1
 }
 
-fn offer_issues(v: &View, ranks: &mut [u8; CANDIDATES], count: u8) -> u8
-    requires { count + threads_in v.now.c.now.numbers ≤ most_candidates }
-    ensures { (next_with result ranks.new ≡ offered_from (issue_barred v.now.c.now.numbers v.now.x.now)
-        issue_step 0 (threads_in v.now.c.now.numbers) (next_with count ranks.old))
-        × (result ≤ count + threads_in v.now.c.now.numbers) }
+fn offer_issues(v: &View, to: &mut Ranks)
+    requires { to.old.count + threads_in v.now.c.now.numbers ≤ most_candidates }
+    ensures { (to.new ≡ offered_from (issue_barred v.now.c.now.numbers v.now.x.now)
+        issue_step 0 (threads_in v.now.c.now.numbers) to.old)
+        × (to.new.count ≤ to.old.count + threads_in v.now.c.now.numbers) }
 {
-    let mut n = count;
     for t in 0..v.c.threads() {
         let barred = is_issue_barred(v, Thread(t));
-        n = offer(
-            ranks,
-            n,
+        to.offer(
             barred,
             Step {
                 thread: Thread(t),
@@ -171,26 +169,21 @@ fn offer_issues(v: &View, ranks: &mut [u8; CANDIDATES], count: u8) -> u8
             },
         );
     }
-    n
 }
 
 // The moves of one thread, whose buffer's row starts at base.
-fn offer_moves_of(v: &View, t: Thread, base: usize, ranks: &mut [u8; CANDIDATES], count: u8) -> u8
+fn offer_moves_of(v: &View, t: Thread, base: usize, to: &mut Ranks)
     requires { (t.0 < threads_in v.now.c.now.numbers)
         × (base ≡ row_start v.now.c.now.numbers v.now.x.now t.0)
-        × (count + row_len v.now.c.now.numbers v.now.x.now t.0 ≤ most_candidates) }
-    ensures { (next_with result ranks.new
-        ≡ offered_from (move_barred v.now.c.now.numbers v.now.x.now t.0) (move_step t.0) 0
-        (row_len v.now.c.now.numbers v.now.x.now t.0) (next_with count ranks.old))
-        × (result ≤ count + row_len v.now.c.now.numbers v.now.x.now t.0) }
+        × (to.old.count + row_len v.now.c.now.numbers v.now.x.now t.0 ≤ most_candidates) }
+    ensures { (to.new ≡ offered_from (move_barred v.now.c.now.numbers v.now.x.now t.0) (move_step t.0) 0
+        (row_len v.now.c.now.numbers v.now.x.now t.0) to.old)
+        × (to.new.count ≤ to.old.count + row_len v.now.c.now.numbers v.now.x.now t.0) }
 {
     let many = v.row_len(rows::buffer_row(t)) as u8;
-    let mut n = count;
     for i in 0..many {
         let barred = is_entry_barred(v, t, base, i as usize);
-        n = offer(
-            ranks,
-            n,
+        to.offer(
             barred,
             Step {
                 thread: t,
@@ -200,36 +193,28 @@ fn offer_moves_of(v: &View, t: Thread, base: usize, ranks: &mut [u8; CANDIDATES]
             },
         );
     }
-    n
 }
 
-fn offer_moves(v: &View, ranks: &mut [u8; CANDIDATES], count: u8) -> u8
-    requires { count + sum_to (threads_in v.now.c.now.numbers) (row_len v.now.c.now.numbers v.now.x.now) ≤ most_candidates }
-    ensures { (next_with result ranks.new
-        ≡ offered_moves v.now.c.now.numbers v.now.x.now 0 (threads_in v.now.c.now.numbers)
-        (next_with count ranks.old))
-        × (result ≤ count + sum_to (threads_in v.now.c.now.numbers) (row_len v.now.c.now.numbers v.now.x.now)) }
+fn offer_moves(v: &View, to: &mut Ranks)
+    requires { to.old.count + sum_to (threads_in v.now.c.now.numbers) (row_len v.now.c.now.numbers v.now.x.now) ≤ most_candidates }
+    ensures { (to.new ≡ offered_moves v.now.c.now.numbers v.now.x.now 0 (threads_in v.now.c.now.numbers) to.old)
+        × (to.new.count ≤ to.old.count + sum_to (threads_in v.now.c.now.numbers) (row_len v.now.c.now.numbers v.now.x.now)) }
 {
-    let mut n = count;
     let mut base = v.c.pool_at();
     for t in 0..v.c.threads() {
-        n = offer_moves_of(v, Thread(t), base, ranks, n);
+        offer_moves_of(v, Thread(t), base, to);
         base += 2 * v.row_len(rows::buffer_row(Thread(t)));
     }
-    n
 }
 
-fn offer_persists(v: &View, ranks: &mut [u8; CANDIDATES], count: u8) -> u8
-    requires { count + lines_in v.now.c.now.numbers ≤ most_candidates }
-    ensures { next_with result ranks.new ≡ offered_from (persist_barred v.now.c.now.numbers v.now.x.now)
-        persist_step 0 (lines_in v.now.c.now.numbers) (next_with count ranks.old) }
+fn offer_persists(v: &View, to: &mut Ranks)
+    requires { to.old.count + lines_in v.now.c.now.numbers ≤ most_candidates }
+    ensures { to.new ≡ offered_from (persist_barred v.now.c.now.numbers v.now.x.now)
+        persist_step 0 (lines_in v.now.c.now.numbers) to.old }
 {
-    let mut n = count;
     for q in 0..v.c.lines() {
         let barred = v.row_len(v.c.queue_row(Line(q))) == 0;
-        n = offer(
-            ranks,
-            n,
+        to.offer(
             barred,
             Step {
                 thread: Thread(0),
@@ -239,21 +224,20 @@ fn offer_persists(v: &View, ranks: &mut [u8; CANDIDATES], count: u8) -> u8
             },
         );
     }
-    n
 }
 
 #[tactic(auto, using(crate::proofs::next::RanksLoopLaws::steps))]
 pub(crate) fn next_steps(v: &View) -> Ranks
     ensures { result ≡ next_lanes v.now.c.now.numbers v.now.x.now }
 {
-    let mut ranks = [0u8; CANDIDATES];
-    let issues = offer_issues(v, &mut ranks, 0);
-    let moves = offer_moves(v, &mut ranks, issues);
-    let count = offer_persists(v, &mut ranks, moves);
-    Ranks {
-        count: count,
-        ranks: ranks,
-    }
+    let mut next = Ranks {
+        count: 0,
+        ranks: [0u8; CANDIDATES],
+    };
+    offer_issues(v, &mut next);
+    offer_moves(v, &mut next);
+    offer_persists(v, &mut next);
+    next
 }
 
 // The step of a rank.

@@ -1,6 +1,6 @@
 -- `offer_issues` meets its contract. Assumes nothing.
 use Rattle.machine.specs.Next.{issue_step}
-use Rattle.search.specs.Barred.{issue_barred, next_with}
+use Rattle.search.specs.Barred.{issue_barred}
 use Rattle.search.proofs.next.RanksLoopLaws.{OfferedSoFar}
 use Rattle.search.proofs.next.offer_issues.Given as goal
 
@@ -8,4 +8,4 @@ use Rattle.search.proofs.next.offer_issues.Given as goal
 abbrev pub invariant-loop-t : goal.invariant-loop-t
 invariant-loop-t l =
     OfferedSoFar (issue_barred l.v.c.now.numbers l.v.x.now) issue_step l.t-end l.t
-    (next_with l.n l.ranks) (next_with l.initial.n l.initial.ranks)
+    l.to l.initial.to

@@ -8,8 +8,8 @@ loop-t-init c =
     let a = c.args in
     ((rows_start a.v.now.c.now.numbers a.v.now.x.now 0 _ c.pool_at-base.ensures).start, moves_start _ _ _ _)
 
-pub offer_moves_of-n-requires : goal.offer_moves_of-n-requires
-offer_moves_of-n-requires c =
+pub offer_moves_of-requires : goal.offer_moves_of-requires
+offer_moves_of-requires c =
     let g = c.requires in
     let i = c.loop-t.invariant in
     (omega arith, i.0, moves_room i.1 (omega arith) (rw c.threads-t-end.ensures g))
@@ -31,7 +31,7 @@ loop-t-preserved c =
     let i = c.loop-t.invariant in
     let e = row_next c.args.v.now.c.now.numbers c.args.v.now.x.now c.loop-t.t in
     let r = rw c.buffer_row.ensures at c.row_len.ensures in
-    (omega arith, moves_next i.1 (omega arith) _ c.offer_moves_of-n.ensures)
+    (omega arith, moves_next i.1 (omega arith) _ c.offer_moves_of.ensures)
 
 pub returns : goal.returns
 returns c =

@@ -10,4 +10,4 @@ use Rattle.search.proofs.next.offer_moves.Given as goal
 abbrev pub invariant-loop-t : goal.invariant-loop-t
 invariant-loop-t l =
     (l.base ≡ row_start l.v.c.now.numbers l.v.x.now l.t)
-    × MovesSoFar l.v.c.now.numbers l.v.x.now l.t-end l.t (next_with l.n l.ranks) (next_with l.initial.n l.initial.ranks)
+    × MovesSoFar l.v.c.now.numbers l.v.x.now l.t-end l.t l.to l.initial.to

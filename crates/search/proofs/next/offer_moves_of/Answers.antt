@@ -10,9 +10,9 @@ is_entry_barred-barred-requires c =
     let w = row_room _ _ c.args.v.now.c.now.fits c.args.v.now.few c.args.t.0 (omega arith) _ _ g.1 c.loop-i.invariant.0 in
     (omega arith)
 
-pub offer-n-requires : goal.offer-n-requires
+pub offer-requires : goal.offer-requires
 unfolding rank_of
-offer-n-requires c =
+offer-requires c =
     let i = c.loop-i.invariant in
     let g = c.requires in
     let w = c.args.v.now.c.now.fits.few_threads in
@@ -23,7 +23,7 @@ pub loop-i-preserved : goal.loop-i-preserved
 loop-i-preserved c =
     let i = c.loop-i.invariant in
     let m = move_made _ _ _ _ _ _ c.requires.1 c.is_entry_barred-barred.ensures in
-    (i.0, offered_next i.1 (omega arith) _ _ c.offer-n.ensures m)
+    (i.0, offered_next i.1 (omega arith) _ _ c.offer.ensures m)
 
 pub returns : goal.returns
 returns c =

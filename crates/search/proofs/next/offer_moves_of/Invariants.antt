@@ -2,7 +2,7 @@
 use Rattle.std.proofs.Common.{◌≡◌}
 use Rattle.machine.specs.Next.{move_step}
 use Rattle.search.specs.Rows.{row_len}
-use Rattle.search.specs.Barred.{move_barred, next_with}
+use Rattle.search.specs.Barred.{move_barred}
 use Rattle.search.proofs.next.RanksLoopLaws.{OfferedSoFar}
 use Rattle.search.proofs.next.offer_moves_of.Given as goal
 
@@ -12,4 +12,4 @@ abbrev pub invariant-loop-i : goal.invariant-loop-i
 invariant-loop-i l =
     (l.many ≡ row_len l.v.c.now.numbers l.v.x.now l.t.0)
     × OfferedSoFar (move_barred l.v.c.now.numbers l.v.x.now l.t.0) (move_step l.t.0) l.many l.i
-    (next_with l.n l.ranks) (next_with l.initial.n l.initial.ranks)
+    l.to l.initial.to

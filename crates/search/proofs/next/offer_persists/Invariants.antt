@@ -1,6 +1,6 @@
 -- `offer_persists` meets its contract. Assumes nothing.
 use Rattle.machine.specs.Next.{persist_step}
-use Rattle.search.specs.Barred.{persist_barred, next_with}
+use Rattle.search.specs.Barred.{persist_barred}
 use Rattle.search.proofs.next.RanksLoopLaws.{OfferedSoFar}
 use Rattle.search.proofs.next.offer_persists.Given as goal
 
@@ -8,4 +8,4 @@ use Rattle.search.proofs.next.offer_persists.Given as goal
 abbrev pub invariant-loop-q : goal.invariant-loop-q
 invariant-loop-q l =
     OfferedSoFar (persist_barred l.v.c.now.numbers l.v.x.now) persist_step l.q-end l.q
-    (next_with l.n l.ranks) (next_with l.initial.n l.initial.ranks)
+    l.to l.initial.to
