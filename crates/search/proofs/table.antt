@@ -1,13 +1,13 @@
 -- The lent words that hold the keys of states (specs/Table): the code.
--- lanes, record; LanesSoFar: lanes that are compared
+-- pairs, same, record: lanes that are compared
 pub mod CompareLaws
 -- among, head, seek; Seeking: the way along a chain
 pub mod ChainLaws
--- copied, written; CopiedSoFar, Written: what the stores leave
+-- written, copied; Written: what the stores leave
 pub mod CopyLaws
 -- kept: a record written behind the others
 pub mod KeepLaws
 -- mixed, bucket; MixedSoFar: the bucket of a key
 pub mod MixLaws
--- cleared; ClearedSoFar: zeros in front
+-- cleared: zeros in front
 pub mod ClearLaws

@@ -1,3 +1,3 @@
 -- What is asked for (specs/Question), and whether lanes meet it: the code.
--- missed, lacks, reaches: what a turn of a loop tells
+-- missed, lacks: what a turn of a loop tells
 pub mod WantLoopLaws

@@ -2,6 +2,7 @@
 pub mod Sizes
 pub mod Walk
 pub mod Question
+pub mod Kinds
 pub mod Lanes
 pub mod Remember
 -- how the code does it: no contract of a public function needs these

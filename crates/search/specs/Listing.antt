@@ -1,4 +1,4 @@
--- How the code keeps a program: as one list of numbers, its listing, which can be lent.
+-- How the code keeps a program: as one list of numbers, its listing.
 --   instruction_numbers   an instruction's four numbers
 --   listing_of p    the listing of the program p: threads, lines and locations; the instructions of each thread;
 --                   the line of each location; four numbers for each instruction

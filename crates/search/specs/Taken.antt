@@ -33,7 +33,6 @@ use Rattle.machine.specs.View.{part, mark_of}
 use Rattle.machine.specs.Fit.{any_from}
 use Rattle.search.specs.Sizes.{most_lanes, all_listing, flush_tag, flush_opt_tag, sfence_tag}
 use Rattle.search.specs.Listing.{threads_in, lines_in, locations_in, count_in, line_in, code_at}
-use Rattle.search.specs.Listing.{ListingFits}
 use Rattle.search.specs.Rows.{queue_row, row_len_at, word_at, register_at, row_start, pool_end}
 use Rattle.search.specs.Rows.{row_len, RoomForOne, queued_lane, loaded_lane}
 use Rattle.search.specs.Barred.{legal_lanes}
@@ -152,7 +151,6 @@ reaches_lanes c wanted want passed x =
     (not (any_from 0 (threads_in c) (lacks_at passed x)))
 
 pub record CodeHere (c x : List ℕ) (t at : ℕ) : Type 0 where
-  pub fits : ListingFits c
   pub roomy : RoomForOne c x
   pub low : t < threads_in c
   pub within : at + 4 ≤ all_listing

@@ -7,14 +7,16 @@ ghost use Rattle.search.specs.Question.{question_of, shown_of};
 ghost use Rattle.search.specs.Seek.{walked_outcome};
 ghost use Rattle.search.specs.Held.{AskWithin};
 
+use crate::listing::Listing;
 use crate::walk::Walked;
-use crate::{listing, start, walk};
+use crate::{start, walk};
 use cases::case::{Ask, Program};
 use cases::reader;
 use cases::sizes::STEP_SIZE;
 use machine::{steps, work};
 
-// Reached with the number of steps of the run that is shown; refused with the number and the offset.
+// Reached with the number of steps of the run that is shown; refused with the number and the offset. The definitions of
+// specs/Question.antt, and theorems of other crates, are about these four.
 #[derive(Clone, Copy)]
 pub enum Outcome {
     Reached(usize),
@@ -23,7 +25,7 @@ pub enum Outcome {
     Refused(u8, usize),
 }
 
-// 100, 101, 102, or the refusal's number.
+// 100, 101, 102, or the refusal's number: what the C interface hands out.
 pub fn outcome_number(o: Outcome) -> u8
     ensures { result ≡ outcome_no o }
 {
@@ -59,19 +61,19 @@ pub(crate) fn told(w: Walked) -> Outcome
 }
 
 // The question of a program that the machine can run: 31, then the walk.
-fn ask(p: Program, a: Ask, run: &mut [u8], budget: u32) -> Outcome
-    requires { ProgramFits p × AskWithin p a }
-    ensures { (result ≡ answer_for (ptso p) (reaches a) (length run.old) budget)
-        × (run.new ≡ shown_for (ptso p) (reaches a) budget run.old) }
+fn ask(p: &Program, a: &Ask, run: &mut [u8], budget: u32) -> Outcome
+    requires { ProgramFits p.now × AskWithin p.now a.now }
+    ensures { (result ≡ answer_for (ptso p.now) (reaches a.now) (length run.old) budget)
+        × (run.new ≡ shown_for (ptso p.now) (reaches a.now) budget run.old) }
 {
-    let s = steps::start_of(p);
-    if run.len() < STEP_SIZE * work::work_in(p, s) {
+    // the machine's functions take programs by value
+    let s = steps::start_of(*p);
+    if run.len() < STEP_SIZE * work::work_in(*p, s) {
         return Outcome::Refused(31, 0);
     }
-    let c = listing::listing(p);
-    let q = a;
+    let c = Listing::of(p);
     let x = start::start_lanes(p, &c);
-    told(walk::walk(&c, &q.wanted, &q.want, &q.passed, &x, budget, 0, run))
+    told(walk::walk(&c, a, &x, budget, 0, run))
 }
 
 // The question of a case as bytes: reading first. Kind 6 records are read, and not looked at.
@@ -85,6 +87,6 @@ pub fn question(bytes: &[u8], run: &mut [u8], budget: u32) -> Outcome
     if number != 0 {
         return Outcome::Refused(number, reader::offset(answer));
     }
-    let c = reading.case;
-    ask(c.program, c.ask, run, budget)
+    let c = &reading.case;
+    ask(&c.program, &c.ask, run, budget)
 }

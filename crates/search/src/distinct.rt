@@ -14,9 +14,10 @@ ghost use Rattle.search.specs.Remember.{cleared_for, cleared_of};
 ghost use Rattle.search.specs.Recall.{WithinLimit, states_walked};
 
 use crate::ask::Outcome;
+use crate::listing::Listing;
 use crate::sizes::STATE;
 use crate::walk::Walked;
-use crate::{ask, listing, recall, start, table};
+use crate::{ask, recall, start, table};
 use cases::case::{Ask, Program};
 use cases::reader;
 use cases::sizes::STEP_SIZE;
@@ -53,33 +54,31 @@ fn states(limit: u32, w: Walked) -> u32
 }
 
 // The first so many distinct states of a program that the machine can run.
-fn meet_all(p: Program, a: Ask, run: &mut [u8], memory: &mut [u32], limit: u32) -> Walked
-    requires { ProgramFits p × AskWithin p a × (step_size * full_length (ptso p) ≤ length run.old)
+fn meet_all(p: &Program, a: &Ask, run: &mut [u8], memory: &mut [u32], limit: u32) -> Walked
+    requires { ProgramFits p.now × AskWithin p.now a.now
+        × (step_size * full_length (ptso p.now) ≤ length run.old)
         × (limit * state_words ≤ length memory.old) }
-    ensures { (result ≡ walked_of 0 (seek (reaches a) limit (distinct_of (ptso p) (lanes_of p))))
-        × (run.new ≡ stored_of 0 (seek (reaches a) limit (distinct_of (ptso p) (lanes_of p))) run.old) }
+    ensures { (result ≡ walked_of 0 (seek (reaches a.now) limit (distinct_of (ptso p.now) (lanes_of p.now))))
+        × (run.new ≡ stored_of 0 (seek (reaches a.now) limit (distinct_of (ptso p.now) (lanes_of p.now))) run.old) }
 {
     if limit == 0 {
         return Walked::Stopped;
     }
     table::clear(memory, limit as usize);
-    let c = listing::listing(p);
-    let q = a;
+    let c = Listing::of(p);
     let x = start::start_lanes(p, &c);
-    recall::recall(
-        &c, &q.wanted, &q.want, &q.passed, &x, limit, limit, 0, run, memory,
-    )
+    recall::recall(&c, a, &x, limit, limit, 0, run, memory)
 }
 
 // The question of a program that the machine can run: 31, then the distinct states, then the memory cleared.
-fn ask_distinct(p: Program, a: Ask, run: &mut [u8], memory: &mut [u32], budget: u32) -> Remembered
-    requires { ProgramFits p × AskWithin p a }
-    ensures { (result ≡ remember_for p a (length run.old) (length memory.old) budget)
-        × (run.new ≡ shown_after (ptso p) (recall_for p a (length memory.old) budget) run.old)
-        × (memory.new ≡ cleared_for p (length run.old) memory.old) }
+fn ask_distinct(p: &Program, a: &Ask, run: &mut [u8], memory: &mut [u32], budget: u32) -> Remembered
+    requires { ProgramFits p.now × AskWithin p.now a.now }
+    ensures { (result ≡ remember_for p.now a.now (length run.old) (length memory.old) budget)
+        × (run.new ≡ shown_after (ptso p.now) (recall_for p.now a.now (length memory.old) budget) run.old)
+        × (memory.new ≡ cleared_for p.now (length run.old) memory.old) }
 {
-    let s = steps::start_of(p);
-    if run.len() < STEP_SIZE * work::work_in(p, s) {
+    let s = steps::start_of(*p);
+    if run.len() < STEP_SIZE * work::work_in(*p, s) {
         return Remembered {
             outcome: Outcome::Refused(31, 0),
             states: 0,
@@ -110,6 +109,6 @@ pub fn remember(bytes: &[u8], run: &mut [u8], memory: &mut [u32], budget: u32) -
             states: 0,
         };
     }
-    let c = reading.case;
-    ask_distinct(c.program, c.ask, run, memory, budget)
+    let c = &reading.case;
+    ask_distinct(&c.program, &c.ask, run, memory, budget)
 }

@@ -4,8 +4,10 @@
 
 pub mod ask;
 pub mod distinct;
+mod kinds;
 mod listing;
 mod next;
+mod operations;
 mod recall;
 mod rows;
 mod shown;

@@ -1,57 +1,167 @@
-// A program as one list of numbers, which can be lent: its listing. Made once for a question.
-ghost use Rattle.std.specs.Prelude.{◌≡◌, ◌+◌, ◌*◌, ◌≤◌, length};
+// A program as one list of numbers, its listing: made once for a question, lent from then on, and where each thing of it
+// stands, among its own numbers and among a state's lanes.
+ghost use Rattle.std.specs.Prelude.{◌≡◌, ◌+◌, ◌*◌, ◌<◌, ◌≤◌, length, get_or};
 ghost use Rattle.std.proofs.lemmas.List.Edits.{sets};
-ghost use Rattle.cases.specs.Sizes.{all_code};
+ghost use Rattle.cases.specs.Sizes.{all_code, most_threads, most_instructions, most_registers};
 ghost use Rattle.cases.specs.Ranges.{ProgramFits};
 ghost use Rattle.search.specs.Sizes.{codes_at, all_listing};
 ghost use Rattle.search.specs.Lanes.{join_to};
-ghost use Rattle.search.specs.Listing.{instruction_numbers, listing_of};
+ghost use Rattle.search.specs.Listing.{instruction_numbers, listing_of, threads_in, lines_in, locations_in, line_in};
+ghost use Rattle.search.specs.Listing.{code_at, ListingFits};
+ghost use Rattle.search.specs.Rows.{rows_in, queue_row, row_len_at, word_at, register_at, pool_at};
 
-use crate::rows;
+use crate::rows::Row;
 use crate::sizes::{CODES, COUNTS, LINES, LISTING};
-use cases::case::{Instruction, Program};
-use cases::sizes::CODE;
+use cases::case::{Instruction, Line, Location, Program, Register, Thread};
+use cases::sizes::{CODE, INSTRUCTIONS, LOCATIONS, REGISTERS};
+
+// Made by `of` alone. Elsewhere its numbers are read only for an instruction and for how many a thread has.
+#[derive(Drop)]
+pub struct Listing {
+    pub numbers: [u32; LISTING],
+    ghost fits: { ListingFits numbers },
+}
 
 // Some numbers, from a place on.
+#[tactic(auto, using(crate::proofs::listing::ListingLoopLaws::numbers_next))]
 fn put_numbers(c: &mut [u32; LISTING], at: usize, numbers: &[u8])
     requires { at + length numbers.now ≤ all_listing }
     ensures { c.new ≡ sets c.old at numbers.now }
 {
-    let mut i: usize = 0;
-    while i < numbers.len() {
-        c[at + i] = rows::wide(numbers[i]);
-        i += 1;
+    for i in 0..numbers.len() {
+        c[at + i] = numbers[i] as u32;
     }
 }
 
 // All instructions, four numbers each.
-fn put_code(c: &mut [u32; LISTING], code: [Instruction; CODE])
-    ensures { c.new ≡ sets c.old codes_at (join_to all_code (instruction_numbers code)) }
+#[tactic(auto, using(crate::proofs::listing::ListingLoopLaws::codes_start, crate::proofs::listing::ListingLoopLaws::codes_next))]
+fn put_code(c: &mut [u32; LISTING], code: &[Instruction; CODE])
+    ensures { c.new ≡ sets c.old codes_at (join_to all_code (instruction_numbers code.now)) }
 {
-    let all = code;
-    let mut i: usize = 0;
-    while i < CODE {
-        let x = all[i];
+    for i in 0..CODE {
+        let x = code[i];
         let at = CODES + 4 * i;
         c[at] = x.operation as u32;
         c[at + 1] = x.location.0 as u32;
         c[at + 2] = x.register.0 as u32;
         c[at + 3] = x.word;
-        i += 1;
     }
 }
 
-pub(crate) fn listing(p: Program) -> [u32; LISTING]
-    requires { ProgramFits p }
-    ensures { result ≡ listing_of p }
+// Where an instruction stands.
+pub(crate) fn code_at(t: Thread, i: usize) -> usize
+    requires { (t.0 < most_threads) × (i < most_instructions) }
+    ensures { result ≡ code_at t.0 i }
 {
-    let q = p;
-    let mut c = [0u32; LISTING];
-    c[0] = q.threads as u32;
-    c[1] = q.lines as u32;
-    c[2] = q.locations as u32;
-    put_numbers(&mut c, COUNTS, &q.counts);
-    put_numbers(&mut c, LINES, &q.line);
-    put_code(&mut c, q.code);
-    c
+    CODES + 4 * ((t.0 as usize) * INSTRUCTIONS + i)
+}
+
+impl Listing {
+    pub(crate) fn of(p: &Program) -> Listing
+        requires { ProgramFits p.now }
+        ensures { result.numbers ≡ listing_of p.now }
+    {
+        let mut numbers = [0u32; LISTING];
+        numbers[0] = p.threads as u32;
+        numbers[1] = p.lines as u32;
+        numbers[2] = p.locations as u32;
+        put_numbers(&mut numbers, COUNTS, &p.counts);
+        put_numbers(&mut numbers, LINES, &p.line);
+        put_code(&mut numbers, &p.code);
+        Listing { numbers }
+    }
+
+    pub(crate) fn threads(&self) -> u8
+        ensures { result ≡ threads_in self.now.numbers }
+    {
+        self.numbers[0] as u8
+    }
+
+    pub(crate) fn lines(&self) -> u8
+        ensures { result ≡ lines_in self.now.numbers }
+    {
+        self.numbers[1] as u8
+    }
+
+    pub(crate) fn locations(&self) -> u8
+        ensures { result ≡ locations_in self.now.numbers }
+    {
+        self.numbers[2] as u8
+    }
+
+    // How many rows of entries a state has: one for each thread's buffer, one for each line's queue.
+    pub(crate) fn rows(&self) -> usize
+        ensures { result ≡ rows_in self.now.numbers }
+    {
+        (self.threads() as usize) + (self.lines() as usize)
+    }
+
+    // The line that a location lies on; 0 for a location that no program has.
+    pub(crate) fn line_of(&self, l: Location) -> Line
+        ensures { result.0 ≡ line_in self.now.numbers l.0 }
+    {
+        let at = l.0 as usize;
+        if LOCATIONS <= at {
+            return Line(0);
+        }
+        Line(self.numbers[LINES + at] as u8)
+    }
+
+    pub(crate) fn queue_row(&self, q: Line) -> Row
+        ensures { result.0 ≡ queue_row self.now.numbers q.0 }
+    {
+        Row((self.threads() as usize) + (q.0 as usize))
+    }
+
+    // Where a row's length stands.
+    pub(crate) fn row_len_at(&self, r: Row) -> usize
+        requires { r.0 < rows_in self.now.numbers }
+        ensures { result ≡ row_len_at self.now.numbers r.0 }
+    {
+        (self.threads() as usize) + r.0
+    }
+
+    // Where a location's word stands.
+    pub(crate) fn word_at(&self, l: Location) -> usize
+        ensures { result ≡ word_at self.now.numbers l.0 }
+    {
+        (self.threads() as usize) + self.rows() + (l.0 as usize)
+    }
+
+    // Where a register of a thread stands.
+    pub(crate) fn register_at(&self, t: Thread, r: Register) -> usize
+        ensures { result ≡ register_at self.now.numbers t.0 r.0 }
+    {
+        (self.threads() as usize)
+            + self.rows()
+            + (self.locations() as usize)
+            + ((t.0 as usize) * REGISTERS + (r.0 as usize))
+    }
+
+    // The location of the instruction that stands at a place.
+    pub(crate) fn location_at(&self, at: usize) -> Location
+        requires { (at + 4 ≤ all_listing)
+            × (get_or self.now.numbers (at + 1) 0 < locations_in self.now.numbers) }
+        ensures { result.0 ≡ get_or self.now.numbers (at + 1) 0 }
+    {
+        Location(self.numbers[at + 1] as u8)
+    }
+
+    // Where its register stands, of a thread.
+    pub(crate) fn target_at(&self, t: Thread, at: usize) -> usize
+        requires { (at + 4 ≤ all_listing) × (get_or self.now.numbers (at + 2) 0 < most_registers) }
+        ensures { result ≡ register_at self.now.numbers t.0 (get_or self.now.numbers (at + 2) 0) }
+    {
+        self.register_at(t, Register(self.numbers[at + 2] as u8))
+    }
+
+    // Where the rows start.
+    pub(crate) fn pool_at(&self) -> usize
+        ensures { result ≡ pool_at self.now.numbers }
+    {
+        (self.threads() as usize)
+            + self.rows()
+            + (self.locations() as usize)
+            + (self.threads() as usize) * REGISTERS
+    }
 }

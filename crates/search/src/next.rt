@@ -6,20 +6,25 @@ ghost use Rattle.machine.specs.Fit.{sum_to, any_from};
 ghost use Rattle.machine.specs.Rules.{is_barrier};
 ghost use Rattle.machine.specs.Next.{issue_step, move_step, persist_step, rank_of};
 ghost use Rattle.search.specs.Sizes.{most_lanes};
-ghost use Rattle.search.specs.Listing.{threads_in, lines_in, ListingFits};
-ghost use Rattle.search.specs.Rows.{row_len, FewEntries};
+ghost use Rattle.search.specs.Listing.{threads_in, lines_in};
+ghost use Rattle.search.specs.Rows.{row_len, row_start, FewEntries};
 ghost use Rattle.search.specs.Barred.{bars_tag, bars_at, operation_barred, issue_barred, head_barred, pass_barred};
 ghost use Rattle.search.specs.Barred.{entry_barred, move_barred, persist_barred, next_with, offered, offered_from};
 ghost use Rattle.search.specs.Barred.{offered_moves, next_lanes, step_at};
 
-use crate::rows;
-use crate::sizes::{COUNTS, FLUSH_OPT_TAG, FLUSH_TAG, LANES, LISTING, SFENCE_TAG};
+use crate::kinds::Kind;
+use crate::listing::Listing;
+use crate::operations::{COMPARE, EXCHANGE, MFENCE};
+use crate::rows::View;
+use crate::sizes::{COUNTS, LANES};
+use crate::{kinds, listing, rows};
 use cases::case::{Line, Location, Step, Thread};
-use cases::operations::{COMPARE, EXCHANGE, ISSUE, MFENCE, MOVE, PERSIST};
+use cases::operations::{ISSUE, MOVE, PERSIST};
 use cases::sizes::INSTRUCTIONS;
 use machine::sizes::{CANDIDATES, RANKS};
 
-// The first `count` ranks are those of the legal next steps; the others are 0.
+// The first `count` ranks are those of the legal next steps; the others are 0. A buffer with its length, since there is
+// no heap, and a list that is handed back by value has no other length.
 #[derive(Clone, Copy)]
 pub struct Ranks {
     pub count: u8,
@@ -27,120 +32,104 @@ pub struct Ranks {
 }
 
 // Does an entry keep a flush-opt of the line behind it?
-fn is_bar(c: &[u32; LISTING], tag: u32, q: Line) -> bool
-    requires { ListingFits c.now }
-    ensures { result ≡ bars_tag c.now q.0 tag }
+#[tactic(auto, using(cases::proofs::ChoiceLaws::choices), unfolding(crate::specs::Barred::bars_tag))]
+fn is_bar(c: &Listing, tag: u32, q: Line) -> bool
+    ensures { result ≡ bars_tag c.now.numbers q.0 tag }
 {
-    if SFENCE_TAG <= tag {
-        return true;
+    match kinds::kind_of(tag) {
+        Kind::Sfence => true,
+        Kind::FlushOpt(_) => false,
+        Kind::Flush(l) | Kind::Store(l) => c.line_of(l).0 == q.0,
     }
-    if FLUSH_OPT_TAG <= tag {
-        return false;
-    }
-    if FLUSH_TAG <= tag {
-        return rows::line_of(c, Location((tag - FLUSH_TAG) as u8)).0 == q.0;
-    }
-    rows::line_of(c, Location(tag as u8)).0 == q.0
 }
 
 // Does one of the first n entries from base on?
-fn is_barred(c: &[u32; LISTING], x: &[u32; LANES], base: usize, n: usize, q: Line) -> bool
-    requires { ListingFits c.now × (base + 2 * n ≤ most_lanes) }
-    ensures { result ≡ any_from 0 n (bars_at c.now q.0 x.now base) }
+#[tactic(auto, using(crate::proofs::next::RanksLoopLaws::bars), unfolding(crate::specs::Barred::bars_at))]
+fn is_barred(v: &View, base: usize, n: usize, q: Line) -> bool
+    requires { base + 2 * n ≤ most_lanes }
+    ensures { result ≡ any_from 0 n (bars_at v.now.c.now.numbers q.0 v.now.x.now base) }
 {
-    let mut i: usize = 0;
-    while i < n {
-        if is_bar(c, x[base + 2 * i], q) {
+    for i in 0..n {
+        if is_bar(v.c, v.x[base + 2 * i], q) {
             return true;
         }
-        i += 1;
     }
     false
 }
 
 // Exchange, compare and mfence.
+#[tactic(auto, using(cases::proofs::ChoiceLaws::choices), unfolding(machine::specs::Rules::is_barrier))]
 fn is_barrier(op: u32) -> bool
     ensures { result ≡ is_barrier op }
 {
-    if op == (EXCHANGE as u32) {
-        return true;
-    }
-    if op == (COMPARE as u32) {
-        return true;
-    }
-    op == (MFENCE as u32)
+    matches!(op, EXCHANGE | COMPARE | MFENCE)
 }
 
 // They wait for the own buffer and for the thread's markers.
-fn is_operation_barred(c: &[u32; LISTING], x: &[u32; LANES], t: Thread, op: u32) -> bool
-    requires { ListingFits c.now × FewEntries c.now x.now × (t.0 < threads_in c.now) }
-    ensures { result ≡ operation_barred c.now x.now t.0 op }
+#[tactic(auto, using(cases::proofs::ChoiceLaws::choices), unfolding(crate::specs::Barred::operation_barred))]
+fn is_operation_barred(v: &View, t: Thread, op: u32) -> bool
+    requires { t.0 < threads_in v.now.c.now.numbers }
+    ensures { result ≡ operation_barred v.now.c.now.numbers v.now.x.now t.0 op }
 {
     if is_barrier(op) {
-        if rows::row_len(c, x, rows::buffer_row(t)) != 0 {
+        if v.row_len(rows::buffer_row(t)) != 0 {
             return true;
         }
-        return rows::is_marked(c, x, t);
+        return v.is_marked(t);
     }
     false
 }
 
-fn is_issue_barred(c: &[u32; LISTING], x: &[u32; LANES], t: Thread) -> bool
-    requires { ListingFits c.now × FewEntries c.now x.now × (t.0 < threads_in c.now) }
-    ensures { result ≡ issue_barred c.now x.now t.0 }
+#[tactic(auto, using(cases::proofs::ChoiceLaws::choices), unfolding(crate::specs::Barred::issue_barred))]
+fn is_issue_barred(v: &View, t: Thread) -> bool
+    requires { t.0 < threads_in v.now.c.now.numbers }
+    ensures { result ≡ issue_barred v.now.c.now.numbers v.now.x.now t.0 }
 {
-    let i = x[t.0 as usize];
-    if c[COUNTS + (t.0 as usize)] <= i {
+    let i = v.x[t.0 as usize];
+    if v.c.numbers[COUNTS + (t.0 as usize)] <= i {
         return true;
     }
-    is_operation_barred(c, x, t, c[rows::code_at(t, i as usize)])
+    is_operation_barred(v, t, v.c.numbers[listing::code_at(t, i as usize)])
 }
 
 // Of an entry at the head of a thread's buffer.
-fn is_head_barred(c: &[u32; LISTING], x: &[u32; LANES], t: Thread, tag: u32) -> bool
-    requires { ListingFits c.now × FewEntries c.now x.now }
-    ensures { result ≡ head_barred c.now x.now t.0 tag }
+#[tactic(auto, using(cases::proofs::ChoiceLaws::choices), unfolding(crate::specs::Barred::head_barred))]
+fn is_head_barred(v: &View, t: Thread, tag: u32) -> bool
+    ensures { result ≡ head_barred v.now.c.now.numbers v.now.x.now t.0 tag }
 {
-    if SFENCE_TAG <= tag {
-        return rows::is_marked(c, x, t);
+    match kinds::kind_of(tag) {
+        Kind::Sfence => v.is_marked(t),
+        Kind::Flush(l) => v.row_len(v.c.queue_row(v.c.line_of(l))) != 0,
+        Kind::FlushOpt(_) | Kind::Store(_) => false,
     }
-    if FLUSH_OPT_TAG <= tag {
-        return false;
-    }
-    if FLUSH_TAG <= tag {
-        let q = rows::line_of(c, Location((tag - FLUSH_TAG) as u8));
-        return rows::row_len(c, x, rows::queue_row(c, q)) != 0;
-    }
-    false
 }
 
 // Of an entry at position i behind it, the buffer's row starting at base.
-fn is_pass_barred(c: &[u32; LISTING], x: &[u32; LANES], base: usize, i: usize, tag: u32) -> bool
-    requires { ListingFits c.now × (base + 2 * i ≤ most_lanes) }
-    ensures { result ≡ pass_barred c.now x.now base i tag }
+#[tactic(auto, using(cases::proofs::ChoiceLaws::choices), unfolding(crate::specs::Barred::pass_barred))]
+fn is_pass_barred(v: &View, base: usize, i: usize, tag: u32) -> bool
+    requires { base + 2 * i ≤ most_lanes }
+    ensures { result ≡ pass_barred v.now.c.now.numbers v.now.x.now base i tag }
 {
-    if SFENCE_TAG <= tag {
-        return true;
+    match kinds::kind_of(tag) {
+        Kind::FlushOpt(l) => is_barred(v, base, i, v.c.line_of(l)),
+        Kind::Sfence | Kind::Flush(_) | Kind::Store(_) => true,
     }
-    if FLUSH_OPT_TAG <= tag {
-        let q = rows::line_of(c, Location((tag - FLUSH_OPT_TAG) as u8));
-        return is_barred(c, x, base, i, q);
-    }
-    true
 }
 
-fn is_entry_barred(c: &[u32; LISTING], x: &[u32; LANES], t: Thread, base: usize, i: usize) -> bool
-    requires { ListingFits c.now × FewEntries c.now x.now × (base + 2 * i + 2 ≤ most_lanes) }
-    ensures { result ≡ entry_barred c.now x.now t.0 base i }
+#[tactic(auto, using(cases::proofs::ChoiceLaws::choices), unfolding(crate::specs::Barred::entry_barred))]
+fn is_entry_barred(v: &View, t: Thread, base: usize, i: usize) -> bool
+    requires { base + 2 * i + 2 ≤ most_lanes }
+    ensures { result ≡ entry_barred v.now.c.now.numbers v.now.x.now t.0 base i }
 {
-    let tag = x[base + 2 * i];
+    let tag = v.x[base + 2 * i];
     if i == 0 {
-        return is_head_barred(c, x, t, tag);
+        return is_head_barred(v, t, tag);
     }
-    is_pass_barred(c, x, base, i, tag)
+    is_pass_barred(v, base, i, tag)
 }
 
 // A step's rank in the order.
+#[tactic(auto, unfolding(machine::specs::Next::rank_of))]
 fn rank(k: Step) -> u8
     requires { rank_of k < 256 }
     ensures { result ≡ rank_of k }
@@ -148,32 +137,29 @@ fn rank(k: Step) -> u8
     k.code * (RANKS as u8) + k.thread.0 * (INSTRUCTIONS as u8) + k.position + k.location.0
 }
 
-// A step more, where it is not barred; says how many there are now.
-fn offer(ranks: &mut [u8; CANDIDATES], count: u8, barred: bool, k: Step) -> u8
-    requires { (count < most_candidates) × (rank_of k < 256) }
-    ensures { next_with result ranks.new ≡ offered barred k (next_with count ranks.old) }
-{
-    if barred {
-        return count;
+impl Ranks {
+    // A step more, where it is not barred.
+    #[tactic(auto, using(cases::proofs::ChoiceLaws::choices), unfolding(crate::specs::Barred::offered, crate::specs::Barred::pushed))]
+    fn offer(&mut self, barred: bool, k: Step)
+        requires { (self.old.count < most_candidates) × (rank_of k < 256) }
+        ensures { self.new ≡ offered barred k self.old }
+    {
+        if !barred {
+            self.ranks[self.count as usize] = rank(k);
+            self.count += 1;
+        }
     }
-    ranks[count as usize] = rank(k);
-    count + 1
 }
 
-fn offer_issues(c: &[u32; LISTING], x: &[u32; LANES], ranks: &mut [u8; CANDIDATES], count: u8) -> u8
-    requires { ListingFits c.now × FewEntries c.now x.now × (count + threads_in c.now ≤ most_candidates) }
-    ensures { (next_with result ranks.new ≡ offered_from (issue_barred c.now x.now)
-        issue_step 0 (threads_in c.now) (next_with count ranks.old))
-        × (result ≤ count + threads_in c.now) }
+fn offer_issues(v: &View, to: &mut Ranks)
+    requires { to.old.count + threads_in v.now.c.now.numbers ≤ most_candidates }
+    ensures { (to.new ≡ offered_from (issue_barred v.now.c.now.numbers v.now.x.now)
+        issue_step 0 (threads_in v.now.c.now.numbers) to.old)
+        × (to.new.count ≤ to.old.count + threads_in v.now.c.now.numbers) }
 {
-    let threads = c[0] as u8;
-    let mut n = count;
-    let mut t: u8 = 0;
-    while t < threads {
-        let barred = is_issue_barred(c, x, Thread(t));
-        n = offer(
-            ranks,
-            n,
+    for t in 0..v.c.threads() {
+        let barred = is_issue_barred(v, Thread(t));
+        to.offer(
             barred,
             Step {
                 thread: Thread(t),
@@ -182,36 +168,22 @@ fn offer_issues(c: &[u32; LISTING], x: &[u32; LANES], ranks: &mut [u8; CANDIDATE
                 location: Location(0),
             },
         );
-        t += 1;
     }
-    n
 }
 
-// The moves of one thread.
-fn offer_moves_of(
-    c: &[u32; LISTING],
-    x: &[u32; LANES],
-    t: Thread,
-    ranks: &mut [u8; CANDIDATES],
-    count: u8,
-) -> u8
-    requires { ListingFits c.now × FewEntries c.now x.now × (t.0 < threads_in c.now)
-        × (count + row_len c.now x.now t.0 ≤ most_candidates) }
-    ensures { (next_with result ranks.new
-        ≡ offered_from (move_barred c.now x.now t.0) (move_step t.0) 0
-        (row_len c.now x.now t.0) (next_with count ranks.old))
-        × (result ≤ count + row_len c.now x.now t.0) }
+// The moves of one thread, whose buffer's row starts at base.
+fn offer_moves_of(v: &View, t: Thread, base: usize, to: &mut Ranks)
+    requires { (t.0 < threads_in v.now.c.now.numbers)
+        × (base ≡ row_start v.now.c.now.numbers v.now.x.now t.0)
+        × (to.old.count + row_len v.now.c.now.numbers v.now.x.now t.0 ≤ most_candidates) }
+    ensures { (to.new ≡ offered_from (move_barred v.now.c.now.numbers v.now.x.now t.0) (move_step t.0) 0
+        (row_len v.now.c.now.numbers v.now.x.now t.0) to.old)
+        × (to.new.count ≤ to.old.count + row_len v.now.c.now.numbers v.now.x.now t.0) }
 {
-    let r = rows::buffer_row(t);
-    let base = rows::row_start(c, x, r);
-    let many = rows::row_len(c, x, r) as u8;
-    let mut n = count;
-    let mut i: u8 = 0;
-    while i < many {
-        let barred = is_entry_barred(c, x, t, base, i as usize);
-        n = offer(
-            ranks,
-            n,
+    let many = v.row_len(rows::buffer_row(t)) as u8;
+    for i in 0..many {
+        let barred = is_entry_barred(v, t, base, i as usize);
+        to.offer(
             barred,
             Step {
                 thread: t,
@@ -220,47 +192,29 @@ fn offer_moves_of(
                 location: Location(0),
             },
         );
-        i += 1;
     }
-    n
 }
 
-fn offer_moves(c: &[u32; LISTING], x: &[u32; LANES], ranks: &mut [u8; CANDIDATES], count: u8) -> u8
-    requires { ListingFits c.now × FewEntries c.now x.now
-        × (count + sum_to (threads_in c.now) (row_len c.now x.now) ≤ most_candidates) }
-    ensures { (next_with result ranks.new
-        ≡ offered_moves c.now x.now 0 (threads_in c.now)
-        (next_with count ranks.old))
-        × (result ≤ count + sum_to (threads_in c.now) (row_len c.now x.now)) }
+fn offer_moves(v: &View, to: &mut Ranks)
+    requires { to.old.count + sum_to (threads_in v.now.c.now.numbers) (row_len v.now.c.now.numbers v.now.x.now) ≤ most_candidates }
+    ensures { (to.new ≡ offered_moves v.now.c.now.numbers v.now.x.now 0 (threads_in v.now.c.now.numbers) to.old)
+        × (to.new.count ≤ to.old.count + sum_to (threads_in v.now.c.now.numbers) (row_len v.now.c.now.numbers v.now.x.now)) }
 {
-    let threads = c[0] as u8;
-    let mut n = count;
-    let mut t: u8 = 0;
-    while t < threads {
-        n = offer_moves_of(c, x, Thread(t), ranks, n);
-        t += 1;
+    let mut base = v.c.pool_at();
+    for t in 0..v.c.threads() {
+        offer_moves_of(v, Thread(t), base, to);
+        base += 2 * v.row_len(rows::buffer_row(Thread(t)));
     }
-    n
 }
 
-fn offer_persists(
-    c: &[u32; LISTING],
-    x: &[u32; LANES],
-    ranks: &mut [u8; CANDIDATES],
-    count: u8,
-) -> u8
-    requires { ListingFits c.now × (count + lines_in c.now ≤ most_candidates) }
-    ensures { next_with result ranks.new ≡ offered_from (persist_barred c.now x.now)
-        persist_step 0 (lines_in c.now) (next_with count ranks.old) }
+fn offer_persists(v: &View, to: &mut Ranks)
+    requires { to.old.count + lines_in v.now.c.now.numbers ≤ most_candidates }
+    ensures { to.new ≡ offered_from (persist_barred v.now.c.now.numbers v.now.x.now)
+        persist_step 0 (lines_in v.now.c.now.numbers) to.old }
 {
-    let lines = c[1] as u8;
-    let mut n = count;
-    let mut q: u8 = 0;
-    while q < lines {
-        let barred = rows::row_len(c, x, rows::queue_row(c, Line(q))) == 0;
-        n = offer(
-            ranks,
-            n,
+    for q in 0..v.c.lines() {
+        let barred = v.row_len(v.c.queue_row(Line(q))) == 0;
+        to.offer(
             barred,
             Step {
                 thread: Thread(0),
@@ -269,26 +223,25 @@ fn offer_persists(
                 location: Location(q),
             },
         );
-        q += 1;
     }
-    n
 }
 
-pub(crate) fn next_steps(c: &[u32; LISTING], x: &[u32; LANES]) -> Ranks
-    requires { ListingFits c.now × FewEntries c.now x.now }
-    ensures { result ≡ next_lanes c.now x.now }
+#[tactic(auto, using(crate::proofs::next::RanksLoopLaws::steps))]
+pub(crate) fn next_steps(v: &View) -> Ranks
+    ensures { result ≡ next_lanes v.now.c.now.numbers v.now.x.now }
 {
-    let mut ranks = [0u8; CANDIDATES];
-    let issues = offer_issues(c, x, &mut ranks, 0);
-    let moves = offer_moves(c, x, &mut ranks, issues);
-    let count = offer_persists(c, x, &mut ranks, moves);
-    Ranks {
-        count: count,
-        ranks: ranks,
-    }
+    let mut next = Ranks {
+        count: 0,
+        ranks: [0u8; CANDIDATES],
+    };
+    offer_issues(v, &mut next);
+    offer_moves(v, &mut next);
+    offer_persists(v, &mut next);
+    next
 }
 
 // The step of a rank.
+#[tactic(auto, using(cases::proofs::ChoiceLaws::choices), unfolding(crate::specs::Barred::step_at))]
 pub(crate) fn step_at(r: u8) -> Step
     ensures { result ≡ step_at r }
 {

@@ -1,20 +1,22 @@
 // The walk that remembers: as the walk, but that each state is looked up in the lent memory, kept there at its first
 // meeting, and never gone below twice.
 ghost use Rattle.std.specs.Prelude.{◌≡◌, ◌-◌, ◌<◌, ◌≤◌, length};
-ghost use Rattle.search.specs.Sizes.{most_lanes};
 ghost use Rattle.search.specs.Seek.{walked_of, stored_of};
-ghost use Rattle.search.specs.Listing.{ListingFits};
 ghost use Rattle.search.specs.Rows.{FewEntries};
 ghost use Rattle.search.specs.Held.{Held};
 ghost use Rattle.search.specs.Table.{keys_in, Chained};
 ghost use Rattle.search.specs.Recall.{met_by, key_lanes, new_from, sought_new, MetAfter, Meets};
 
-use crate::sizes::{LANES, LISTING};
+use crate::listing::Listing;
+use crate::rows::View;
+use crate::sizes::LANES;
 use crate::walk::Walked;
-use crate::{next, rows, shown, table, taken, wants};
-use cases::sizes::{LOCATIONS, STEP_SIZE, THREADS};
+use crate::{next, shown, table, taken, wants};
+use cases::case::Ask;
+use cases::sizes::STEP_SIZE;
 
-// A state was met before; it is new, and kept; it is new, and there is no room for it.
+// A state was met before; it is new, and kept; it is new, and there is no room for it. Three answers, none of them an
+// error: no Option or Result says it.
 #[derive(Clone, Copy)]
 pub enum Met {
     Before,
@@ -22,36 +24,31 @@ pub enum Met {
     Full,
 }
 
+// The lent words, limit and count stay apart here and in table.rt: that they belong together (Chained) is no proposition,
+// so no struct can hold it as a ghost field, and each function would have to promise that the same words are lent.
 // Looks a state up, and keeps it where it is new: `left` more have room, of `limit` in all.
-fn meet<'a, 'k>(
-    c: &'a [u32; LISTING],
-    x: &'k [u32; LANES],
-    limit: u32,
-    left: u32,
-    memory: &mut [u32],
-) -> Met
-    requires { ListingFits c.now × FewEntries c.now x.now × (0 < limit) × (left ≤ limit)
-        × Chained memory.old limit (limit - left) × (length x.now ≡ most_lanes) }
-    ensures { Meets result memory.old memory.new limit left (key_lanes c.now x.now) }
+#[tactic(auto, using(crate::proofs::recall::MeetLaws::meets))]
+fn meet(v: &View, limit: u32, left: u32, memory: &mut [u32]) -> Met
+    requires { (0 < limit) × (left ≤ limit) × Chained memory.old limit (limit - left) }
+    ensures { Meets result memory.old memory.new limit left
+        (key_lanes v.now.c.now.numbers v.now.x.now) }
 {
-    let n = rows::pool_end(c, x);
-    let b = table::bucket(limit, x, n);
-    if table::is_kept(memory, limit, limit - left, b, x, n) {
+    let n = v.pool_end();
+    let b = table::bucket(limit, v.x, n);
+    if table::is_kept(memory, limit, limit - left, b, v.x, n) {
         return Met::Before;
     }
     if left == 0 {
         return Met::Full;
     }
-    table::keep(memory, limit, limit - left, b, x, n);
+    table::keep(memory, limit, limit - left, b, v.x, n);
     Met::New
 }
 
 // All that is new from a state that `depth` steps lead to. The run is written on the way up, and only if it reaches.
-pub(crate) fn recall<'a>(
-    c: &[u32; LISTING],
-    wanted: &'a [bool; LOCATIONS],
-    want: &'a [u32; LOCATIONS],
-    passed: &'a [u8; THREADS],
+pub(crate) fn recall(
+    c: &Listing,
+    a: &Ask,
     x: &[u32; LANES],
     limit: u32,
     left: u32,
@@ -59,61 +56,41 @@ pub(crate) fn recall<'a>(
     run: &mut [u8],
     memory: &mut [u32],
 ) -> Walked
-    requires { Held c.now x.now depth (length run.old) × (0 < limit) × (left ≤ limit)
+    requires { Held c.now.numbers x.now depth (length run.old) × (0 < limit) × (left ≤ limit)
         × Chained memory.old limit (limit - left) }
-    ensures { (result ≡ walked_of depth (sought_new c.now wanted.now want.now
-        passed.now depth left (keys_in memory.old limit (limit - left)) x.now))
-        × (run.new ≡ stored_of depth (sought_new c.now wanted.now want.now
-        passed.now depth left (keys_in memory.old limit (limit - left)) x.now)
+    ensures { (result ≡ walked_of depth (sought_new c.now.numbers a.now.wanted a.now.want
+        a.now.passed depth left (keys_in memory.old limit (limit - left)) x.now))
+        × (run.new ≡ stored_of depth (sought_new c.now.numbers a.now.wanted a.now.want
+        a.now.passed depth left (keys_in memory.old limit (limit - left)) x.now)
         run.old)
         × MetAfter result memory.new limit
-        (met_by (key_lanes c.now) (keys_in memory.old limit (limit - left))
-        (new_from c.now depth (keys_in memory.old limit (limit - left)) x.now)) }
+        (met_by (key_lanes c.now.numbers) (keys_in memory.old limit (limit - left))
+        (new_from c.now.numbers depth (keys_in memory.old limit (limit - left)) x.now)) }
 {
-    match meet(c, x, limit, left, memory) {
-        Met::Before => {
-            return Walked::Finished(left);
-        }
-        Met::Full => {
-            return Walked::Stopped;
-        }
+    let v = View { c, x };
+    match meet(&v, limit, left, memory) {
+        Met::Before => return Walked::Finished(left),
+        Met::Full => return Walked::Stopped,
         Met::New => {}
     }
-    if wants::is_reached(c, wanted, want, passed, x) {
+    if wants::is_reached(&v, a) {
         return Walked::Found(depth);
     }
-    let next = next::next_steps(c, x);
+    let next = next::next_steps(&v);
     let mut rest = left - 1;
-    let mut i: u8 = 0;
-    while i < next.count {
+    for i in 0..next.count {
         let k = next::step_at(next.ranks[i as usize]);
         let mut u = *x;
         taken::take(c, &mut u, k);
-        let below = recall(
-            c,
-            wanted,
-            want,
-            passed,
-            &u,
-            limit,
-            rest,
-            depth + 1,
-            run,
-            memory,
-        );
+        let below = recall(c, a, &u, limit, rest, depth + 1, run, memory);
         match below {
             Walked::Found(n) => {
                 shown::put_step(run, STEP_SIZE * depth, k);
                 return Walked::Found(n);
             }
-            Walked::Finished(more) => {
-                rest = more;
-            }
-            Walked::Stopped => {
-                return Walked::Stopped;
-            }
+            Walked::Finished(more) => rest = more,
+            Walked::Stopped => return Walked::Stopped,
         }
-        i += 1;
     }
     Walked::Finished(rest)
 }

@@ -1,38 +1,26 @@
 // Where each thing stands among a state's lanes, and what a look through them finds. No function here changes any.
-ghost use Rattle.std.specs.Prelude.{◌≡◌, ◌+◌, ◌*◌, ◌<◌, ◌≤◌};
-ghost use Rattle.cases.specs.Sizes.{most_threads, most_instructions};
+ghost use Rattle.std.specs.Prelude.{◌≡◌, ◌+◌, ◌*◌, ◌<◌, ◌≤◌, false};
+ghost use Rattle.machine.specs.View.{mark_of};
 ghost use Rattle.search.specs.Sizes.{most_lanes};
-ghost use Rattle.search.specs.Listing.{threads_in, locations_in, line_in, code_at, ListingFits};
-ghost use Rattle.search.specs.Rows.{rows_in, queue_row, row_len_at, word_at, register_at, row_len, row_start};
-ghost use Rattle.search.specs.Rows.{pool_end, FewEntries, newest_lane, queued_lane, loaded_lane, marked_lanes};
+ghost use Rattle.search.specs.Listing.{threads_in, locations_in};
+ghost use Rattle.search.specs.Rows.{rows_in, row_len, row_start};
+ghost use Rattle.search.specs.Rows.{pool_end, FewEntries, newest_lane, queued_lane, loaded_lane, marked_among, marked_lanes};
 
-use crate::sizes::{CODES, LANES, LINES, LISTING};
-use cases::case::{Line, Location, Register, Thread};
-use cases::sizes::{INSTRUCTIONS, LOCATIONS, REGISTERS};
+use crate::listing::Listing;
+use crate::sizes::LANES;
+use cases::case::{Line, Location, Thread};
 use machine::sizes::MARKER;
 
 // A row of entries: of a thread's buffer, or, behind all of these, of a line's queue.
 #[derive(Clone, Copy)]
 pub struct Row(pub usize);
 
-// The line that a location lies on; 0 for a location that no program has.
-pub(crate) fn line_of(c: &[u32; LISTING], l: Location) -> Line
-    requires { ListingFits c.now }
-    ensures { result.0 ≡ line_in c.now l.0 }
-{
-    let at = l.0 as usize;
-    if LOCATIONS <= at {
-        return Line(0);
-    }
-    Line(c[LINES + at] as u8)
-}
-
-// Where an instruction stands in the listing.
-pub(crate) fn code_at(t: Thread, i: usize) -> usize
-    requires { (t.0 < most_threads) × (i < most_instructions) }
-    ensures { result ≡ code_at t.0 i }
-{
-    CODES + 4 * ((t.0 as usize) * INSTRUCTIONS + i)
+// A state's lanes beside the listing of its program, to be looked at.
+#[derive(Clone, Copy)]
+pub struct View<'a> {
+    pub c: &'a Listing,
+    pub x: &'a [u32; LANES],
+    ghost few: { FewEntries c.now.numbers x.now },
 }
 
 pub(crate) fn buffer_row(t: Thread) -> Row
@@ -41,152 +29,111 @@ pub(crate) fn buffer_row(t: Thread) -> Row
     Row(t.0 as usize)
 }
 
-pub(crate) fn queue_row(c: &[u32; LISTING], q: Line) -> Row
-    requires { ListingFits c.now }
-    ensures { result.0 ≡ queue_row c.now q.0 }
-{
-    Row((c[0] as usize) + (q.0 as usize))
-}
-
-// Where a row's length stands.
-pub(crate) fn row_len_at(c: &[u32; LISTING], r: Row) -> usize
-    requires { ListingFits c.now × (r.0 < rows_in c.now) }
-    ensures { result ≡ row_len_at c.now r.0 }
-{
-    (c[0] as usize) + r.0
-}
-
-// Where a location's word stands.
-pub(crate) fn word_at(c: &[u32; LISTING], l: Location) -> usize
-    requires { ListingFits c.now }
-    ensures { result ≡ word_at c.now l.0 }
-{
-    2 * (c[0] as usize) + (c[1] as usize) + (l.0 as usize)
-}
-
-// Where a register of a thread stands.
-pub(crate) fn register_at(c: &[u32; LISTING], t: Thread, r: Register) -> usize
-    requires { ListingFits c.now }
-    ensures { result ≡ register_at c.now t.0 r.0 }
-{
-    2 * (c[0] as usize)
-        + (c[1] as usize)
-        + (c[2] as usize)
-        + (t.0 as usize) * REGISTERS
-        + (r.0 as usize)
-}
-
-// A lane's number as a size. A parameter is known to fit its type; an element of a lent array is not.
-pub(crate) fn sized(n: u32) -> usize
-    ensures { result ≡ n }
-{
-    n as usize
-}
-
-// A byte of a lent array as a lane's number, for the same reason.
-pub(crate) fn wide(n: u8) -> u32
-    ensures { result ≡ n }
-{
-    n as u32
-}
-
-// How many entries a row has.
-pub(crate) fn row_len(c: &[u32; LISTING], x: &[u32; LANES], r: Row) -> usize
-    requires { ListingFits c.now × (r.0 < rows_in c.now) }
-    ensures { result ≡ row_len c.now x.now r.0 }
-{
-    sized(x[row_len_at(c, r)])
-}
-
-// Where a row starts; behind the last row, where that one ends.
-pub(crate) fn row_start(c: &[u32; LISTING], x: &[u32; LANES], r: Row) -> usize
-    requires { ListingFits c.now × FewEntries c.now x.now × (r.0 ≤ rows_in c.now) }
-    ensures { result ≡ row_start c.now x.now r.0 }
-{
-    let mut n = 2 * (c[0] as usize)
-        + (c[1] as usize)
-        + (c[2] as usize)
-        + (c[0] as usize) * REGISTERS;
-    let mut i: usize = 0;
-    while i < r.0 {
-        n += 2 * row_len(c, x, Row(i));
-        i += 1;
-    }
-    n
-}
-
-// Where the last row ends.
-pub(crate) fn pool_end(c: &[u32; LISTING], x: &[u32; LANES]) -> usize
-    requires { ListingFits c.now × FewEntries c.now x.now }
-    ensures { result ≡ pool_end c.now x.now }
-{
-    row_start(c, x, Row((c[0] as usize) + (c[1] as usize)))
-}
-
 // Of n entries from base on, the word of the newest with that tag, else the word given: the first one found from
 // their end.
+#[tactic(auto, using(crate::proofs::rows::RowLoopLaws::newest))]
 fn newest(x: &[u32; LANES], base: usize, tag: u32, other: u32, n: usize) -> u32
     requires { base + 2 * n ≤ most_lanes }
     ensures { result ≡ newest_lane x.now base tag other n }
 {
-    let mut i = n;
-    while 0 < i {
+    for i in (0..n).rev() {
         let at = base + 2 * i;
-        if x[at - 2] == tag {
-            return x[at - 1];
+        if x[at] == tag {
+            return x[at + 1];
         }
-        i -= 1;
     }
     other
 }
 
-// What stands for a location where no buffer is looked at.
-pub(crate) fn queued(c: &[u32; LISTING], x: &[u32; LANES], l: Location) -> u32
-    requires { ListingFits c.now × FewEntries c.now x.now × (l.0 < locations_in c.now) }
-    ensures { result ≡ queued_lane c.now x.now l.0 }
+// A thread's markers in queues.
+pub(crate) fn mark_of(t: Thread) -> u32
+    ensures { result ≡ mark_of t.0 }
 {
-    let q = line_of(c, l);
-    let r = queue_row(c, q);
-    let base = row_start(c, x, r);
-    let n = row_len(c, x, r);
-    newest(x, base, l.0 as u32, x[word_at(c, l)], n)
+    (t.0 as u32) + (MARKER as u32)
 }
 
-// What a load takes.
-pub(crate) fn loaded(c: &[u32; LISTING], x: &[u32; LANES], t: Thread, l: Location) -> u32
-    requires { ListingFits c.now × FewEntries c.now x.now × (t.0 < threads_in c.now)
-        × (l.0 < locations_in c.now) }
-    ensures { result ≡ loaded_lane c.now x.now t.0 l.0 }
+// Does one of n entries from base on have that tag?
+#[tactic(auto, using(crate::proofs::rows::MarkedLoopLaws::mark))]
+fn has_mark(x: &[u32; LANES], base: usize, n: usize, mark: u32) -> bool
+    requires { base + 2 * n ≤ most_lanes }
+    ensures { result ≡ marked_among x.now mark base n false }
 {
-    let r = buffer_row(t);
-    let base = row_start(c, x, r);
-    let n = row_len(c, x, r);
-    newest(x, base, l.0 as u32, queued(c, x, l), n)
-}
-
-// Does some queue hold a marker of the thread?
-pub(crate) fn is_marked(c: &[u32; LISTING], x: &[u32; LANES], t: Thread) -> bool
-    requires { ListingFits c.now × FewEntries c.now x.now }
-    ensures { result ≡ marked_lanes c.now x.now t.0 }
-{
-    let mark = (t.0 as u32) + (MARKER as u32);
-    let threads = c[0] as usize;
-    let end = threads + (c[1] as usize);
-    let mut at = row_start(c, x, Row(threads));
-    let mut found = false;
-    let mut r = threads;
-    'queues: while r < end {
-        let n = row_len(c, x, Row(r));
-        let mut i: usize = 0;
-        'entries: while i < n {
-            if x[at] == mark {
-                found = true;
-                break 'queues;
-            }
-            at += 2;
-            i += 1;
+    for i in 0..n {
+        if x[base + 2 * i] == mark {
+            return true;
         }
-        r += 1;
     }
-    found
+    false
+}
+
+impl<'a> View<'a> {
+    // How many entries a row has.
+    #[tactic(auto, unfolding(crate::specs::Rows::row_len))]
+    pub(crate) fn row_len(&self, r: Row) -> usize
+        requires { r.0 < rows_in self.now.c.now.numbers }
+        ensures { result ≡ row_len self.now.c.now.numbers self.now.x.now r.0 }
+    {
+        self.x[self.c.row_len_at(r)] as usize
+    }
+
+    // Where a row starts; behind the last row, where that one ends.
+    pub(crate) fn row_start(&self, r: Row) -> usize
+        requires { r.0 ≤ rows_in self.now.c.now.numbers }
+        ensures { result ≡ row_start self.now.c.now.numbers self.now.x.now r.0 }
+    {
+        let mut n = self.c.pool_at();
+        for i in 0..r.0 {
+            n += 2 * self.row_len(Row(i));
+        }
+        n
+    }
+
+    // Where the last row ends.
+    pub(crate) fn pool_end(&self) -> usize
+        ensures { result ≡ pool_end self.now.c.now.numbers self.now.x.now }
+    {
+        self.row_start(Row(self.c.rows()))
+    }
+
+    // What stands for a location where no buffer is looked at.
+    #[tactic(auto, using(crate::proofs::rows::RowLoopLaws::row_room, crate::proofs::rows::RowLoopLaws::queued_made))]
+    pub(crate) fn queued(&self, l: Location) -> u32
+        requires { l.0 < locations_in self.now.c.now.numbers }
+        ensures { result ≡ queued_lane self.now.c.now.numbers self.now.x.now l.0 }
+    {
+        let q = self.c.line_of(l);
+        let r = self.c.queue_row(q);
+        let base = self.row_start(r);
+        let n = self.row_len(r);
+        newest(self.x, base, l.0 as u32, self.x[self.c.word_at(l)], n)
+    }
+
+    // What a load takes.
+    #[tactic(auto, using(crate::proofs::rows::RowLoopLaws::row_room, crate::proofs::rows::RowLoopLaws::loaded_made))]
+    pub(crate) fn loaded(&self, t: Thread, l: Location) -> u32
+        requires { (t.0 < threads_in self.now.c.now.numbers)
+            × (l.0 < locations_in self.now.c.now.numbers) }
+        ensures { result ≡ loaded_lane self.now.c.now.numbers self.now.x.now t.0 l.0 }
+    {
+        let r = buffer_row(t);
+        let base = self.row_start(r);
+        let n = self.row_len(r);
+        newest(self.x, base, l.0 as u32, self.queued(l), n)
+    }
+
+    // Does some queue hold a marker of the thread?
+    pub(crate) fn is_marked(&self, t: Thread) -> bool
+        ensures { result ≡ marked_lanes self.now.c.now.numbers self.now.x.now t.0 }
+    {
+        let mark = mark_of(t);
+        let mut base = self.row_start(self.c.queue_row(Line(0)));
+        for q in 0..self.c.lines() {
+            let n = self.row_len(self.c.queue_row(Line(q)));
+            if has_mark(self.x, base, n, mark) {
+                return true;
+            }
+            base += 2 * n;
+        }
+        false
+    }
 }

@@ -6,17 +6,14 @@ ghost use Rattle.cases.specs.Record.{record_bytes};
 ghost use Rattle.cases.specs.Sizes.{step_size};
 
 use cases::case::Step;
+use cases::sizes::STEP_SIZE;
 
+#[tactic(auto, using(crate::proofs::shown::StoreLaws::put_record))]
 pub(crate) fn put_step(out: &mut [u8], at: usize, k: Step)
     requires { at + step_size ≤ length out.old }
     ensures { out.new ≡ sets out.old at (record_bytes (Take k)) }
 {
-    out[at] = 4;
-    out[at + 1] = 0;
-    out[at + 2] = 6;
-    out[at + 3] = 0;
-    out[at + 4] = k.thread.0;
-    out[at + 5] = k.code;
-    out[at + 6] = k.position;
-    out[at + 7] = k.location.0;
+    // a payload of 4 bytes and kind 6, two bytes each, then the payload
+    let record = [4, 0, 6, 0, k.thread.0, k.code, k.position, k.location.0];
+    out[at..at + STEP_SIZE].copy_from_slice(&record);
 }

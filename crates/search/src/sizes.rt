@@ -13,12 +13,15 @@ pub const CODES: usize = LINES + LOCATIONS;
 
 pub const LISTING: usize = CODES + 4 * CODE;
 
-// The least tag of each kind of entry behind the stores, whose tag is their location.
-pub const FLUSH_TAG: u32 = 256;
+// The tags of a kind of entry, one for each location; the stores' come first, and are their location.
+pub const TAGS: u32 = 256;
 
-pub const FLUSH_OPT_TAG: u32 = 512;
+// The least tag of each kind behind the stores.
+pub const FLUSH_TAG: u32 = TAGS;
 
-pub const SFENCE_TAG: u32 = 768;
+pub const FLUSH_OPT_TAG: u32 = 2 * TAGS;
+
+pub const SFENCE_TAG: u32 = 3 * TAGS;
 
 // The lent words that a state takes in a walk that remembers, and those of its record; one more is the head of a
 // bucket.

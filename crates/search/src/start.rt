@@ -6,20 +6,17 @@ ghost use Rattle.search.specs.Lanes.{lanes_of};
 ghost use Rattle.search.specs.Listing.{listing_of};
 ghost use Rattle.search.specs.Taken.{padded};
 
-use crate::rows;
-use crate::sizes::{LANES, LISTING};
+use crate::listing::Listing;
+use crate::sizes::LANES;
 use cases::case::{Location, Program};
 
-pub(crate) fn start_lanes(p: Program, c: &[u32; LISTING]) -> [u32; LANES]
-    requires { ProgramFits p × (c.now ≡ listing_of p) }
-    ensures { result ≡ padded (lanes_of p (start_of p)) }
+pub(crate) fn start_lanes(p: &Program, c: &Listing) -> [u32; LANES]
+    requires { ProgramFits p.now × (c.now.numbers ≡ listing_of p.now) }
+    ensures { result ≡ padded (lanes_of p.now (start_of p.now)) }
 {
-    let q = p;
     let mut x = [0u32; LANES];
-    let mut l: u8 = 0;
-    while l < q.locations {
-        x[rows::word_at(c, Location(l))] = q.first[l as usize];
-        l += 1;
+    for l in 0..p.locations {
+        x[c.word_at(Location(l))] = p.first[l as usize];
     }
     x
 }

@@ -21,6 +21,7 @@ fn fold(h: u64) -> u32
 }
 
 // A number of 64 bits with a lane more mixed in: both halves and the lane, times an odd number.
+#[tactic(auto, unfolding(crate::specs::Table::mixed))]
 fn mix(h: u64, lane: u32) -> u64
     ensures { result ≡ mixed h lane }
 {
@@ -28,45 +29,39 @@ fn mix(h: u64, lane: u32) -> u64
 }
 
 // The bucket of a key, its first n lanes. Four numbers take them in turn, since each mixing waits for the one before.
+#[tactic(auto, using(crate::proofs::table::MixLaws::mixed_next, crate::proofs::table::MixLaws::mixed_end))]
 pub(crate) fn bucket(limit: u32, key: &[u32; LANES], n: usize) -> u32
-    requires { (n ≤ most_lanes) × (0 < limit) × (length key.now ≡ most_lanes) }
+    requires { (n ≤ most_lanes) × (0 < limit) }
     ensures { (result ≡ bucket_of limit (take n key.now)) × (result < limit) }
 {
     let mut a: u64 = 0;
     let mut b: u64 = 1;
     let mut c: u64 = 2;
     let mut d: u64 = 3;
-    let mut i: usize = 0;
-    while i < n {
+    for i in 0..n {
         let more = mix(a, key[i]);
         a = b;
         b = c;
         c = d;
         d = more;
-        i += 1;
     }
     fold(mix(mix(mix(a, fold(b)), fold(c)), fold(d))) % limit
 }
 
 // Do the n words from `at` on equal the first n of the key?
-fn is_same<'a, 'k>(memory: &'a [u32], at: usize, key: &'k [u32; LANES], n: usize) -> bool
-    requires { (at + n ≤ length memory.now) × (n ≤ most_lanes) × (length key.now ≡ most_lanes) }
+#[tactic(auto, using(crate::proofs::table::CompareLaws::same_lanes))]
+fn is_same(memory: &[u32], at: usize, key: &[u32; LANES], n: usize) -> bool
+    requires { (at + n ≤ length memory.now) × (n ≤ most_lanes) }
     ensures { result ≡ eq_lanes (take n key.now) (part at n memory.now) }
 {
-    let mut lane: usize = 0;
-    while lane < n {
-        if memory[at + lane] != key[lane] {
-            return false;
-        }
-        lane += 1;
-    }
-    true
+    key[..n] == memory[at..at + n]
 }
 
 // Does the record at `at` hold the first n lanes of the key, and no more?
-fn is_record<'a, 'k>(memory: &'a [u32], at: usize, key: &'k [u32; LANES], n: usize) -> bool
+#[tactic(auto, using(crate::proofs::table::CompareLaws::record_other, crate::proofs::table::CompareLaws::record_same))]
+fn is_record(memory: &[u32], at: usize, key: &[u32; LANES], n: usize) -> bool
     requires { (at + record_words ≤ length memory.now) × (get_or memory.now (at + 1) 0 ≤ most_lanes)
-        × (n ≤ most_lanes) × (length key.now ≡ most_lanes) }
+        × (n ≤ most_lanes) }
     ensures { result ≡ eq_lanes (take n key.now) (key_at memory.now at) }
 {
     if memory[at + 1] != (n as u32) {
@@ -76,19 +71,20 @@ fn is_record<'a, 'k>(memory: &'a [u32], at: usize, key: &'k [u32; LANES], n: usi
 }
 
 // Is the key among those kept? b is its bucket.
-pub(crate) fn is_kept<'a, 'k>(
-    memory: &'a [u32],
+pub(crate) fn is_kept(
+    memory: &[u32],
     limit: u32,
     count: u32,
     b: u32,
-    key: &'k [u32; LANES],
+    key: &[u32; LANES],
     n: usize,
 ) -> bool
     requires { Chained memory.now limit count × (b < limit) × (b ≡ bucket_of limit (take n key.now))
-        × (n ≤ most_lanes) × (length key.now ≡ most_lanes) }
+        × (n ≤ most_lanes) }
     ensures { result ≡ among (take n key.now) (keys_in memory.now limit count) }
 {
     let mut x = memory[b as usize];
+    // a chain has no count to go by
     while x != 0 {
         let at = (limit as usize) + ((x - 1) as usize) * RECORD;
         if is_record(memory, at, key, n) {
@@ -100,28 +96,18 @@ pub(crate) fn is_kept<'a, 'k>(
 }
 
 // The first n lanes of the key, from `at` on.
-fn copy<'k>(memory: &mut [u32], at: usize, key: &'k [u32; LANES], n: usize)
-    requires { (at + n ≤ length memory.old) × (n ≤ most_lanes) × (length key.now ≡ most_lanes) }
+#[tactic(auto, using(crate::proofs::table::CopyLaws::copied))]
+fn copy(memory: &mut [u32], at: usize, key: &[u32; LANES], n: usize)
+    requires { (at + n ≤ length memory.old) × (n ≤ most_lanes) }
     ensures { memory.new ≡ sets memory.old at (take n key.now) }
 {
-    let mut i: usize = 0;
-    while i < n {
-        memory[at + i] = key[i];
-        i += 1;
-    }
+    memory[at..at + n].copy_from_slice(&key[..n]);
 }
 
 // The key as one more record, in front of its bucket's chain.
-pub(crate) fn keep<'k>(
-    memory: &mut [u32],
-    limit: u32,
-    count: u32,
-    b: u32,
-    key: &'k [u32; LANES],
-    n: usize,
-)
+pub(crate) fn keep(memory: &mut [u32], limit: u32, count: u32, b: u32, key: &[u32; LANES], n: usize)
     requires { Chained memory.old limit count × (count < limit) × (b < limit)
-        × (b ≡ bucket_of limit (take n key.now)) × (n ≤ most_lanes) × (length key.now ≡ most_lanes) }
+        × (b ≡ bucket_of limit (take n key.now)) × (n ≤ most_lanes) }
     ensures { Chained memory.new limit (suc count)
         × (keys_in memory.new limit (suc count)
         ≡ take n key.now ∷ keys_in memory.old limit count) }
@@ -138,9 +124,5 @@ pub(crate) fn clear(memory: &mut [u32], n: usize)
     requires { n ≤ length memory.old }
     ensures { memory.new ≡ replicate n 0 ++ drop n memory.old }
 {
-    let mut word: usize = 0;
-    while word < n {
-        memory[word] = 0;
-        word += 1;
-    }
+    memory[..n].fill(0);
 }

@@ -1,189 +1,193 @@
 // A legal step taken over lanes: what changes in a state is changed in place.
-ghost use Rattle.std.specs.Prelude.{◌≡◌, ◌+◌, ◌*◌, ◌<◌, ◌≤◌, length, get_or};
+ghost use Rattle.std.specs.Prelude.{◌≡◌, ◌+◌, ◌*◌, ◌<◌, ◌≤◌, get_or};
 ghost use Rattle.cases.specs.Sizes.{all_code};
 ghost use Rattle.search.specs.Sizes.{most_lanes};
-ghost use Rattle.search.specs.Listing.{threads_in, lines_in, count_in, ListingFits};
+ghost use Rattle.search.specs.Listing.{threads_in, lines_in, count_in};
 ghost use Rattle.search.specs.Rows.{rows_in, queue_row, pool_at, row_len, row_start, FewEntries, RoomForOne};
 ghost use Rattle.search.specs.Taken.{inserted, carried, counted, discounted, row_joined, row_left, row_carried};
 ghost use Rattle.search.specs.Taken.{entry_tag, entry_word, awaited_lanes, took_lanes, fetched_lanes};
 ghost use Rattle.search.specs.Taken.{exchanged_lanes, compared_lanes, performed_lanes, issue_lanes, moved_lanes};
 ghost use Rattle.search.specs.Taken.{move_lanes, persist_lanes, step_lanes, CodeHere, Takes};
 
-use crate::rows;
-use crate::rows::Row;
-use crate::sizes::{FLUSH_OPT_TAG, FLUSH_TAG, LANES, LISTING, SFENCE_TAG};
-use cases::case::{Line, Location, Register, Step, Thread};
-use cases::operations::{
-    COMPARE, EXCHANGE, FLUSH, FLUSH_OPT, ISSUE, LOAD, MFENCE, MOVE, STORE_REGISTER, STORE_WORD,
+use crate::kinds::Kind;
+use crate::listing::Listing;
+use crate::operations::{
+    COMPARE, EXCHANGE, FLUSH, FLUSH_OPT, LOAD, MFENCE, STORE_REGISTER, STORE_WORD,
 };
-use machine::sizes::MARKER;
+use crate::rows::{Row, View};
+use crate::sizes::{FLUSH_OPT_TAG, FLUSH_TAG, LANES, SFENCE_TAG};
+use crate::{kinds, listing, rows};
+use cases::case::{Line, Location, Step, Thread};
+use cases::operations::{ISSUE, MOVE};
 
 // An entry more before lane `at`: what stands from there to `end` goes two further.
+#[tactic(auto, using(crate::proofs::taken::InPlaceLaws::inserted_made))]
 fn insert(x: &mut [u32; LANES], at: usize, end: usize, tag: u32, word: u32)
     requires { (at ≤ end) × (end + 2 ≤ most_lanes) }
     ensures { x.new ≡ inserted x.old at end tag word }
 {
-    let mut i = end;
-    while at < i {
-        x[i + 1] = x[i - 1];
-        i -= 1;
-    }
+    x.copy_within(at..end, at + 2);
     x[at] = tag;
     x[at + 1] = word;
 }
 
 // The entry at lane `at` goes, as tag and word, to just before lane `to`: what stands between comes two nearer.
+#[tactic(auto, using(crate::proofs::taken::InPlaceLaws::carried_made))]
 fn carry(x: &mut [u32; LANES], at: usize, to: usize, tag: u32, word: u32)
-    requires { (at + 2 ≤ to) × (to ≤ most_lanes) × (length x.old ≡ most_lanes) }
+    requires { (at + 2 ≤ to) × (to ≤ most_lanes) }
     ensures { x.new ≡ carried x.old at to tag word }
 {
-    let mut i = at + 2;
-    while i < to {
-        x[i - 2] = x[i];
-        i += 1;
-    }
+    x.copy_within(at + 2..to, at);
     x[to - 2] = tag;
     x[to - 1] = word;
 }
 
+// A number of a lane one more, and one less: one function for both would only hide which.
+#[tactic(auto, unfolding(crate::specs::Taken::counted))]
 fn count(x: &mut [u32; LANES], at: usize)
     requires { (at < most_lanes) × (get_or x.old at 0 < all_code) }
     ensures { x.new ≡ counted x.old at }
 {
-    x[at] = x[at] + 1;
+    x[at] += 1;
 }
 
+#[tactic(auto, unfolding(crate::specs::Taken::discounted))]
 fn discount(x: &mut [u32; LANES], at: usize)
     requires { (at < most_lanes) × (0 < get_or x.old at 0) }
     ensures { x.new ≡ discounted x.old at }
 {
-    x[at] = x[at] - 1;
+    x[at] -= 1;
 }
 
-// An entry more at a row's end.
-fn join(c: &[u32; LISTING], x: &mut [u32; LANES], r: Row, tag: u32, word: u32)
-    requires { ListingFits c.now × RoomForOne c.now x.old × (r.0 < rows_in c.now) }
-    ensures { x.new ≡ row_joined c.now x.old r.0 tag word }
+// An entry more at a row's end. A hint where the machine's code is faster for it, here and below.
+#[tactic(auto, unfolding(crate::specs::Taken::row_joined))]
+#[inline(always)]
+fn join(c: &Listing, x: &mut [u32; LANES], r: Row, tag: u32, word: u32)
+    requires { RoomForOne c.now.numbers x.old × (r.0 < rows_in c.now.numbers) }
+    ensures { x.new ≡ row_joined c.now.numbers x.old r.0 tag word }
 {
-    let at = rows::row_start(c, x, Row(r.0 + 1));
-    let end = rows::pool_end(c, x);
+    let v = View { c, x };
+    let at = v.row_start(Row(r.0 + 1));
+    let end = v.pool_end();
     insert(x, at, end, tag, word);
-    count(x, rows::row_len_at(c, r));
+    count(x, c.row_len_at(r));
 }
 
 // The entry at a lane of a row leaves it.
-fn leave(c: &[u32; LISTING], x: &mut [u32; LANES], r: Row, at: usize)
-    requires { ListingFits c.now × FewEntries c.now x.old × (r.0 < rows_in c.now)
-        × (0 < row_len c.now x.old r.0) × (pool_at c.now ≤ at)
-        × (at + 2 ≤ row_start c.now x.old (r.0 + 1)) × (length x.old ≡ most_lanes) }
-    ensures { x.new ≡ row_left c.now x.old r.0 at }
+#[tactic(auto, unfolding(crate::specs::Taken::row_left))]
+fn leave(c: &Listing, x: &mut [u32; LANES], r: Row, at: usize)
+    requires { FewEntries c.now.numbers x.old × (r.0 < rows_in c.now.numbers)
+        × (0 < row_len c.now.numbers x.old r.0) × (pool_at c.now.numbers ≤ at)
+        × (at + 2 ≤ row_start c.now.numbers x.old (r.0 + 1)) }
+    ensures { x.new ≡ row_left c.now.numbers x.old r.0 at }
 {
-    let end = rows::pool_end(c, x);
+    let end = View { c, x }.pool_end();
     carry(x, at, end, 0, 0);
-    discount(x, rows::row_len_at(c, r));
+    discount(x, c.row_len_at(r));
 }
 
 // The entry at a lane of a buffer's row goes to the end of a line's queue, with another tag.
-fn carry_over(c: &[u32; LISTING], x: &mut [u32; LANES], t: Thread, at: usize, q: Line, tag: u32)
-    requires { ListingFits c.now × FewEntries c.now x.old × (t.0 < threads_in c.now)
-        × (q.0 < lines_in c.now) × (0 < row_len c.now x.old t.0) × (pool_at c.now ≤ at)
-        × (at + 2 ≤ row_start c.now x.old (t.0 + 1)) × (length x.old ≡ most_lanes) }
-    ensures { x.new ≡ row_carried c.now x.old t.0 at q.0 tag }
+#[tactic(auto, unfolding(crate::specs::Taken::row_carried))]
+#[inline(always)]
+fn carry_over(c: &Listing, x: &mut [u32; LANES], t: Thread, at: usize, q: Line, tag: u32)
+    requires { FewEntries c.now.numbers x.old × (t.0 < threads_in c.now.numbers)
+        × (q.0 < lines_in c.now.numbers) × (0 < row_len c.now.numbers x.old t.0) × (pool_at c.now.numbers ≤ at)
+        × (at + 2 ≤ row_start c.now.numbers x.old (t.0 + 1)) }
+    ensures { x.new ≡ row_carried c.now.numbers x.old t.0 at q.0 tag }
 {
-    let r = rows::queue_row(c, q);
-    let to = rows::row_start(c, x, Row(r.0 + 1));
+    let r = c.queue_row(q);
+    let to = View { c, x }.row_start(Row(r.0 + 1));
     let word = x[at + 1];
     carry(x, at, to, tag, word);
-    discount(x, rows::row_len_at(c, rows::buffer_row(t)));
-    count(x, rows::row_len_at(c, r));
+    discount(x, c.row_len_at(rows::buffer_row(t)));
+    count(x, c.row_len_at(r));
 }
 
 // The tag of the entry that an instruction puts into its thread's buffer, and its word.
+#[tactic(auto, using(cases::proofs::ChoiceLaws::choices), unfolding(crate::specs::Taken::entry_tag))]
 fn entry_tag(op: u32, l: Location) -> u32
     ensures { result ≡ entry_tag op l.0 }
 {
     let n = l.0 as u32;
-    if op == (STORE_WORD as u32) {
-        return n;
+    match op {
+        STORE_WORD | STORE_REGISTER => n,
+        FLUSH => FLUSH_TAG + n,
+        FLUSH_OPT => FLUSH_OPT_TAG + n,
+        _ => SFENCE_TAG,
     }
-    if op == (STORE_REGISTER as u32) {
-        return n;
-    }
-    if op == (FLUSH as u32) {
-        return FLUSH_TAG + n;
-    }
-    if op == (FLUSH_OPT as u32) {
-        return FLUSH_OPT_TAG + n;
-    }
-    SFENCE_TAG
 }
 
+#[tactic(auto, using(cases::proofs::ChoiceLaws::choices), unfolding(crate::specs::Taken::entry_word))]
 fn entry_word(op: u32, word: u32, register: u32) -> u32
     ensures { result ≡ entry_word op word register }
 {
-    if op == (STORE_WORD as u32) {
-        return word;
+    match op {
+        STORE_WORD => word,
+        STORE_REGISTER => register,
+        _ => 0,
     }
-    if op == (STORE_REGISTER as u32) {
-        return register;
-    }
-    0
 }
 
 // Stores, flushes, flush-opts and sfences join the end of the thread's buffer.
-fn await_entry(c: &[u32; LISTING], x: &mut [u32; LANES], t: Thread, at: usize)
-    requires { CodeHere c.now x.old t.0 at }
-    ensures { x.new ≡ awaited_lanes c.now x.old t.0 at }
+#[tactic(auto, unfolding(crate::specs::Taken::awaited_lanes))]
+fn await_entry(c: &Listing, x: &mut [u32; LANES], t: Thread, at: usize)
+    requires { CodeHere c.now.numbers x.old t.0 at }
+    ensures { x.new ≡ awaited_lanes c.now.numbers x.old t.0 at }
 {
-    let r = rows::register_at(c, t, Register(c[at + 2] as u8));
-    let tag = entry_tag(c[at], Location(c[at + 1] as u8));
-    let word = entry_word(c[at], c[at + 3], x[r]);
+    let r = c.target_at(t, at);
+    let tag = entry_tag(c.numbers[at], c.location_at(at));
+    let word = entry_word(c.numbers[at], c.numbers[at + 3], x[r]);
     join(c, x, rows::buffer_row(t), tag, word);
 }
 
 // A load's register takes the word that the load finds.
-fn take_load(c: &[u32; LISTING], x: &mut [u32; LANES], t: Thread, at: usize)
-    requires { CodeHere c.now x.old t.0 at }
-    ensures { x.new ≡ took_lanes c.now x.old t.0 at }
+#[tactic(auto, unfolding(crate::specs::Taken::took_lanes))]
+fn take_load(c: &Listing, x: &mut [u32; LANES], t: Thread, at: usize)
+    requires { CodeHere c.now.numbers x.old t.0 at }
+    ensures { x.new ≡ took_lanes c.now.numbers x.old t.0 at }
 {
-    let r = rows::register_at(c, t, Register(c[at + 2] as u8));
-    let word = rows::loaded(c, x, t, Location(c[at + 1] as u8));
+    let r = c.target_at(t, at);
+    let word = View { c, x }.loaded(t, c.location_at(at));
     x[r] = word;
 }
 
 // An exchange's or a compare's register takes the word read.
-fn fetch(c: &[u32; LISTING], x: &mut [u32; LANES], t: Thread, at: usize)
-    requires { CodeHere c.now x.old t.0 at }
-    ensures { x.new ≡ fetched_lanes c.now x.old t.0 at }
+#[tactic(auto, unfolding(crate::specs::Taken::fetched_lanes))]
+fn fetch(c: &Listing, x: &mut [u32; LANES], t: Thread, at: usize)
+    requires { CodeHere c.now.numbers x.old t.0 at }
+    ensures { x.new ≡ fetched_lanes c.now.numbers x.old t.0 at }
 {
-    let r = rows::register_at(c, t, Register(c[at + 2] as u8));
-    let word = rows::queued(c, x, Location(c[at + 1] as u8));
+    let r = c.target_at(t, at);
+    let word = View { c, x }.queued(c.location_at(at));
     x[r] = word;
 }
 
 // The word goes to the end of the location's queue.
-fn exchange(c: &[u32; LISTING], x: &mut [u32; LANES], t: Thread, at: usize)
-    requires { CodeHere c.now x.old t.0 at }
-    ensures { x.new ≡ exchanged_lanes c.now x.old t.0 at }
+#[tactic(auto, unfolding(crate::specs::Taken::exchanged_lanes))]
+#[inline(never)]
+fn exchange(c: &Listing, x: &mut [u32; LANES], t: Thread, at: usize)
+    requires { CodeHere c.now.numbers x.old t.0 at }
+    ensures { x.new ≡ exchanged_lanes c.now.numbers x.old t.0 at }
 {
     fetch(c, x, t, at);
-    let l = Location(c[at + 1] as u8);
+    let l = c.location_at(at);
     join(
         c,
         x,
-        rows::queue_row(c, rows::line_of(c, l)),
-        c[at + 1],
-        c[at + 3],
+        c.queue_row(c.line_of(l)),
+        c.numbers[at + 1],
+        c.numbers[at + 3],
     );
 }
 
 // An exchange where the word read is the register's.
-fn compare(c: &[u32; LISTING], x: &mut [u32; LANES], t: Thread, at: usize)
-    requires { CodeHere c.now x.old t.0 at }
-    ensures { x.new ≡ compared_lanes c.now x.old t.0 at }
+#[tactic(auto, using(cases::proofs::ChoiceLaws::choices), unfolding(crate::specs::Taken::compared_lanes, crate::specs::Taken::fetched_lanes))]
+fn compare(c: &Listing, x: &mut [u32; LANES], t: Thread, at: usize)
+    requires { CodeHere c.now.numbers x.old t.0 at }
+    ensures { x.new ≡ compared_lanes c.now.numbers x.old t.0 at }
 {
-    let r = rows::register_at(c, t, Register(c[at + 2] as u8));
-    let word = rows::queued(c, x, Location(c[at + 1] as u8));
+    let r = c.target_at(t, at);
+    let word = View { c, x }.queued(c.location_at(at));
     if word == x[r] {
         exchange(c, x, t, at);
         return;
@@ -192,102 +196,83 @@ fn compare(c: &[u32; LISTING], x: &mut [u32; LANES], t: Thread, at: usize)
 }
 
 // What an instruction does as it is issued.
-fn perform(c: &[u32; LISTING], x: &mut [u32; LANES], t: Thread, at: usize)
-    requires { CodeHere c.now x.old t.0 at }
-    ensures { x.new ≡ performed_lanes c.now x.old t.0 at }
+#[tactic(auto, using(cases::proofs::ChoiceLaws::choices), unfolding(crate::specs::Taken::performed_lanes))]
+fn perform(c: &Listing, x: &mut [u32; LANES], t: Thread, at: usize)
+    requires { CodeHere c.now.numbers x.old t.0 at }
+    ensures { x.new ≡ performed_lanes c.now.numbers x.old t.0 at }
 {
-    let op = c[at];
-    if op == (LOAD as u32) {
-        take_load(c, x, t, at);
-        return;
+    match c.numbers[at] {
+        LOAD => take_load(c, x, t, at),
+        EXCHANGE => exchange(c, x, t, at),
+        COMPARE => compare(c, x, t, at),
+        MFENCE => {}
+        _ => await_entry(c, x, t, at),
     }
-    if op == (EXCHANGE as u32) {
-        exchange(c, x, t, at);
-        return;
-    }
-    if op == (COMPARE as u32) {
-        compare(c, x, t, at);
-        return;
-    }
-    if op == (MFENCE as u32) {
-        return;
-    }
-    await_entry(c, x, t, at);
 }
 
-fn issue(c: &[u32; LISTING], x: &mut [u32; LANES], t: Thread)
-    requires { ListingFits c.now × RoomForOne c.now x.old × (t.0 < threads_in c.now)
-        × (get_or x.old t.0 0 < count_in c.now t.0) }
-    ensures { x.new ≡ issue_lanes c.now x.old t.0 }
+#[tactic(auto, unfolding(crate::specs::Taken::issue_lanes))]
+fn issue(c: &Listing, x: &mut [u32; LANES], t: Thread)
+    requires { RoomForOne c.now.numbers x.old × (t.0 < threads_in c.now.numbers)
+        × (get_or x.old t.0 0 < count_in c.now.numbers t.0) }
+    ensures { x.new ≡ issue_lanes c.now.numbers x.old t.0 }
 {
-    let at = rows::code_at(t, rows::sized(x[t.0 as usize]));
+    let at = listing::code_at(t, x[t.0 as usize] as usize);
     count(x, t.0 as usize);
     perform(c, x, t, at);
 }
 
 // By the tag of the entry at a lane of a thread's buffer.
-fn move_tagged(c: &[u32; LISTING], x: &mut [u32; LANES], t: Thread, at: usize, tag: u32)
-    requires { ListingFits c.now × FewEntries c.now x.old × (t.0 < threads_in c.now)
-        × (0 < row_len c.now x.old t.0) × (pool_at c.now ≤ at)
-        × (at + 2 ≤ row_start c.now x.old (t.0 + 1)) × (length x.old ≡ most_lanes) }
-    ensures { x.new ≡ moved_lanes c.now x.old t.0 at tag }
+#[tactic(auto, using(cases::proofs::ChoiceLaws::choices), unfolding(crate::specs::Taken::moved_lanes))]
+fn move_tagged(c: &Listing, x: &mut [u32; LANES], t: Thread, at: usize, tag: u32)
+    requires { FewEntries c.now.numbers x.old × (t.0 < threads_in c.now.numbers)
+        × (0 < row_len c.now.numbers x.old t.0) × (pool_at c.now.numbers ≤ at)
+        × (at + 2 ≤ row_start c.now.numbers x.old (t.0 + 1)) }
+    ensures { x.new ≡ moved_lanes c.now.numbers x.old t.0 at tag }
 {
-    if SFENCE_TAG <= tag {
-        leave(c, x, rows::buffer_row(t), at);
-        return;
+    match kinds::kind_of(tag) {
+        Kind::Sfence | Kind::Flush(_) => leave(c, x, rows::buffer_row(t), at),
+        Kind::FlushOpt(l) => carry_over(c, x, t, at, c.line_of(l), rows::mark_of(t)),
+        Kind::Store(l) => carry_over(c, x, t, at, c.line_of(l), tag),
     }
-    if FLUSH_OPT_TAG <= tag {
-        let q = rows::line_of(c, Location((tag - FLUSH_OPT_TAG) as u8));
-        carry_over(c, x, t, at, q, (t.0 as u32) + (MARKER as u32));
-        return;
-    }
-    if FLUSH_TAG <= tag {
-        leave(c, x, rows::buffer_row(t), at);
-        return;
-    }
-    let q = rows::line_of(c, Location(tag as u8));
-    carry_over(c, x, t, at, q, tag);
 }
 
-fn move_entry(c: &[u32; LISTING], x: &mut [u32; LANES], t: Thread, i: usize)
-    requires { ListingFits c.now × FewEntries c.now x.old × (t.0 < threads_in c.now)
-        × (i < row_len c.now x.old t.0) × (length x.old ≡ most_lanes) }
-    ensures { x.new ≡ move_lanes c.now x.old t.0 i }
+#[tactic(auto, unfolding(crate::specs::Taken::move_lanes))]
+fn move_entry(c: &Listing, x: &mut [u32; LANES], t: Thread, i: usize)
+    requires { FewEntries c.now.numbers x.old × (t.0 < threads_in c.now.numbers)
+        × (i < row_len c.now.numbers x.old t.0) }
+    ensures { x.new ≡ move_lanes c.now.numbers x.old t.0 i }
 {
-    let at = rows::row_start(c, x, rows::buffer_row(t)) + 2 * i;
+    let at = View { c, x }.row_start(rows::buffer_row(t)) + 2 * i;
     let tag = x[at];
     move_tagged(c, x, t, at, tag);
 }
 
-fn persist(c: &[u32; LISTING], x: &mut [u32; LANES], q: Line)
-    requires { ListingFits c.now × FewEntries c.now x.old × (q.0 < lines_in c.now)
-        × (0 < row_len c.now x.old (queue_row c.now q.0)) × (length x.old ≡ most_lanes) }
-    ensures { x.new ≡ persist_lanes c.now x.old q.0 }
+#[tactic(auto, using(cases::proofs::ChoiceLaws::choices), unfolding(crate::specs::Taken::persist_lanes, crate::specs::Taken::settled_lanes))]
+fn persist(c: &Listing, x: &mut [u32; LANES], q: Line)
+    requires { FewEntries c.now.numbers x.old × (q.0 < lines_in c.now.numbers)
+        × (0 < row_len c.now.numbers x.old (queue_row c.now.numbers q.0)) }
+    ensures { x.new ≡ persist_lanes c.now.numbers x.old q.0 }
 {
-    let r = rows::queue_row(c, q);
-    let at = rows::row_start(c, x, r);
+    let r = c.queue_row(q);
+    let at = View { c, x }.row_start(r);
     let tag = x[at];
     let word = x[at + 1];
     leave(c, x, r, at);
     // a mark that is a location is a write's; a marker's is above them all
-    if tag < c[2] {
-        x[rows::word_at(c, Location(tag as u8))] = word;
+    if tag < (c.locations() as u32) {
+        x[c.word_at(Location(tag as u8))] = word;
     }
 }
 
 // Takes a legal step.
-pub(crate) fn take(c: &[u32; LISTING], x: &mut [u32; LANES], k: Step)
-    requires { ListingFits c.now × FewEntries c.now x.old × Takes c.now x.old k
-        × (length x.old ≡ most_lanes) }
-    ensures { x.new ≡ step_lanes c.now x.old k }
+#[tactic(auto, using(cases::proofs::ChoiceLaws::choices), unfolding(crate::specs::Taken::step_lanes))]
+pub(crate) fn take(c: &Listing, x: &mut [u32; LANES], k: Step)
+    requires { FewEntries c.now.numbers x.old × Takes c.now.numbers x.old k }
+    ensures { x.new ≡ step_lanes c.now.numbers x.old k }
 {
-    if k.code == ISSUE {
-        issue(c, x, k.thread);
-        return;
+    match k.code {
+        ISSUE => issue(c, x, k.thread),
+        MOVE => move_entry(c, x, k.thread, k.position as usize),
+        _ => persist(c, x, Line(k.location.0)),
     }
-    if k.code == MOVE {
-        move_entry(c, x, k.thread, k.position as usize);
-        return;
-    }
-    persist(c, x, Line(k.location.0));
 }

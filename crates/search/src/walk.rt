@@ -7,11 +7,15 @@ ghost use Rattle.search.specs.Seek.{seek, walked_of, stored_of};
 ghost use Rattle.search.specs.Taken.{lanes_machine, reaches_lanes};
 ghost use Rattle.search.specs.Held.{Held};
 
-use crate::sizes::{LANES, LISTING};
+use crate::listing::Listing;
+use crate::rows::View;
+use crate::sizes::LANES;
 use crate::{next, shown, taken, wants};
-use cases::sizes::{LOCATIONS, STEP_SIZE, THREADS};
+use cases::case::Ask;
+use cases::sizes::STEP_SIZE;
 
-// A run that reaches, with its length; or none does, and so much of the budget is left; or it is used up.
+// A run that reaches, with its length; or none does, and so much of the budget is left; or it is used up. Three answers,
+// none of them an error: no Option or Result says it.
 #[derive(Clone, Copy)]
 pub enum Walked {
     Found(usize),
@@ -20,51 +24,44 @@ pub enum Walked {
 }
 
 // The walk from a state that `depth` steps lead to. The run is written on the way up, and only if it reaches.
-pub(crate) fn walk<'a>(
-    c: &[u32; LISTING],
-    wanted: &'a [bool; LOCATIONS],
-    want: &'a [u32; LOCATIONS],
-    passed: &'a [u8; THREADS],
+pub(crate) fn walk(
+    c: &Listing,
+    a: &Ask,
     x: &[u32; LANES],
     budget: u32,
     depth: usize,
     run: &mut [u8],
 ) -> Walked
-    requires { Held c.now x.now depth (length run.old) }
+    requires { Held c.now.numbers x.now depth (length run.old) }
     ensures { (result ≡ walked_of depth (seek
-        (reaches_lanes c.now wanted.now want.now passed.now) budget
-        (walks.walk (lanes_machine c.now) (suc (most_work - depth)) x.now)))
+        (reaches_lanes c.now.numbers a.now.wanted a.now.want a.now.passed) budget
+        (walks.walk (lanes_machine c.now.numbers) (suc (most_work - depth)) x.now)))
         × (run.new ≡ stored_of depth (seek
-        (reaches_lanes c.now wanted.now want.now passed.now) budget
-        (walks.walk (lanes_machine c.now) (suc (most_work - depth)) x.now)) run.old) }
+        (reaches_lanes c.now.numbers a.now.wanted a.now.want a.now.passed) budget
+        (walks.walk (lanes_machine c.now.numbers) (suc (most_work - depth)) x.now)) run.old) }
 {
     if budget == 0 {
         return Walked::Stopped;
     }
-    if wants::is_reached(c, wanted, want, passed, x) {
+    let v = View { c, x };
+    if wants::is_reached(&v, a) {
         return Walked::Found(depth);
     }
-    let next = next::next_steps(c, x);
+    let next = next::next_steps(&v);
     let mut left = budget - 1;
-    let mut i: u8 = 0;
-    while i < next.count {
+    for i in 0..next.count {
         let k = next::step_at(next.ranks[i as usize]);
         let mut u = *x;
         taken::take(c, &mut u, k);
-        let below = walk(c, wanted, want, passed, &u, left, depth + 1, run);
+        let below = walk(c, a, &u, left, depth + 1, run);
         match below {
             Walked::Found(n) => {
                 shown::put_step(run, STEP_SIZE * depth, k);
                 return Walked::Found(n);
             }
-            Walked::Finished(rest) => {
-                left = rest;
-            }
-            Walked::Stopped => {
-                return Walked::Stopped;
-            }
+            Walked::Finished(rest) => left = rest,
+            Walked::Stopped => return Walked::Stopped,
         }
-        i += 1;
     }
     Walked::Finished(left)
 }

@@ -1,17 +1,16 @@
-// Does a state meet what is asked for? Lanes and arrays are lent: the walk asks at each state.
+// Does a state meet what is asked for? All of it is lent: the walk asks at each state.
 ghost use Rattle.std.specs.Prelude.{◌≡◌};
 ghost use Rattle.machine.specs.Fit.{any_from};
 ghost use Rattle.search.specs.Question as question;
 ghost use Rattle.search.specs.Question.{lacks_at};
-ghost use Rattle.search.specs.Listing.{threads_in, locations_in, ListingFits};
+ghost use Rattle.search.specs.Listing.{threads_in, locations_in};
 ghost use Rattle.search.specs.Taken.{misses_lane, reaches_lanes};
 
-use crate::rows;
-use crate::sizes::{LANES, LISTING};
-use cases::case::Location;
-use cases::sizes::{LOCATIONS, THREADS};
+use crate::rows::View;
+use cases::case::{Ask, Location};
 
 // Does a location hold another word than is wanted there?
+#[tactic(auto, using(cases::proofs::ChoiceLaws::choices), unfolding(crate::specs::Question::misses))]
 fn misses(wanted: bool, want: u32, word: u32) -> bool
     ensures { result ≡ question.misses wanted want word }
 {
@@ -19,59 +18,43 @@ fn misses(wanted: bool, want: u32, word: u32) -> bool
 }
 
 // Does some location?
-fn is_missed<'a>(
-    c: &[u32; LISTING],
-    wanted: &'a [bool; LOCATIONS],
-    want: &'a [u32; LOCATIONS],
-    x: &[u32; LANES],
-) -> bool
-    requires { ListingFits c.now }
-    ensures { result ≡ any_from 0 (locations_in c.now)
-        (misses_lane c.now wanted.now want.now x.now) }
+#[tactic(auto, using(crate::proofs::wants::WantLoopLaws::missed))]
+fn is_missed(v: &View, a: &Ask) -> bool
+    ensures { result ≡ any_from 0 (locations_in v.now.c.now.numbers)
+        (misses_lane v.now.c.now.numbers a.now.wanted a.now.want v.now.x.now) }
 {
-    let locations = c[2] as u8;
-    let mut l: u8 = 0;
-    while l < locations {
+    for l in 0..v.c.locations() {
         let at = l as usize;
-        if misses(wanted[at], want[at], x[rows::word_at(c, Location(l))]) {
+        if misses(a.wanted[at], a.want[at], v.x[v.c.word_at(Location(l))]) {
             return true;
         }
-        l += 1;
     }
     false
 }
 
 // Has some thread issued fewer instructions than asked for?
-fn is_lacking(c: &[u32; LISTING], passed: &[u8; THREADS], x: &[u32; LANES]) -> bool
-    requires { ListingFits c.now }
-    ensures { result ≡ any_from 0 (threads_in c.now) (lacks_at passed.now x.now) }
+#[tactic(auto, using(crate::proofs::wants::WantLoopLaws::lacked))]
+fn is_lacking(v: &View, a: &Ask) -> bool
+    ensures { result ≡ any_from 0 (threads_in v.now.c.now.numbers) (lacks_at a.now.passed v.now.x.now) }
 {
-    let threads = c[0] as usize;
-    let mut t: usize = 0;
-    while t < threads {
-        if x[t] < rows::wide(passed[t]) {
+    for t in 0..v.c.threads() {
+        let at = t as usize;
+        if v.x[at] < (a.passed[at] as u32) {
             return true;
         }
-        t += 1;
     }
     false
 }
 
 // Does a crash in this state leave what is asked for, with what is asked for issued?
-pub(crate) fn is_reached<'a>(
-    c: &[u32; LISTING],
-    wanted: &'a [bool; LOCATIONS],
-    want: &'a [u32; LOCATIONS],
-    passed: &'a [u8; THREADS],
-    x: &[u32; LANES],
-) -> bool
-    requires { ListingFits c.now }
+#[tactic(auto, using(cases::proofs::ChoiceLaws::choices), unfolding(crate::specs::Taken::reaches_lanes))]
+pub(crate) fn is_reached(v: &View, a: &Ask) -> bool
     ensures { result
-        ≡ reaches_lanes c.now wanted.now want.now passed.now
-        x.now }
+        ≡ reaches_lanes v.now.c.now.numbers a.now.wanted a.now.want a.now.passed
+        v.now.x.now }
 {
-    if is_missed(c, wanted, want, x) {
+    if is_missed(v, a) {
         return false;
     }
-    !is_lacking(c, passed, x)
+    !is_lacking(v, a)
 }

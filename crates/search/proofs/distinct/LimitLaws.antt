@@ -11,7 +11,6 @@ use native.Mathlib.Omega.{arith}
 use Rattle.cases.specs.declared.case.Step.{Step}
 use Rattle.cases.proofs.ChoiceLaws.{pick_true, pick_false, pick_cases}
 use Rattle.search.specs.declared.walk.Walked.{Walked}
-use Rattle.search.specs.declared.walk.Walked.TheVariants.{Finished}
 use Rattle.search.specs.Sizes.{state_words}
 use Rattle.search.specs.Walk.{Visit}
 use Rattle.search.specs.Seek.{Sought, hit, done, used_up, seek, walked_of}
@@ -50,10 +49,6 @@ module _ (words b : ℕ) where
       pick_cases Limits (ltb (words / state_words) b) (words / state_words) b
       (λ h. let l = ltb-true (words / state_words) b h in (omega arith, omega arith, inr (omega arith)))
       (λ h. let l = ltb-false (words / state_words) b h in (omega arith, omega arith, inl refl))
-
--- of a walk's answer
-pub within_finished : (limit : ℕ) (w : Walked) → WithinLimit limit w → (rest : ℕ) → w ≡ Finished rest → rest ≤ limit
-within_finished limit w h rest e = subst (WithinLimit limit) e h
 
 -- what is sought leaves no more than there was, and where nothing is found just what the runs don't use up
 seek_left : {S K : Type 0} (test : S → Bool) (b : ℕ) (vs : List (Visit S K)) (rest : ℕ) → seek test b vs ≡ done rest

@@ -5,7 +5,7 @@ use mathlib.Core.List.{List, ◌++◌, append-nil}
 use native.Mathlib.Omega.{arith}
 use native.Mathlib.Numerals.{add-one}
 use lib.ListN.{length, get_or, set, take, replicate, length-append, length-replicate, drop_of_length-le}
-use lib.Seq.{sets, take-suc, take_all, length-take-le}
+use lib.Seq.{sets, take-suc, length-take-le}
 use Rattle.cases.specs.declared.case.Instruction.{Instruction}
 use Rattle.cases.specs.declared.case.Program.{Program}
 use Rattle.cases.specs.Checks.{no_instruction, lines_of}
@@ -22,11 +22,7 @@ pub record NumbersSoFar (before : List ℕ) (at : ℕ) (numbers row : List ℕ) 
   pub far : i ≤ length numbers
   pub put : row ≡ sets before at (take i numbers)
 
--- none is put yet
-pub numbers_start : (row : List ℕ) (at : ℕ) (numbers : List ℕ) → NumbersSoFar row at numbers row 0
-numbers_start row at numbers = record { far = omega arith; put = refl }
-
--- one more; all
+-- one more
 module _ {before : List ℕ} {at : ℕ} {numbers row : List ℕ} {i : ℕ} (o : NumbersSoFar before at numbers row i) where
   pub numbers_next : i < length numbers → (n : ℕ) → n ≡ get_or numbers i 0
       → NumbersSoFar before at numbers (set row (at + i) n) (i + 1)
@@ -43,9 +39,6 @@ module _ {before : List ℕ} {at : ℕ} {numbers row : List ℕ} {i : ℕ} (o : 
               length-take-le i numbers (omega arith),
             );
       }
-
-  pub numbers_end : length numbers ≤ i → row ≡ sets before at numbers
-  numbers_end h = o.put ∙ rw (take_all i numbers h)
 
 -- a loop has put the first i of all instructions
 pub record CodeSoFar (before : List ℕ) (code : List Instruction) (row : List ℕ) (i : ℕ) : Type 0 where
@@ -88,9 +81,6 @@ module _ {before : List ℕ} {code : List Instruction} {row : List ℕ} {i : ℕ
               d,
             );
       }
-
-  pub codes_end : all_code ≤ i → row ≡ sets before codes_at (join_to all_code (instruction_numbers code))
-  codes_end h = let e : i ≡ all_code = let w = o.far in omega arith in rw e at o.put
 
 -- the three first numbers, the counts, the lines and the instructions are the listing
 module _ (p : Program) (fits : ProgramFits p) where

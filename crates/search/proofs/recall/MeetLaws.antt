@@ -39,3 +39,6 @@ module _ (c x : List ℕ) (n : ℕ) (e : n ≡ pool_end c x) (memory : List ℕ)
         subst (λ y. Chained last limit y) one w.0,
         rw (sym one, sym e) w.1,
       )
+
+-- each way out
+pub ruleset meets = (meets_before, meets_full, meets_new)

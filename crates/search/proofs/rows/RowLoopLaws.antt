@@ -10,14 +10,14 @@ use native.Mathlib.Numerals.{add-one}
 use borrow.Author.Tests.{eq-eqb, ne_eqb, le-leb, lt-leb}
 use lib.Dec.{eqb}
 use lib.ListN.{get_or}
-use Rattle.cases.specs.Sizes.{most_threads, most_instructions, most_locations, most_registers}
+use Rattle.cases.specs.Sizes.{most_threads, most_instructions, most_locations}
 use Rattle.cases.specs.Choice.{pick}
 use Rattle.cases.proofs.ChoiceLaws.{pick_here, pick_next}
 use Rattle.machine.specs.Fit.{sum_to}
 use Rattle.search.specs.Sizes.{most_lanes, lines_at}
-use Rattle.search.specs.Listing.{threads_in, lines_in, locations_in, count_in, line_in, ListingFits}
+use Rattle.search.specs.Listing.{threads_in, count_in, line_in, ListingFits}
 use Rattle.search.specs.Rows.{rows_in, queue_row, word_at, row_len, row_start, FewEntries, newest_lane}
-use Rattle.search.specs.Rows.{queued_lane, loaded_lane}
+use Rattle.search.specs.Rows.{pool_at, queued_lane, loaded_lane}
 use Rattle.search.proofs.lanes.GeneralLaws.{sum_front}
 
 -- line_in: there is no such location; there is
@@ -73,10 +73,9 @@ pub record RowsSoFar (c x : List ℕ) (r n i : ℕ) : Type 0 where
   pub start : n ≡ row_start c x i
 
 -- the first row starts behind all else
-pub rows_start : (c x : List ℕ) (r : ℕ)
-    → RowsSoFar c x r (2 * threads_in c + lines_in c + locations_in c + threads_in c * most_registers) 0
+pub rows_start : (c x : List ℕ) (r n : ℕ) → n ≡ pool_at c → RowsSoFar c x r n 0
 unfolding sum_to
-rows_start c x r = record { far = omega arith; start = omega arith }
+rows_start c x r n e = record { far = omega arith; start = omega arith }
 
 module _ {c x : List ℕ} {r n i : ℕ} (o : RowsSoFar c x r n i) where
   pub rows_next : i < r → (many : ℕ) → many ≡ row_len c x i → RowsSoFar c x r (n + 2 * many) (i + 1)
@@ -84,9 +83,6 @@ module _ {c x : List ℕ} {r n i : ℕ} (o : RowsSoFar c x r n i) where
       let s = o.start in
       let w = row_next c x i in
       record { far = omega arith; start = omega arith }
-
-  pub rows_end : r ≤ i → n ≡ row_start c x r
-  rows_end h = let e : i ≡ r = let w = o.far in omega arith in rw e at o.start
 
 -- newest_lane: the first i entries say what all n say
 pub record NewestSoFar (x : List ℕ) (base tag other n i : ℕ) : Type 0 where
@@ -98,23 +94,19 @@ newest_start x base tag other n = record { far = omega arith; rest = refl }
 
 module _ {x : List ℕ} {base tag other n i : ℕ} (o : NewestSoFar x base tag other n i) where
   module _ (h : 0 < i) where
-    newest_at : pick (eqb (get_or x ((base + 2 * i) - 2) 0) tag) (get_or x ((base + 2 * i) - 1) 0)
+    newest_at : pick (eqb (get_or x (base + 2 * (i - 1)) 0) tag) (get_or x (base + 2 * (i - 1) + 1) 0)
         (newest_lane x base tag other (i - 1))
         ≡ newest_lane x base tag other n
     unfolding newest_lane
-    newest_at =
-        let e : i ≡ suc (i - 1) = omega arith in
-        let a : (base + 2 * i) - 2 ≡ base + 2 * (i - 1) = omega arith in
-        let b : (base + 2 * i) - 1 ≡ base + 2 * (i - 1) + 1 = omega arith in
-        rw (a, b) (rw e at o.rest)
+    newest_at = let e : i ≡ suc (i - 1) = omega arith in rw e at o.rest
 
     -- it has another tag; it has this one
-    pub newest_next : get_or x ((base + 2 * i) - 2) 0 ≢ tag → NewestSoFar x base tag other n (i - 1)
+    pub newest_next : get_or x (base + 2 * (i - 1)) 0 ≢ tag → NewestSoFar x base tag other n (i - 1)
     newest_next d =
         record { far = let w = o.far in omega arith; rest = pick_next _ _ _ _ (ne_eqb _ _ d) refl ∙ newest_at }
 
-    pub newest_here : get_or x ((base + 2 * i) - 2) 0 ≡ tag
-        → get_or x ((base + 2 * i) - 1) 0 ≡ newest_lane x base tag other n
+    pub newest_here : get_or x (base + 2 * (i - 1)) 0 ≡ tag
+        → get_or x (base + 2 * (i - 1) + 1) 0 ≡ newest_lane x base tag other n
     newest_here e = pick_here _ _ _ _ (eq-eqb _ _ e) refl ∙ newest_at
 
   -- none has it
@@ -134,3 +126,6 @@ module _ (c x : List ℕ) (l row base n result : ℕ) (s : base ≡ row_start c 
       → result ≡ loaded_lane c x t l
   unfolding loaded_lane
   loaded_made t other r o f = f ∙ rw (o, m, s, r)
+
+-- what the loop of `newest` needs
+pub ruleset newest = (newest_next, newest_here, newest_end)

@@ -183,12 +183,6 @@ module _ {p : Program} {c x : List ℕ} {l : ℕ} (o : StartSoFar p c x l) where
   pub start_listed : ListingFits c
   start_listed = rw o.listed (listing_fits p o.program)
 
-  pub start_low : l < p.locations → (at : ℕ) → at ≡ word_at c l → at < most_lanes
-  start_low h at e =
-      let g = start_listed in
-      let d = o.program.sized.few_locations in
-      omega arith
-
   -- one more; all
   pub start_next : l < p.locations → (at : ℕ) → at ≡ word_at c l
       → StartSoFar p c (set x at (get_or p.first l 0)) (l + 1)

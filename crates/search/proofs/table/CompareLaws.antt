@@ -1,59 +1,38 @@
--- Laws of lanes that are compared: the loop that compares a key with what stands in the lent words, and a record that
--- is compared as a whole. Assumes nothing.
-use Prim.Native.Nat.{ℕ, ◌+◌, ◌≤◌, ◌<◌}
+-- Laws of lanes that are compared: a key with as many of the lent words, and with a record as a whole. Assumes nothing.
+use Prim.Native.Nat.{ℕ, ◌+◌, ◌-◌, ◌≤◌}
 use mathlib.Core.Path.{◌≡◌, refl, sym, ap, ◌∙◌}
 use mathlib.Core.Logic.{◌≢◌}
-use mathlib.Core.Bool.{true, false}
-use mathlib.Core.List.{List}
+use mathlib.Core.Bool.{Bool, false}
+use mathlib.Core.List.{List, [], ◌∷◌}
 use native.Mathlib.Omega.{arith}
-use borrow.Author.Tests.{eq-eqb, ne_eqb}
 use lib.Dec.{eqb}
+use lib.Pointwise.{pointwise}
 use lib.ListN.{length, get_or, take, drop}
 use lib.Seq.{length-take-le}
 use Rattle.cases.specs.Choice.{both}
 use Rattle.machine.specs.View.{part}
-use Rattle.machine.proofs.lists.PartLaws.{length_part, part_next, part_end, take_next, take_end}
+use Rattle.machine.proofs.lists.PartLaws.{length_part}
 use Rattle.search.specs.Sizes.{most_lanes, record_words}
 use Rattle.search.specs.Remember.{eq_lanes}
 use Rattle.search.specs.Table.{key_at}
 use Rattle.search.proofs.recall.AmongLaws.{differ_lanes}
 
--- a loop has compared the first i of n lanes: what is still to compare says what all say
-pub record LanesSoFar (m key : List ℕ) (at n i : ℕ) : Type 0 where
-  pub within : at + n ≤ length m
-  pub known : n ≤ length key
-  pub rest : eq_lanes (drop i (take n key)) (drop i (part at n m)) ≡ eq_lanes (take n key) (part at n m)
+-- lists of numbers are compared one pair after the other
+pairs_lanes : (xs ys : List ℕ) → pointwise eqb xs ys ≡ eq_lanes xs ys
+unfolding eq_lanes both
+pairs_lanes [] [] = refl
+pairs_lanes [] (y ∷ ys) = refl
+pairs_lanes (x ∷ xs) [] = refl
+pairs_lanes (x ∷ xs) (y ∷ ys) = ap (λ r. both (eqb x y) r) (pairs_lanes xs ys)
 
--- nothing is compared yet
-pub lanes_start : (m key : List ℕ) (at n : ℕ) → at + n ≤ length m → n ≤ length key → LanesSoFar m key at n 0
-lanes_start m key at n h k = record { within = h; known = k; rest = refl }
-
--- a turn of that loop: the two lanes are equal; they are not; every lane is compared
-module _ {m key : List ℕ} {at n i : ℕ} (o : LanesSoFar m key at n i) where
-  lanes_at : i < n
-      → eq_lanes (take n key) (part at n m)
-      ≡ both (eqb (get_or key i 0) (get_or m (at + i) 0))
-      (eq_lanes (drop (i + 1) (take n key)) (drop (i + 1) (part at n m)))
-  unfolding eq_lanes
-  lanes_at h =
-      sym o.rest ∙ rw (take_next n i key 0 h o.known, part_next at n i m 0 h o.within, eq_lanes) refl
-
-  pub lanes_next : i < n → get_or m (at + i) 0 ≡ get_or key i 0 → LanesSoFar m key at n (i + 1)
-  unfolding both
-  lanes_next h e =
-      record {
-        within = o.within;
-        known = o.known;
-        rest = sym (lanes_at h ∙ rw (eq-eqb (get_or key i 0) (get_or m (at + i) 0) (sym e)));
-      }
-
-  pub lanes_here : i < n → get_or m (at + i) 0 ≢ get_or key i 0 → false ≡ eq_lanes (take n key) (part at n m)
-  unfolding both
-  lanes_here h e = sym (lanes_at h ∙ rw (ne_eqb (get_or key i 0) (get_or m (at + i) 0) (λ q. e (sym q))))
-
-  pub lanes_end : n ≤ i → true ≡ eq_lanes (take n key) (part at n m)
-  unfolding eq_lanes
-  lanes_end h = sym (sym o.rest ∙ rw (take_end n i key h, part_end at n i m h, eq_lanes) refl)
+-- so are the first n lanes of a key, and as many words
+pub same_lanes : (m key : List ℕ) (at n : ℕ) (same : Bool)
+    → same ≡ pointwise eqb (take n key) (take (at + n - at) (drop at m))
+    → same ≡ eq_lanes (take n key) (part at n m)
+unfolding part
+same_lanes m key at n same e =
+    let w : at + n - at ≡ n = omega arith in
+    e ∙ rw w (pairs_lanes (take n key) (take n (drop at m)))
 
 -- key_at: a record of another size; of this size
 module _ (m key : List ℕ) (at n : ℕ) where

@@ -1,26 +1,20 @@
--- Laws of the stores into the lent words: a key copied lane by lane, and what the stores of a record and of its
+-- Laws of the stores into the lent words: a part written over, a key copied, and what the stores of a record and of its
 -- bucket's head leave. Assumes nothing.
 use Prim.Native.Nat.{ℕ, zero, suc, ◌+◌, ◌*◌, ◌≤◌, ◌<◌}
-use mathlib.Core.Path.{◌≡◌, refl, sym, ap, ◌∙◌}
+use mathlib.Core.Path.{◌≡◌, sym, ap, ◌∙◌}
 use mathlib.Core.Logic.{◌≢◌}
-use mathlib.Core.List.{List, [], ◌∷◌}
+use mathlib.Core.List.{List, [], ◌∷◌, append_assoc}
 use native.Mathlib.Omega.{arith}
 use native.Mathlib.Nat.{add-zero}
 use native.Mathlib.Numerals.{add-one}
-use lib.ListN.{length, get_or, set, take, length-set}
-use lib.Seq.{sets, length-sets, length-take-le, get_or-set_same, get_or-set_other, take-suc}
-use Rattle.cases.proofs.ArrayLaws.{sets_append}
+use lib.ListN.{length, get_or, set, take, drop, length-set}
+use lib.Seq.{sets, sets-eq, length-sets, length-take-le, drop-drop, get_or-set_same, get_or-set_other}
+use borrow.Rule.Slice.PartMut.{put_mid}
 use Rattle.search.specs.Sizes.{most_lanes, record_words}
 use Rattle.search.specs.Table.{place_of}
 use Rattle.search.proofs.taken.InPlaceLaws.{get_or_sets_before}
 
--- sets: one more of a front; the values, where they stand
-sets_next : (m key : List ℕ) (at i : ℕ) → i < length key
-    → set (sets m at (take i key)) (at + i) (get_or key i 0) ≡ sets m at (take (i + 1) key)
-sets_next m key at i h =
-    sym (rw (add-one i, take-suc key i 0 h)
-    (sets_append m at (take i key) (get_or key i 0 ∷ []) ∙ rw (length-take-le i key (omega arith))))
-
+-- sets: the values, where they stand
 get_or_sets_within : (vs m : List ℕ) (at i : ℕ) → at + length vs ≤ length m → i < length vs
     → get_or (sets m at vs) (at + i) 0 ≡ get_or vs i 0
 get_or_sets_within [] m at i h k = absurd (omega arith)
@@ -34,39 +28,19 @@ get_or_sets_within (v ∷ vs) m at (suc i) h k =
     ap (λ y. get_or (sets (set m at v) (suc at) vs) y 0) e
     ∙ get_or_sets_within vs (set m at v) (suc at) i (omega arith) (omega arith)
 
--- a loop has copied the first i of n lanes
-pub record CopiedSoFar (before key : List ℕ) (at n : ℕ) (m : List ℕ) (i : ℕ) : Type 0 where
-  pub within : at + n ≤ length before
-  pub known : n ≤ length key
-  pub far : i ≤ n
-  pub long : length m ≡ length before
-  pub holds : m ≡ sets before at (take i key)
+-- a part written over: the values put there
+pub written_over : (m ys : List ℕ) (at many : ℕ) → at + length ys ≤ length m → many ≡ length ys
+    → put_mid at many m ys ≡ sets m at ys
+written_over m ys at many h e =
+    rw (e, drop-drop (length ys) at m)
+    (sym (sets-eq ys m at h ∙ append_assoc (take at m) ys (drop (at + length ys) m)))
 
--- nothing is copied yet
-pub copied_start : (before key : List ℕ) (at n : ℕ) → at + n ≤ length before → n ≤ length key
-    → CopiedSoFar before key at n before 0
-copied_start before key at n h k =
-    record { within = h; known = k; far = omega arith; long = refl; holds = refl }
-
--- one more; all
-module _ {before key : List ℕ} {at n : ℕ} {m : List ℕ} {i : ℕ} (o : CopiedSoFar before key at n m i) where
-  pub copied_next : i < n → CopiedSoFar before key at n (set m (at + i) (get_or key i 0)) (i + 1)
-  copied_next h =
-      record {
-        within = o.within;
-        known = o.known;
-        far = omega arith;
-        long = length-set m (at + i) (get_or key i 0) ∙ o.long;
-        holds =
-            let k = o.known in
-            ap (λ y. set y (at + i) (get_or key i 0)) o.holds ∙ sets_next before key at i (omega arith);
-      }
-
-  pub copied_end : n ≤ i → m ≡ sets before at (take n key)
-  copied_end h =
-      let f = o.far in
-      let e : i ≡ n = omega arith in
-      o.holds ∙ ap (λ y. sets before at (take y key)) e
+-- the first n lanes of a key, copied over as many words
+pub copied : (m key ys : List ℕ) (at n many : ℕ) → at + n ≤ length m → n ≤ length key → many ≡ n → ys ≡ take n key
+    → put_mid at many m ys ≡ sets m at (take n key)
+copied m key ys at n many h l e f =
+    let long : length (take n key) ≡ n = length-take-le n key l in
+    rw f (written_over m (take n key) at many (rw long h) (e ∙ sym long))
 
 -- `last` is m with record `count` written behind the others, and the head of bucket b set to it
 pub record Written (m last : List ℕ) (limit count b : ℕ) (key : List ℕ) : Type 0 where

@@ -1,26 +1,17 @@
 -- Laws of the bucket of a key: the loop that mixes its lanes, and that the bucket is one of those there are.
 -- Assumes nothing.
-use Prim.Native.Nat.{ℕ, ◌+◌, ◌*◌, ◌/◌, ◌%◌, ◌≤◌, ◌<◌}
+use Prim.Native.Nat.{ℕ, ◌+◌, ◌%◌, ◌≤◌, ◌<◌}
 use mathlib.Core.Path.{◌≡◌, refl, sym, ap, ◌∙◌}
 use mathlib.Core.List.{List}
 use native.Mathlib.Nat.{mod-lt}
 use lib.ListN.{length, get_or, take, drop}
 use Rattle.machine.proofs.lists.PartLaws.{take_next, take_end}
-use Rattle.search.specs.Table.{folded, half, mixer, mixed, mix_from, bucket_of}
-
--- mixed: as the code says it
-pub mixed_made : (h x : ℕ) → (h % half + h / half + x) * mixer ≡ mixed h x
-unfolding mixed
-mixed_made h x = refl
+use Rattle.search.specs.Table.{folded, half, mixed, mix_from, bucket_of}
 
 -- a loop has mixed in the first i of n lanes
 pub record MixedSoFar (key : List ℕ) (n a b c d i : ℕ) : Type 0 where
   pub known : n ≤ length key
   pub rest : mix_from a b c d (drop i (take n key)) ≡ mix_from 0 1 2 3 (take n key)
-
--- nothing is mixed in yet
-pub mixed_start : (key : List ℕ) (n : ℕ) → n ≤ length key → MixedSoFar key n 0 1 2 3 0
-mixed_start key n k = record { known = k; rest = refl }
 
 -- one lane more; all of them
 module _ {key : List ℕ} {n a b c d i : ℕ} (o : MixedSoFar key n a b c d i) where

@@ -125,7 +125,6 @@ pub code_here : (c x y : List ℕ) (t at : ℕ) → ListingFits c → RoomForOne
 code_here c x y t at g room h k e f =
     let a = code_low c g t (get_or x t 0) h k in
     record {
-      fits = g;
       roomy = rw f (counted_room c x t h room);
       low = h;
       within = omega arith;

@@ -18,12 +18,10 @@ use Rattle.machine.specs.Ptso.{ptso}
 use Rattle.machine.proofs.Promises.{ptso_lawful, step_fits, step_lowers}
 use Rattle.search.specs.declared.next.Ranks.{Ranks}
 use Rattle.search.specs.Sizes.{most_lanes}
-use Rattle.search.specs.Listing.{ListingFits}
 use Rattle.search.specs.Rows.{FewEntries}
 use Rattle.search.specs.Barred.{legal_lanes, next_lanes}
 use Rattle.search.specs.Taken.{padded, step_lanes, lanes_machine, reaches_lanes, Takes}
 use Rattle.search.specs.Held.{Held}
-use Rattle.search.proofs.listing.ListingLaws.{listing_fits}
 use Rattle.search.proofs.lanes.StateLaws.{lay_of}
 use Rattle.search.proofs.lanes.LookLanesLaws.{laid_of}
 use Rattle.search.proofs.lanes.NextLanesLaws.{legal_is, legal_listed}
@@ -40,9 +38,6 @@ module _ {c x : List ℕ} {depth room : ℕ} (h : Held c x depth room) where
   -- they are the lanes of a state that fits, of a program that does
   laid_is : x ≡ laid_of h.program h.state
   laid_is = h.laid ∙ ap padded (sym (lay_of h.program h.state))
-
-  pub held_fits : ListingFits c
-  held_fits = rw h.listed (listing_fits h.program h.fits.program)
 
   pub held_few : FewEntries c x
   held_few = rw (h.listed, laid_is) (few_lanes h.program h.state h.fits h.few)

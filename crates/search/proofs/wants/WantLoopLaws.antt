@@ -1,16 +1,14 @@
 -- What a turn of the loops over the wanted words and over the passed counts tells. Assumes nothing.
 use Prim.Native.Nat.{ℕ, ◌≤◌, ◌<◌}
 use mathlib.Core.Path.{◌≡◌, sym, ◌∙◌}
-use mathlib.Core.Bool.{Bool, true, false, not}
+use mathlib.Core.Bool.{Bool, true, false}
 use mathlib.Core.List.{List}
 use borrow.Author.Tests.{lt-ltb, le-ltb}
 use lib.ListN.{get_or}
-use Rattle.cases.specs.Choice.{both}
-use Rattle.machine.specs.Fit.{any_from}
 use Rattle.search.specs.Question.{misses, lacks_at}
-use Rattle.search.specs.Listing.{threads_in, locations_in}
 use Rattle.search.specs.Rows.{word_at}
-use Rattle.search.specs.Taken.{misses_lane, reaches_lanes}
+use Rattle.search.specs.Taken.{misses_lane}
+use Rattle.machine.proofs.lists.AnyLaws.{any_here, any_next, any_end}
 
 -- what the code finds of a location's word is what its lane says
 pub missed_told : (c : List ℕ) (wanted : List Bool) (want x : List ℕ) (l at : ℕ) (found told : Bool)
@@ -31,11 +29,7 @@ module _ (passed x : List ℕ) (t many : ℕ) (e : many ≡ get_or passed t 0) w
   unfolding lacks_at
   lacks_none h = rw (sym e) (le-ltb (get_or x t 0) many h)
 
--- nothing is missed: what is lacked decides
-pub reaches_told : (c : List ℕ) (wanted : List Bool) (want passed x : List ℕ) (missed lacked : Bool)
-    → missed ≡ any_from 0 (locations_in c) (misses_lane c wanted want x)
-    → missed ≡ false
-    → lacked ≡ any_from 0 (threads_in c) (lacks_at passed x)
-    → not lacked ≡ reaches_lanes c wanted want passed x
-unfolding reaches_lanes both
-reaches_told c wanted want passed x missed lacked e none f = rw (sym e ∙ none, f)
+-- what the two loops need
+pub ruleset missed = (any_here, any_next, any_end, missed_told)
+
+pub ruleset lacked = (any_here, any_next, any_end, lacks_some, lacks_none)

@@ -22,10 +22,10 @@ walk-requires c =
     let g = c.requires in
     let a = c.args in
     ask_held _ g.0 _ a.budget _ c.start_of-s.ensures _ c.work_in.ensures a.run.now g.1 _ _
-    c.listing-c.ensures c.start_lanes-x.ensures c.if-run-work_in.false
+    c.of-c.ensures c.start_lanes-x.ensures c.if-run-work_in.false
 
 pub returns : goal.returns
 returns c =
     let g = c.requires in
     ask_told _ g.0 _ _ _ c.start_of-s.ensures _ c.work_in.ensures _ c.if-run-work_in.false g.1 _ _
-    c.listing-c.ensures c.start_lanes-x.ensures _ _ c.walk.ensures _ c.told.ensures
+    c.of-c.ensures c.start_lanes-x.ensures _ _ c.walk.ensures _ c.told.ensures

@@ -23,9 +23,9 @@ pub meet_all-w-requires : goal.meet_all-w-requires
 meet_all-w-requires c =
     let g = c.requires in
     let a = c.args in
-    let room = remember_room _ g.0 a.a _ c.start_of-s.ensures _ c.work_in.ensures a.budget a.run.now
+    let room = remember_room _ g.0 a.a.now _ c.start_of-s.ensures _ c.work_in.ensures a.budget a.run.now
     a.memory.now c.if-run-work_in.false in
-    let covers = remember_covers _ g.0 a.a _ c.start_of-s.ensures _ c.work_in.ensures a.budget
+    let covers = remember_covers _ g.0 a.a.now _ c.start_of-s.ensures _ c.work_in.ensures a.budget
     a.run.now a.memory.now _ c.covers-limit.ensures in
     (g.0, g.1, room, covers)
 

@@ -1,12 +1,7 @@
 -- `put_code` meets its contract. Assumes nothing.
-use Rattle.std.proofs.Common.{◌-◌}
-use Rattle.cases.specs.Sizes.{all_code}
 use Rattle.search.proofs.listing.ListingLoopLaws.{CodeSoFar}
 use Rattle.search.proofs.listing.put_code.Given as goal
 
 -- the first i instructions are put
 abbrev pub invariant-loop-i : goal.invariant-loop-i
-invariant-loop-i l = CodeSoFar l.initial.c l.all l.c l.i
-
-abbrev pub decreases-loop-i : goal.decreases-loop-i
-decreases-loop-i l = all_code - l.i
+invariant-loop-i l = CodeSoFar l.initial.c l.code l.c l.i

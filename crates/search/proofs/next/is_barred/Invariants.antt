@@ -1,12 +1,8 @@
 -- `is_barred` meets its contract. Assumes nothing.
-use Rattle.std.proofs.Common.{◌-◌}
 use Rattle.machine.proofs.lists.AnyLaws.{AskedSoFar}
 use Rattle.search.specs.Barred.{bars_at}
 use Rattle.search.proofs.next.is_barred.Given as goal
 
 -- the entries still to look at say what all n say
 abbrev pub invariant-loop-i : goal.invariant-loop-i
-invariant-loop-i l = AskedSoFar (bars_at l.c l.q.0 l.x l.base) l.n l.i
-
-abbrev pub decreases-loop-i : goal.decreases-loop-i
-decreases-loop-i l = l.n - l.i
+invariant-loop-i l = AskedSoFar (bars_at l.v.c.now.numbers l.q.0 l.v.x.now l.base) l.n l.i

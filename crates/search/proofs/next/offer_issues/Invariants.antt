@@ -1,15 +1,11 @@
 -- `offer_issues` meets its contract. Assumes nothing.
-use Rattle.std.proofs.Common.{◌-◌}
 use Rattle.machine.specs.Next.{issue_step}
-use Rattle.search.specs.Barred.{issue_barred, next_with}
+use Rattle.search.specs.Barred.{issue_barred}
 use Rattle.search.proofs.next.RanksLoopLaws.{OfferedSoFar}
 use Rattle.search.proofs.next.offer_issues.Given as goal
 
 -- the issues from thread t on, offered to the list so far, give what all of them give to the list at the start
 abbrev pub invariant-loop-t : goal.invariant-loop-t
 invariant-loop-t l =
-    OfferedSoFar (issue_barred l.c l.x) issue_step l.threads l.t
-    (next_with l.n l.ranks) (next_with l.initial.n l.initial.ranks)
-
-abbrev pub decreases-loop-t : goal.decreases-loop-t
-decreases-loop-t l = l.threads - l.t
+    OfferedSoFar (issue_barred l.v.c.now.numbers l.v.x.now) issue_step l.t-end l.t
+    l.to l.initial.to

@@ -1,49 +1,31 @@
 use Rattle.std.proofs.Common.{arith}
 use Rattle.machine.specs.Next.{rank_of}
 use Rattle.search.proofs.rows.RowLoopLaws.{row_room}
-use Rattle.search.proofs.next.RanksLoopLaws.{offered_start, offered_low, offered_next}
-use Rattle.search.proofs.next.RanksLoopLaws.{offered_end, move_made}
+use Rattle.search.proofs.next.RanksLoopLaws.{offered_low, offered_next, offered_end, move_made}
 use Rattle.search.proofs.next.offer_moves_of.Goals as goal
-
-pub overflow_cast-many : goal.overflow_cast-many
-overflow_cast-many c =
-    let n = rw c.buffer_row-r.ensures at c.row_len-many.ensures in
-    let w = c.requires.3 in
-    omega arith
-
-pub loop-i-init : goal.loop-i-init
-loop-i-init c =
-    let r = c.buffer_row-r.ensures in
-    (rw r at c.row_start-base.ensures, rw r at c.row_len-many.ensures, offered_start _ _ _ _)
 
 pub is_entry_barred-barred-requires : goal.is_entry_barred-barred-requires
 is_entry_barred-barred-requires c =
-    let i = c.loop-i.invariant in
-    let w = row_room _ _ c.requires.0 c.requires.1 c.args.t.0 (omega arith) _ _ i.0 i.1 in
-    (c.requires.0, c.requires.1, omega arith)
+    let g = c.requires in
+    let w = row_room _ _ c.args.v.now.c.now.fits c.args.v.now.few c.args.t.0 (omega arith) _ _ g.1 c.loop-i.invariant.0 in
+    (omega arith)
 
-pub offer-n-requires : goal.offer-n-requires
+pub offer-requires : goal.offer-requires
 unfolding rank_of
-offer-n-requires c =
+offer-requires c =
     let i = c.loop-i.invariant in
     let g = c.requires in
-    let w = g.0.few_threads in
-    let m = i.1 in
-    (offered_low i.2 (omega arith) (omega arith), omega arith)
-
-pub overflow_add-i : goal.overflow_add-i
-overflow_add-i c =
-    let m = c.loop-i.invariant.1 in
-    let w = c.requires.3 in
-    omega arith
+    let w = c.args.v.now.c.now.fits.few_threads in
+    let m = i.0 in
+    (offered_low i.1 (omega arith) (omega arith), omega arith)
 
 pub loop-i-preserved : goal.loop-i-preserved
 loop-i-preserved c =
     let i = c.loop-i.invariant in
-    let m = move_made _ _ _ _ _ _ i.0 c.is_entry_barred-barred.ensures in
-    (i.0, i.1, offered_next i.2 (omega arith) _ _ c.offer-n.ensures m)
+    let m = move_made _ _ _ _ _ _ c.requires.1 c.is_entry_barred-barred.ensures in
+    (i.0, offered_next i.1 (omega arith) _ _ c.offer.ensures m)
 
 pub returns : goal.returns
 returns c =
     let i = c.loop-i.invariant in
-    rw (← i.1) (offered_end i.2 (omega arith))
+    rw (← i.0) (offered_end i.1 (omega arith))

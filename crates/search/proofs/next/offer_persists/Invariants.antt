@@ -1,15 +1,11 @@
 -- `offer_persists` meets its contract. Assumes nothing.
-use Rattle.std.proofs.Common.{◌-◌}
 use Rattle.machine.specs.Next.{persist_step}
-use Rattle.search.specs.Barred.{persist_barred, next_with}
+use Rattle.search.specs.Barred.{persist_barred}
 use Rattle.search.proofs.next.RanksLoopLaws.{OfferedSoFar}
 use Rattle.search.proofs.next.offer_persists.Given as goal
 
 -- the persists from queue q on, offered to the list so far, give what all of them give to the list at the start
 abbrev pub invariant-loop-q : goal.invariant-loop-q
 invariant-loop-q l =
-    OfferedSoFar (persist_barred l.c l.x) persist_step l.lines l.q
-    (next_with l.n l.ranks) (next_with l.initial.n l.initial.ranks)
-
-abbrev pub decreases-loop-q : goal.decreases-loop-q
-decreases-loop-q l = l.lines - l.q
+    OfferedSoFar (persist_barred l.v.c.now.numbers l.v.x.now) persist_step l.q-end l.q
+    l.to l.initial.to

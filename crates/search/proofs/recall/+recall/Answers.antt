@@ -1,5 +1,7 @@
-use Rattle.std.proofs.Common.{refl, ◌∙◌, arith, rules}
-use Rattle.search.proofs.walk.WalkHeldLaws.{held_fits, held_few, held_long, held_takes, held_deep}
+use Rattle.std.proofs.Common.{ℕ, refl, ◌∙◌, arith}
+use Rattle.machine.specs.Model.{Listed}
+use Rattle.search.specs.Barred.{legal_lanes}
+use Rattle.search.proofs.walk.WalkHeldLaws.{held_few, held_takes, held_deep}
 use Rattle.search.proofs.walk.WalkHeldLaws.{held_room, held_next, held_below}
 use Rattle.search.proofs.recall.RecallTurnLaws.{recalls_listed, recalls_found, recalls_stopped}
 use Rattle.search.proofs.recall.RecallTurnLaws.{recalls_finished}
@@ -7,11 +9,16 @@ use Rattle.search.proofs.recall.RecallHeldLaws.{met_finished, recalls_start, rec
 use Rattle.search.proofs.recall.RecallHeldLaws.{meets_some, meets_chained, recall_full}
 use Rattle.search.proofs.recall.RecallHeldLaws.{recall_here, recall_found, recall_stopped, recall_end}
 use Rattle.search.proofs.recall.+recall.Goals as goal
+use Rattle.search.proofs.recall.+recall.Goals.{After-step_at-k}
+
+-- the step that a turn takes is one of the next
+listed : (t : ℕ) (c : After-step_at-k t) → Listed c.step_at-k.result (legal_lanes c.args.c.now.numbers c.args.x.now)
+listed t c = recalls_listed c.loop-i.invariant.3 (omega arith) _ c.step_at-k.ensures
 
 pub meet-requires : goal.meet-requires
 meet-requires t c =
     let g = c.requires in
-    (held_fits g.0, held_few g.0, g.1, g.2, g.3, held_long g.0)
+    (g.1, g.2, g.3)
 
 pub returns-in-Before : goal.returns-in-Before
 returns-in-Before t c =
@@ -22,19 +29,13 @@ pub returns-in-Full : goal.returns-in-Full
 returns-in-Full t c =
     recall_full _ _ _ _ _ _ _ _ _ _ _ _ c.meet.ensures c.in-Full.is
 
-pub is_reached-requires : goal.is_reached-requires
-is_reached-requires t c =
-    held_fits c.requires.0
-
 pub returns-then-is_reached : goal.returns-then-is_reached
 returns-then-is_reached t c =
     recall_here _ _ _ _ _ _ _ _ _ _ _ _ c.meet.ensures c.in-New.is _ c.is_reached.ensures
     c.if-is_reached.true _
 
-pub next_steps-next-requires : goal.next_steps-next-requires
-next_steps-next-requires t c =
-    let h = c.requires.0 in
-    (held_fits h, held_few h)
+pub invariant_of-v : goal.invariant_of-v
+invariant_of-v t c = record { few = held_few c.requires.0 }
 
 pub overflow_sub-rest : goal.overflow_sub-rest
 overflow_sub-rest t c =
@@ -48,20 +49,12 @@ loop-i-init t c =
     let kept = meets_chained _ _ _ _ _ _ c.meet.ensures c.in-New.is in
     (g.0, omega arith, kept, recalls_start _ _ _ _ _ _ g.0 _ _ _ _ c.next_steps-next.ensures, refl)
 
-pub bounds-next-i : goal.bounds-next-i
-bounds-next-i t c = let few = c.loop-i.invariant.3.list.few in omega arith
-
 pub take-requires : goal.take-requires
 take-requires t c =
     let l = c.loop-i in
-    let on = recalls_listed l.invariant.3 (omega arith) _ c.step_at-k.ensures in
+    let on = listed t (goal.at.take-requires t c).After-step_at-k in
     let h = l.invariant.0 in
-    (held_fits h, held_few h, held_takes h _ on, held_long h)
-
-pub overflow_add-depth : goal.overflow_add-depth
-overflow_add-depth t c =
-    let d = c.loop-i.invariant.0.deep in
-    search rules
+    (held_few h, held_takes h _ on)
 
 pub recall-below-requires : goal.recall-below-requires
 recall-below-requires t c =
@@ -69,20 +62,15 @@ recall-below-requires t c =
     let m = c.decreases in
     let o = c.loop-i.invariant in
     let k = c.step_at-k.ensures in
-    let on = recalls_listed o.3 (omega arith) _ k in
+    let on = listed t (goal.at.recall-below-requires t c).After-step_at-k in
     let d = held_deep o.0 _ on in
     (omega arith, (held_next o.0 _ on _ c.take.ensures, g.1, o.1, o.2))
-
-pub overflow_mul-depth : goal.overflow_mul-depth
-overflow_mul-depth t c =
-    let d = c.loop-i.invariant.0.deep in
-    search rules
 
 pub put_step-requires : goal.put_step-requires
 put_step-requires t c =
     let o = c.loop-i.invariant in
     let k = c.step_at-k.ensures in
-    let on = recalls_listed o.3 (omega arith) _ k in
+    let on = listed t (goal.at.put_step-requires t c).After-step_at-k in
     let e = c.recall-below.auto.run in
     let f = held_room o.0 _ on in
     omega arith
@@ -92,7 +80,7 @@ returns-in-Found t c =
     let z = c.take.ensures in
     let k = c.step_at-k.ensures in
     let o = c.loop-i.invariant in
-    let on = recalls_listed o.3 (omega arith) _ k in
+    let on = listed t (goal.at.returns-in-Found t c).After-step_at-k in
     let n = held_below o.0 _ on in
     let r = c.recall-below.ensures in
     let f = c.in-Found.is in
@@ -106,24 +94,19 @@ returns-in-Stopped t c =
     let z = c.take.ensures in
     let k = c.step_at-k.ensures in
     let o = c.loop-i.invariant in
-    let on = recalls_listed o.3 (omega arith) _ k in
+    let on = listed t (goal.at.returns-in-Stopped t c).After-step_at-k in
     let n = held_below o.0 _ on in
     let r = c.recall-below.ensures in
     let x = recalls_stopped o.3 (omega arith) _ k _ z _ n _ _ _ (r.0, r.1) c.in-Stopped.is in
     recall_stopped _ _ _ _ _ _ _ _ _ _ _ _ c.meet.ensures c.in-New.is _
     c.is_reached.ensures c.if-is_reached.false _ _ x
 
-pub overflow_add-i : goal.overflow_add-i
-overflow_add-i t c =
-    let few = c.loop-i.invariant.3.list.few in
-    omega arith
-
 pub loop-i-preserved : goal.loop-i-preserved
 loop-i-preserved t c =
     let z = c.take.ensures in
     let k = c.step_at-k.ensures in
     let o = c.loop-i.invariant in
-    let on = recalls_listed o.3 (omega arith) _ k in
+    let on = listed t (goal.at.loop-i-preserved t c).After-step_at-k in
     let n = held_below o.0 _ on in
     let r = c.recall-below.ensures in
     let f = c.in-Finished.is in

@@ -5,6 +5,3 @@ use Rattle.search.proofs.rows.newest.Given as goal
 -- the first i entries say what all n say
 abbrev pub invariant-loop-i : goal.invariant-loop-i
 invariant-loop-i l = NewestSoFar l.x l.base l.tag l.other l.n l.i
-
-abbrev pub decreases-loop-i : goal.decreases-loop-i
-decreases-loop-i l = l.i

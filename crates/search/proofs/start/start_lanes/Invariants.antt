@@ -1,11 +1,7 @@
 -- `start_lanes` meets its contract. Assumes nothing.
-use Rattle.std.proofs.Common.{◌-◌}
 use Rattle.search.proofs.start.StartLanesLaws.{StartSoFar}
 use Rattle.search.proofs.start.start_lanes.Given as goal
 
 -- the words of the first l locations are put
 abbrev pub invariant-loop-l : goal.invariant-loop-l
-invariant-loop-l l = StartSoFar l.q l.c l.x l.l
-
-abbrev pub decreases-loop-l : goal.decreases-loop-l
-decreases-loop-l l = l.q.locations - l.l
+invariant-loop-l l = StartSoFar l.p l.c.numbers l.x l.l

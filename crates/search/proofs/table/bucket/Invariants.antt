@@ -1,11 +1,7 @@
 -- `bucket` meets its contract. Assumes nothing.
-use Rattle.std.proofs.Common.{◌-◌}
 use Rattle.search.proofs.table.MixLaws.{MixedSoFar}
 use Rattle.search.proofs.table.bucket.Given as goal
 
 -- the four numbers are what the first i lanes mix to
 abbrev pub invariant-loop-i : goal.invariant-loop-i
 invariant-loop-i l = MixedSoFar l.key l.n l.a l.b l.c l.d l.i
-
-abbrev pub decreases-loop-i : goal.decreases-loop-i
-decreases-loop-i l = l.n - l.i

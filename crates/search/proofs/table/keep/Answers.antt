@@ -7,7 +7,7 @@ pub bounds-memory-at-2 : goal.bounds-memory-at-2
 bounds-memory-at-2 c = simp length-set (omega arith)
 
 pub copy-requires : goal.copy-requires
-copy-requires c = (simp length-set (omega arith), omega arith, omega arith)
+copy-requires c = (simp length-set (omega arith), omega arith)
 
 pub bounds-memory-b-2 : goal.bounds-memory-b-2
 bounds-memory-b-2 c =

@@ -1,7 +1,6 @@
 -- `carry_over` meets its contract. Assumes nothing.
 use Rattle.std.proofs.Common.{◌+◌, ◌≤◌, arith}
 use Rattle.search.specs.Sizes.{most_lanes}
-use Rattle.search.specs.Taken.{row_carried}
 use Rattle.search.proofs.taken.RowLenLaws.{carried_within, carried_discount, carried_count}
 use Rattle.search.proofs.taken.carry_over.Goals as goal
 use Rattle.search.proofs.taken.carry_over.Goals.{After-row_start-to}
@@ -10,7 +9,7 @@ use Rattle.search.proofs.taken.carry_over.Goals.{After-row_start-to}
 within : (c : After-row_start-to)
     → (c.args.at + 2 ≤ c.row_start-to.result) × (c.row_start-to.result ≤ most_lanes)
 within c =
-    carried_within _ _ c.requires.0 c.requires.1 _ _ (omega arith) c.requires.6 _ _ (omega arith) (omega arith)
+    carried_within _ _ c.args.c.now.fits c.requires.0 _ _ (omega arith) c.requires.5 _ _ (omega arith) (omega arith)
     c.row_start-to.ensures
 
 pub overflow_add-word : goal.overflow_add-word
@@ -31,29 +30,15 @@ bounds-x-at c =
 pub carry-requires : goal.carry-requires
 carry-requires c =
     let w = within (goal.at.carry-requires c).After-row_start-to in
-    (w.0, w.1, c.requires.7)
+    w
 
 pub discount-requires : goal.discount-requires
 discount-requires c =
-    carried_discount _ _ c.requires.0 c.requires.1 _ _ (omega arith) c.requires.6 c.requires.5 c.requires.4 _ _ _ _ _
+    carried_discount _ _ c.args.c.now.fits c.requires.0 _ _ (omega arith) c.requires.5 c.requires.4 c.requires.3 _ _ _ _ _
     c.carry.ensures (omega arith)
 
 pub count-requires : goal.count-requires
 count-requires c =
-    carried_count _ _ c.requires.0 c.requires.1 _ _ (omega arith) c.requires.6 c.requires.5 c.requires.4 _ _ _ _ _
+    carried_count _ _ c.args.c.now.fits c.requires.0 _ _ (omega arith) c.requires.5 c.requires.4 c.requires.3 _ _ _ _ _
     c.carry.ensures (omega arith) _ _ _ (omega arith) (omega arith) c.discount.ensures
     c.row_len_at-2.ensures
-
-pub returns : goal.returns
-unfolding row_carried
-returns c =
-    rw (
-      c.count.ensures,
-      c.discount.ensures,
-      c.carry.ensures,
-      c.row_start-to.ensures,
-      c.row_len_at-2.ensures,
-      c.row_len_at.ensures,
-      c.buffer_row.ensures,
-      c.queue_row-r.ensures,
-    )

@@ -1,25 +1,13 @@
 -- `join` meets its contract. Assumes nothing.
-use Rattle.search.specs.Taken.{row_joined}
 use Rattle.search.proofs.taken.RowLenLaws.{joined_within, joined_count}
 use Rattle.search.proofs.taken.join.Goals as goal
 
 pub insert-requires : goal.insert-requires
 insert-requires c =
-    joined_within _ _ c.requires.0 c.requires.1 _ _ _ c.requires.2 c.row_start-at.ensures
+    joined_within _ _ c.args.c.now.fits c.requires.0 _ _ _ c.requires.1 c.row_start-at.ensures
     c.pool_end-end.ensures
 
 pub count-requires : goal.count-requires
 count-requires c =
-    joined_count _ _ c.requires.0 c.requires.1 _ _ _ c.requires.2 c.row_start-at.ensures _ _ _ _
+    joined_count _ _ c.args.c.now.fits c.requires.0 _ _ _ c.requires.1 c.row_start-at.ensures _ _ _ _
     c.insert.ensures c.row_len_at.ensures
-
-pub returns : goal.returns
-unfolding row_joined
-returns c =
-    rw (
-      c.count.ensures,
-      c.insert.ensures,
-      c.row_start-at.ensures,
-      c.pool_end-end.ensures,
-      c.row_len_at.ensures,
-    )

@@ -1,26 +1,15 @@
 -- `leave` meets its contract. Assumes nothing.
 use Rattle.std.proofs.Common.{arith}
-use Rattle.search.specs.Taken.{row_left}
 use Rattle.search.proofs.taken.RowLenLaws.{carried_within, carried_discount}
 use Rattle.search.proofs.taken.leave.Goals as goal
 
 pub carry-requires : goal.carry-requires
 carry-requires c =
-    let w = carried_within _ _ c.requires.0 c.requires.1 _ _ c.requires.2 c.requires.5 _ _ c.requires.2 (omega arith)
+    let w = carried_within _ _ c.args.c.now.fits c.requires.0 _ _ c.requires.1 c.requires.4 _ _ c.requires.1 (omega arith)
     c.pool_end-end.ensures in
-    (w.0, w.1, c.requires.6)
+    w
 
 pub discount-requires : goal.discount-requires
 discount-requires c =
-    carried_discount _ _ c.requires.0 c.requires.1 _ _ c.requires.2 c.requires.5 c.requires.4 c.requires.3 _ _ _ _ _
+    carried_discount _ _ c.args.c.now.fits c.requires.0 _ _ c.requires.1 c.requires.4 c.requires.3 c.requires.2 _ _ _ _ _
     c.carry.ensures c.row_len_at.ensures
-
-pub returns : goal.returns
-unfolding row_left
-returns c =
-    rw (
-      c.discount.ensures,
-      c.carry.ensures,
-      c.pool_end-end.ensures,
-      c.row_len_at.ensures,
-    )

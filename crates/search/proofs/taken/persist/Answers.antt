@@ -2,16 +2,15 @@
 use Rattle.std.proofs.Common.{◌+◌, ◌*◌, arith}
 use Rattle.search.specs.Rows.{queue_row}
 use Rattle.search.proofs.taken.RowLenLaws.{EntryWithin, entry_within}
-use Rattle.search.proofs.taken.TakenLaws.{persist_write, persist_marker}
 use Rattle.search.proofs.taken.persist.Goals as goal
 use Rattle.search.proofs.taken.persist.Goals.{After-row_start-at}
 
 -- the queue's first entry stands within the lanes
 entry : (c : After-row_start-at)
-    → EntryWithin c.args.c.now c.args.x.now (queue_row c.args.c.now c.args.q.0) (c.row_start-at.result + 2 * 0)
+    → EntryWithin c.args.c.now.numbers c.args.x.now (queue_row c.args.c.now.numbers c.args.q.0) (c.row_start-at.result + 2 * 0)
 entry c =
     let p = c.requires in
-    entry_within _ _ p.0 p.1 _ _ _ 0 (omega arith) p.3 c.queue_row-r.ensures c.row_start-at.ensures
+    entry_within _ _ c.args.c.now.fits p.0 _ _ _ 0 (omega arith) p.2 c.queue_row-r.ensures c.row_start-at.ensures
 
 pub offset_bounds-x-at : goal.offset_bounds-x-at
 offset_bounds-x-at c = let e = entry (goal.at.offset_bounds-x-at c).After-row_start-at in omega arith
@@ -32,14 +31,4 @@ pub leave-requires : goal.leave-requires
 leave-requires c =
     let p = c.requires in
     let e = entry (goal.at.leave-requires c).After-row_start-at in
-    rw c.queue_row-r.ensures (p.0, p.1, omega arith, p.3, omega arith, omega arith, p.4)
-
-pub returns-then-tag-c : goal.returns-then-tag-c
-returns-then-tag-c c =
-    persist_write _ _ _ _ _ c.queue_row-r.ensures c.row_start-at.ensures _
-    c.leave.ensures _ c.if-tag-c.true c.word_at.ensures
-
-pub returns-else-tag-c : goal.returns-else-tag-c
-returns-else-tag-c c =
-    persist_marker _ _ _ _ _ c.queue_row-r.ensures c.row_start-at.ensures _
-    c.leave.ensures c.if-tag-c.false
+    rw c.queue_row-r.ensures (p.0, omega arith, p.2, omega arith, omega arith)

@@ -1,31 +1,33 @@
-use Rattle.std.proofs.Common.{◌∙◌, arith, rules}
+use Rattle.std.proofs.Common.{ℕ, ◌∙◌, arith}
+use Rattle.machine.specs.Model.{Listed}
+use Rattle.search.specs.Barred.{legal_lanes}
 use Rattle.search.proofs.walk.WalkLoopLaws.{left_used_up, left_here, walking_end}
 use Rattle.search.proofs.walk.WalkTurnLaws.{turn_listed, turn_length, turn_found, turn_stopped}
 use Rattle.search.proofs.walk.WalkTurnLaws.{turn_finished}
-use Rattle.search.proofs.walk.WalkHeldLaws.{walks_start, held_fits, held_few, held_long, held_takes}
+use Rattle.search.proofs.walk.WalkHeldLaws.{walks_start, held_few, held_takes}
 use Rattle.search.proofs.walk.WalkHeldLaws.{held_deep, held_room, held_next, held_below}
 use Rattle.search.proofs.walk.+walk.Goals as goal
+use Rattle.search.proofs.walk.+walk.Goals.{After-step_at-k}
+
+-- the step that a turn takes is one of the next
+listed : (t : ℕ) (c : After-step_at-k t) → Listed c.step_at-k.result (legal_lanes c.args.c.now.numbers c.args.x.now)
+listed t c = turn_listed c.loop-i.invariant.1 (omega arith) _ c.step_at-k.ensures
 
 pub returns-then-budget-eq0 : goal.returns-then-budget-eq0
 returns-then-budget-eq0 t c =
-    let a = c.args in
-    let l = left_used_up _ a.budget a.depth a.run.now _ _ _ c.if-budget-eq0.true in
+    let b = c.args in
+    let l = left_used_up _ b.budget b.depth b.run.now _ _ _ c.if-budget-eq0.true in
     (l.told, l.stored)
-
-pub is_reached-requires : goal.is_reached-requires
-is_reached-requires t c = held_fits c.requires
 
 pub returns-then-is_reached : goal.returns-then-is_reached
 returns-then-is_reached t c =
-    let a = c.args in
+    let b = c.args in
     let e = c.is_reached.ensures in
-    let l = left_here _ a.budget a.depth a.run.now _ _ _ c.if-budget-eq0.false _ e c.if-is_reached.true in
+    let l = left_here _ b.budget b.depth b.run.now _ _ _ c.if-budget-eq0.false _ e c.if-is_reached.true in
     (l.told, l.stored)
 
-pub next_steps-next-requires : goal.next_steps-next-requires
-next_steps-next-requires t c =
-    let h = c.requires in
-    (held_fits h, held_few h)
+pub invariant_of-v : goal.invariant_of-v
+invariant_of-v t c = record { few = held_few c.requires }
 
 pub loop-i-init : goal.loop-i-init
 loop-i-init t c =
@@ -33,40 +35,26 @@ loop-i-init t c =
     let e = c.is_reached.ensures in
     (h, walks_start h _ _ _ _ _ _ c.next_steps-next.ensures c.if-budget-eq0.false _ e c.if-is_reached.false)
 
-pub bounds-next-i : goal.bounds-next-i
-bounds-next-i t c = let few = c.loop-i.invariant.1.list.few in omega arith
-
 pub take-requires : goal.take-requires
 take-requires t c =
     let l = c.loop-i in
-    let on = turn_listed l.invariant.1 (omega arith) _ c.step_at-k.ensures in
-    (held_fits l.invariant.0, held_few l.invariant.0, held_takes l.invariant.0 _ on, held_long l.invariant.0)
-
-pub overflow_add-depth : goal.overflow_add-depth
-overflow_add-depth t c =
-    let l = c.loop-i in
-    let d = l.invariant.0.deep in
-    search rules
+    let on = listed t (goal.at.take-requires t c).After-step_at-k in
+    (held_few l.invariant.0, held_takes l.invariant.0 _ on)
 
 pub walk-below-requires : goal.walk-below-requires
 walk-below-requires t c =
     let l = c.loop-i in
-    let on = turn_listed l.invariant.1 (omega arith) _ c.step_at-k.ensures in
+    let on = listed t (goal.at.walk-below-requires t c).After-step_at-k in
     let d = held_deep l.invariant.0 _ on in
     let m = c.decreases in
     (omega arith, held_next l.invariant.0 _ on _ c.take.ensures)
-
-pub overflow_mul-depth : goal.overflow_mul-depth
-overflow_mul-depth t c =
-    let d = c.loop-i.invariant.0.deep in
-    search rules
 
 pub put_step-requires : goal.put_step-requires
 put_step-requires t c =
     let z = c.take.ensures in
     let k = c.step_at-k.ensures in
     let l = c.loop-i in
-    let on = turn_listed l.invariant.1 (omega arith) _ k in
+    let on = listed t (goal.at.put_step-requires t c).After-step_at-k in
     let n = held_below l.invariant.0 _ on in
     let e = turn_length l.invariant.1 (omega arith) _ k _ z _ n _ _ _ c.walk-below.ensures in
     let r = held_room l.invariant.0 _ on in
@@ -77,7 +65,7 @@ returns-in-Found t c =
     let z = c.take.ensures in
     let k = c.step_at-k.ensures in
     let l = c.loop-i in
-    let on = turn_listed l.invariant.1 (omega arith) _ k in
+    let on = listed t (goal.at.returns-in-Found t c).After-step_at-k in
     let n = held_below l.invariant.0 _ on in
     let f = c.in-Found.is in
     let x = turn_found l.invariant.1 (omega arith) _ k _ z _ n _ _ _ c.walk-below.ensures _ f in
@@ -88,22 +76,17 @@ returns-in-Stopped t c =
     let z = c.take.ensures in
     let k = c.step_at-k.ensures in
     let l = c.loop-i in
-    let on = turn_listed l.invariant.1 (omega arith) _ k in
+    let on = listed t (goal.at.returns-in-Stopped t c).After-step_at-k in
     let n = held_below l.invariant.0 _ on in
     let x = turn_stopped l.invariant.1 (omega arith) _ k _ z _ n _ _ _ c.walk-below.ensures c.in-Stopped.is in
     (x.told, x.stored)
-
-pub overflow_add-i : goal.overflow_add-i
-overflow_add-i t c =
-    let few = c.loop-i.invariant.1.list.few in
-    omega arith
 
 pub loop-i-preserved : goal.loop-i-preserved
 loop-i-preserved t c =
     let z = c.take.ensures in
     let k = c.step_at-k.ensures in
     let l = c.loop-i in
-    let on = turn_listed l.invariant.1 (omega arith) _ k in
+    let on = listed t (goal.at.loop-i-preserved t c).After-step_at-k in
     let n = held_below l.invariant.0 _ on in
     let e = turn_length l.invariant.1 (omega arith) _ k _ z _ n _ _ _ c.walk-below.ensures in
     let r = c.in-Finished.is in

@@ -12,8 +12,5 @@ decreases-walk l = most_work - l.depth
 -- the lanes are held; the next steps from position i on are still to be walked
 abbrev pub invariant-loop-i : goal.invariant-loop-i
 invariant-loop-i l =
-    Held l.c l.x l.depth (length l.run)
-    × Walks l.c l.wanted l.want l.passed l.x l.depth l.budget l.next l.initial.run l.run l.left l.i
-
-abbrev pub decreases-loop-i : goal.decreases-loop-i
-decreases-loop-i l = l.next.count - l.i
+    Held l.c.numbers l.x l.depth (length l.run)
+    × Walks l.c.numbers l.a.wanted l.a.want l.a.passed l.x l.depth l.budget l.next l.initial.run l.run l.left l.i

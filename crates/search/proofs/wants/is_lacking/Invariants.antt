@@ -1,5 +1,4 @@
 -- `is_lacking` meets its contract. Assumes nothing.
-use Rattle.std.proofs.Common.{◌-◌}
 use Rattle.machine.proofs.lists.AnyLaws.{AskedSoFar}
 use Rattle.search.specs.Question.{lacks_at}
 use Rattle.search.specs.Listing.{threads_in}
@@ -7,7 +6,4 @@ use Rattle.search.proofs.wants.is_lacking.Given as goal
 
 -- the threads from t on say what all say
 abbrev pub invariant-loop-t : goal.invariant-loop-t
-invariant-loop-t l = AskedSoFar (lacks_at l.passed l.x) (threads_in l.c) l.t
-
-abbrev pub decreases-loop-t : goal.decreases-loop-t
-decreases-loop-t l = l.threads - l.t
+invariant-loop-t l = AskedSoFar (lacks_at l.a.passed l.v.x.now) (threads_in l.v.c.now.numbers) l.t

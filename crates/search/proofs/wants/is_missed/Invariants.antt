@@ -1,5 +1,4 @@
 -- `is_missed` meets its contract. Assumes nothing.
-use Rattle.std.proofs.Common.{◌-◌}
 use Rattle.machine.proofs.lists.AnyLaws.{AskedSoFar}
 use Rattle.search.specs.Taken.{misses_lane}
 use Rattle.search.specs.Listing.{locations_in}
@@ -7,7 +6,4 @@ use Rattle.search.proofs.wants.is_missed.Given as goal
 
 -- the locations from l on say what all say
 abbrev pub invariant-loop-l : goal.invariant-loop-l
-invariant-loop-l l = AskedSoFar (misses_lane l.c l.wanted l.want l.x) (locations_in l.c) l.l
-
-abbrev pub decreases-loop-l : goal.decreases-loop-l
-decreases-loop-l l = l.locations - l.l
+invariant-loop-l l = AskedSoFar (misses_lane l.v.c.now.numbers l.a.wanted l.a.want l.v.x.now) (locations_in l.v.c.now.numbers) l.l

@@ -1,8 +1,0 @@
--- `row_len` meets its contract. Assumes nothing.
-use Rattle.std.proofs.Common.{◌∙◌}
-use Rattle.search.specs.Rows.{row_len}
-use Rattle.search.proofs.rows.row_len.Goals as goal
-
-pub returns : goal.returns
-unfolding row_len
-returns c = c.sized.ensures ∙ rw c.row_len_at.ensures
