@@ -157,7 +157,7 @@ fn offer_issues(v: &View, ranks: &mut [u8; CANDIDATES], count: u8) -> u8
         × (result ≤ count + threads_in v.now.c.now.numbers) }
 {
     let mut n = count;
-    for t in 0..v.c.threads() {
+    for t in 0..(v.c.threads() as u8) {
         let barred = is_issue_barred(v, Thread(t));
         n = offer(
             ranks,
@@ -212,7 +212,7 @@ fn offer_moves(v: &View, ranks: &mut [u8; CANDIDATES], count: u8) -> u8
 {
     let mut n = count;
     let mut base = v.c.pool_at();
-    for t in 0..v.c.threads() {
+    for t in 0..(v.c.threads() as u8) {
         n = offer_moves_of(v, Thread(t), base, ranks, n);
         base += 2 * v.row_len(rows::buffer_row(Thread(t)));
     }
@@ -225,7 +225,7 @@ fn offer_persists(v: &View, ranks: &mut [u8; CANDIDATES], count: u8) -> u8
         persist_step 0 (lines_in v.now.c.now.numbers) (next_with count ranks.old) }
 {
     let mut n = count;
-    for q in 0..v.c.lines() {
+    for q in 0..(v.c.lines() as u8) {
         let barred = v.row_len(v.c.queue_row(Line(q))) == 0;
         n = offer(
             ranks,
