@@ -13,7 +13,7 @@ pub mod ClosedLaws
 pub mod RecallAlongLaws
 -- lanes, seek: over lanes
 pub mod RecallLanesLaws
--- meets: a state is looked up, and kept where it is new
+-- meets: a state is looked up, and kept where it is new; a ruleset
 pub mod MeetLaws
 -- new, met, recalling, Recalling, rest_new: the code's loop
 pub mod RecallLoopLaws

@@ -71,29 +71,29 @@ impl Listing {
         Listing { numbers }
     }
 
-    pub(crate) fn threads(&self) -> u8
+    pub(crate) fn threads(&self) -> usize
         ensures { result ≡ threads_in self.now.numbers }
     {
-        self.numbers[0] as u8
+        self.numbers[0] as usize
     }
 
-    pub(crate) fn lines(&self) -> u8
+    pub(crate) fn lines(&self) -> usize
         ensures { result ≡ lines_in self.now.numbers }
     {
-        self.numbers[1] as u8
+        self.numbers[1] as usize
     }
 
-    pub(crate) fn locations(&self) -> u8
+    pub(crate) fn locations(&self) -> usize
         ensures { result ≡ locations_in self.now.numbers }
     {
-        self.numbers[2] as u8
+        self.numbers[2] as usize
     }
 
     // How many rows of entries a state has: one for each thread's buffer, one for each line's queue.
     pub(crate) fn rows(&self) -> usize
         ensures { result ≡ rows_in self.now.numbers }
     {
-        (self.threads() as usize) + (self.lines() as usize)
+        self.threads() + self.lines()
     }
 
     // The line that a location lies on; 0 for a location that no program has.
@@ -110,7 +110,7 @@ impl Listing {
     pub(crate) fn queue_row(&self, q: Line) -> Row
         ensures { result.0 ≡ queue_row self.now.numbers q.0 }
     {
-        Row((self.threads() as usize) + (q.0 as usize))
+        Row(self.threads() + (q.0 as usize))
     }
 
     // Where a row's length stands.
@@ -118,23 +118,23 @@ impl Listing {
         requires { r.0 < rows_in self.now.numbers }
         ensures { result ≡ row_len_at self.now.numbers r.0 }
     {
-        (self.threads() as usize) + r.0
+        self.threads() + r.0
     }
 
     // Where a location's word stands.
     pub(crate) fn word_at(&self, l: Location) -> usize
         ensures { result ≡ word_at self.now.numbers l.0 }
     {
-        (self.threads() as usize) + self.rows() + (l.0 as usize)
+        self.threads() + self.rows() + (l.0 as usize)
     }
 
     // Where a register of a thread stands.
     pub(crate) fn register_at(&self, t: Thread, r: Register) -> usize
         ensures { result ≡ register_at self.now.numbers t.0 r.0 }
     {
-        (self.threads() as usize)
+        self.threads()
             + self.rows()
-            + (self.locations() as usize)
+            + self.locations()
             + ((t.0 as usize) * REGISTERS + (r.0 as usize))
     }
 
@@ -159,9 +159,6 @@ impl Listing {
     pub(crate) fn pool_at(&self) -> usize
         ensures { result ≡ pool_at self.now.numbers }
     {
-        (self.threads() as usize)
-            + self.rows()
-            + (self.locations() as usize)
-            + (self.threads() as usize) * REGISTERS
+        self.threads() + self.rows() + self.locations() + self.threads() * REGISTERS
     }
 }

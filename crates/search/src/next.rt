@@ -157,7 +157,7 @@ fn offer_issues(v: &View, to: &mut Ranks)
         issue_step 0 (threads_in v.now.c.now.numbers) to.old)
         × (to.new.count ≤ to.old.count + threads_in v.now.c.now.numbers) }
 {
-    for t in 0..v.c.threads() {
+    for t in 0..(v.c.threads() as u8) {
         let barred = is_issue_barred(v, Thread(t));
         to.offer(
             barred,
@@ -201,7 +201,7 @@ fn offer_moves(v: &View, to: &mut Ranks)
         × (to.new.count ≤ to.old.count + sum_to (threads_in v.now.c.now.numbers) (row_len v.now.c.now.numbers v.now.x.now)) }
 {
     let mut base = v.c.pool_at();
-    for t in 0..v.c.threads() {
+    for t in 0..(v.c.threads() as u8) {
         offer_moves_of(v, Thread(t), base, to);
         base += 2 * v.row_len(rows::buffer_row(Thread(t)));
     }
@@ -212,7 +212,7 @@ fn offer_persists(v: &View, to: &mut Ranks)
     ensures { to.new ≡ offered_from (persist_barred v.now.c.now.numbers v.now.x.now)
         persist_step 0 (lines_in v.now.c.now.numbers) to.old }
 {
-    for q in 0..v.c.lines() {
+    for q in 0..(v.c.lines() as u8) {
         let barred = v.row_len(v.c.queue_row(Line(q))) == 0;
         to.offer(
             barred,

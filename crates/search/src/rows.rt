@@ -127,7 +127,7 @@ impl<'a> View<'a> {
     {
         let mark = mark_of(t);
         let mut base = self.row_start(self.c.queue_row(Line(0)));
-        for q in 0..self.c.lines() {
+        for q in 0..(self.c.lines() as u8) {
             let n = self.row_len(self.c.queue_row(Line(q)));
             if has_mark(self.x, base, n, mark) {
                 return true;

@@ -23,7 +23,7 @@ fn is_missed(v: &View, a: &Ask) -> bool
     ensures { result ≡ any_from 0 (locations_in v.now.c.now.numbers)
         (misses_lane v.now.c.now.numbers a.now.wanted a.now.want v.now.x.now) }
 {
-    for l in 0..v.c.locations() {
+    for l in 0..(v.c.locations() as u8) {
         let at = l as usize;
         if misses(a.wanted[at], a.want[at], v.x[v.c.word_at(Location(l))]) {
             return true;
@@ -37,7 +37,7 @@ fn is_missed(v: &View, a: &Ask) -> bool
 fn is_lacking(v: &View, a: &Ask) -> bool
     ensures { result ≡ any_from 0 (threads_in v.now.c.now.numbers) (lacks_at a.now.passed v.now.x.now) }
 {
-    for t in 0..v.c.threads() {
+    for t in 0..(v.c.threads() as u8) {
         let at = t as usize;
         if v.x[at] < (a.passed[at] as u32) {
             return true;

@@ -8,7 +8,7 @@ use mathlib.Core.Path.{◌≡◌, refl, sym, ap, ◌∙◌}
 use mathlib.Core.Bool.{Bool}
 use mathlib.Core.List.{List, ◌∷◌, ◌++◌, map}
 use lib.ListN.{length}
-use lib.Seq.{sets, length-sets}
+use lib.Seq.{sets}
 use native.Mathlib.Omega.{arith}
 use Rattle.cases.specs.declared.case.Step.{Step}
 use Rattle.cases.specs.declared.record.Record.TheVariants.{Take}
@@ -50,11 +50,6 @@ module _ {S : Type 0} {test : S → Bool} {left b : ℕ} {below rest whole : Lis
   -- the lent bytes are as many as before
   pub below_length : length last ≡ length out
   below_length = ap length leaves.1 ∙ length_stored (depth + 1) (seek test left below) out
-
-  pub below_put : (at : ℕ) (final : List ℕ) → final ≡ sets last at (record_bytes (Take k))
-      → length final ≡ length before
-  below_put at final e =
-      ap length e ∙ length-sets last at (record_bytes (Take k)) ∙ below_length ∙ ap length o.kept
 
   -- a run was found below: the step goes before it
   pub below_found : (f : ℕ) → r ≡ Found f

@@ -20,7 +20,7 @@ use Rattle.search.specs.Barred.{step_at}
 use Rattle.search.specs.Walk.{Machine, under, starting, walk}
 use Rattle.search.specs.Seek.{seek}
 use Rattle.search.proofs.walk.WalkLoopLaws.{Lists, rest_of, Left, Walking}
-use Rattle.search.proofs.walk.TurnLaws.{Turn, LeavesBelow, below_length, below_put, below_found}
+use Rattle.search.proofs.walk.TurnLaws.{Turn, LeavesBelow, below_length, below_found}
 use Rattle.search.proofs.walk.TurnLaws.{below_stopped, below_finished}
 
 -- k is the step of the rank at position i: it stands in front of those that are still to be walked
@@ -63,10 +63,6 @@ module _ {S : Type 0} {m : Machine S Step} {n : ℕ} {test : S → Bool} {s : S}
 
         pub turn_length : length last ≡ length out
         turn_length = below_length turn depth r last below
-
-        pub turn_put : (at : ℕ) (final : List ℕ) → final ≡ sets last at (record_bytes (Take k))
-            → length final ≡ length before
-        turn_put = below_put turn depth r last below
 
         -- a run was found below; the budget was used up
         pub turn_found : (f : ℕ) → r ≡ Found f
