@@ -12,12 +12,19 @@ const FROM_CODE: usize = FROM_COUNTS + THREADS;
 
 const FROM_ASK: usize = FROM_CODE + 4 * CODE;
 
-const FROM_RUN: usize = FROM_ASK + 2 * LOCATIONS + THREADS;
+const FROM_RUN: usize = FROM_ASK + ALL_OF_ASK;
 
 // The version, then the number of lines, then each location's line.
 const FROM_VERSION: usize = FROM_RUN + 1 + 4 * STEPS;
 
 const FROM_LINES: usize = FROM_VERSION + 1;
+
+// Of the fields of what is asked: where the words begin, and the passed counts, and how many there are.
+const FROM_WORDS: usize = LOCATIONS;
+
+const FROM_PASSED: usize = 2 * LOCATIONS;
+
+const ALL_OF_ASK: usize = FROM_PASSED + THREADS;
 
 fn low(value: u32) -> u8 {
     (value % 256) as u8
@@ -51,13 +58,13 @@ fn in_instruction(x: &mut Instruction, part: usize, value: u32) {
     }
 }
 
+// Each location's flag, then its word, then each thread's passed count.
 fn in_ask(a: &mut Ask, field: usize, value: u32) {
-    if field < LOCATIONS {
-        a.wanted[field] = value != 0;
-    } else if field < 2 * LOCATIONS {
-        a.want[field - LOCATIONS] = value;
-    } else if field < 2 * LOCATIONS + THREADS {
-        a.passed[field - 2 * LOCATIONS] = low(value);
+    match field {
+        ..FROM_WORDS => a.wanted[field] = value != 0,
+        FROM_WORDS..FROM_PASSED => a.want[field - FROM_WORDS] = value,
+        FROM_PASSED..ALL_OF_ASK => a.passed[field - FROM_PASSED] = low(value),
+        _ => {}
     }
 }
 

@@ -1,6 +1,5 @@
 // A state of the machine and its bytes; docs/FRAMES.md has the layout.
-ghost use Rattle.std.specs.Prelude.{◌≡◌, ◌+◌, ◌*◌, ◌≤◌, length};
-ghost use Rattle.cases.specs.Sizes.{all_code};
+ghost use Rattle.std.specs.Prelude.{◌+◌, ◌*◌, ◌≤◌, length};
 ghost use Rattle.batch.specs.Sizes.{state_bytes};
 
 use crate::print::ROOM;
@@ -8,6 +7,7 @@ use cases::case::{Location, Write};
 use cases::sizes::{CODE, LOCATIONS, THREADS};
 use machine::cells::{Entry, State, Waiting};
 use machine::sizes::{ALL_REGISTERS, SLOTS};
+use machine::steps;
 
 // Where each part begins, behind the words; a word takes 4 bytes and an entry 6.
 const HELD: usize = 4 * LOCATIONS;
@@ -27,6 +27,15 @@ const ISSUED: usize = REGISTERS_AT + 4 * ALL_REGISTERS;
 // A state's bytes are the first of as many as `print` takes.
 pub const STATE_BYTES: usize = ISSUED + THREADS;
 
+// An entry's kind, in its first byte.
+const STORE: u8 = 0;
+
+const FLUSH: u8 = 1;
+
+const FLUSH_OPT: u8 = 2;
+
+const SFENCE: u8 = 3;
+
 fn word_at(raw: &[u8; ROOM], at: usize) -> u32
     requires { at + 4 ≤ state_bytes }
 {
@@ -44,12 +53,12 @@ fn entry_at(raw: &[u8; ROOM], at: usize) -> Entry
 {
     let l = Location(raw[at + 1]);
     match raw[at] % 4 {
-        0 => Entry::Store(Write {
+        STORE => Entry::Store(Write {
             location: l,
             word: word_at(raw, at + 2),
         }),
-        1 => Entry::Flush(l),
-        2 => Entry::FlushOpt(l),
+        FLUSH => Entry::Flush(l),
+        FLUSH_OPT => Entry::FlushOpt(l),
         _ => Entry::Sfence,
     }
 }
@@ -57,24 +66,15 @@ fn entry_at(raw: &[u8; ROOM], at: usize) -> Entry
 fn put_entry(raw: &mut [u8; ROOM], at: usize, e: Entry)
     requires { at + 6 ≤ state_bytes }
 {
-    match e {
-        Entry::Store(w) => {
-            raw[at] = 0;
-            raw[at + 1] = w.location.0;
-            put_word(raw, at + 2, w.word);
-        }
-        Entry::Flush(l) => {
-            raw[at] = 1;
-            raw[at + 1] = l.0;
-        }
-        Entry::FlushOpt(l) => {
-            raw[at] = 2;
-            raw[at + 1] = l.0;
-        }
-        Entry::Sfence => {
-            raw[at] = 3;
-        }
-    }
+    let (kind, l, word) = match e {
+        Entry::Store(w) => (STORE, w.location, w.word),
+        Entry::Flush(l) => (FLUSH, l, 0),
+        Entry::FlushOpt(l) => (FLUSH_OPT, l, 0),
+        Entry::Sfence => (SFENCE, Location(0), 0),
+    };
+    raw[at] = kind;
+    raw[at + 1] = l.0;
+    put_word(raw, at + 2, word);
 }
 
 fn read_words(raw: &[u8; ROOM], at: usize, into: &mut [u32])
@@ -92,33 +92,15 @@ fn read_bytes(raw: &[u8], at: usize, into: &mut [u8])
     into.copy_from_slice(&raw[at..at + into.len()]);
 }
 
-fn read_entries(raw: &[u8; ROOM], into: &mut [Waiting])
-    requires { length into.old ≤ all_code }
-{
+fn read_entries(raw: &[u8; ROOM], into: &mut [Waiting; CODE]) {
     for (i, w) in into.iter_mut().enumerate() {
         w.entry = entry_at(raw, BUFFERS + 6 * i);
     }
 }
 
-fn blank_state() -> State {
-    let blank = Waiting {
-        entry: Entry::Sfence,
-    };
-    State {
-        words: [0; LOCATIONS],
-        held: [0; SLOTS],
-        marks: [0; SLOTS],
-        lengths: [0; LOCATIONS],
-        buffers: [blank; CODE],
-        waiting: [0; THREADS],
-        registers: [0; ALL_REGISTERS],
-        issued: [0; THREADS],
-    }
-}
-
-// The state of those bytes.
+// The state of those bytes. It begins as some state, of which nothing stays.
 pub(crate) fn from_bytes(raw: &[u8; ROOM]) -> State {
-    let mut s = blank_state();
+    let mut s = steps::start_of(cases::empty_case().program);
     read_words(raw, 0, &mut s.words);
     read_words(raw, HELD, &mut s.held);
     read_bytes(raw, MARKS, &mut s.marks);

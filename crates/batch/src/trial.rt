@@ -11,15 +11,17 @@ use machine::steps::Stepped;
 use machine::work::Weighed;
 use machine::{runs, steps, work};
 use std::io;
-use telling::Place;
+use telling::InTheWay;
 
+// The work, or r and the refusal's number.
 fn print_weight(rt: HostRuntime, w: Weighed) -> io::Result<()> {
-    let refused = work::weighed_number(w);
-    if refused != 0 {
-        print!(rt; "r")?;
-        return print::number(rt, refused as usize);
+    match w {
+        Ok(n) => print::number(rt, n),
+        Err(_) => {
+            print!(rt; "r")?;
+            print::number(rt, work::weighed_number(w) as usize)
+        }
     }
-    print::number(rt, work::weighed_work(w))
 }
 
 // What a frame's line says first: the number, its place, and the first entry in the way where one is named.
@@ -67,7 +69,7 @@ fn print_line(
     let mut raw = [0u8; ROOM];
     state::to_bytes(&mut raw, out);
     print_state(rt, &raw)?;
-    print!(rt; "{}", Place(said.blocker))?;
+    print!(rt; "{}", InTheWay(said.blocker))?;
     print::end(rt)
 }
 
@@ -97,25 +99,29 @@ fn take_step(rt: HostRuntime, c: Case) -> io::Result<bool> {
     Ok(true)
 }
 
-// Answers for the bytes of a frame; false where the stream ends in the frame.
+// Answers for the bytes of a frame; false where the stream ends in the frame. A question's last two numbers are the room
+// that it is lent and its budget, a case's in memory the field that is changed and its value.
 pub(crate) fn answer(
     rt: HostRuntime,
     job: Job,
     input: &[u8],
-    field: usize,
-    value: u32,
+    third: usize,
+    fourth: u32,
 ) -> io::Result<bool> {
-    let read = cases::read(input).case;
-    let c = change::changed(read, field, value);
+    let changed = || change::changed(cases::read(input).case, third, fourth);
     match job {
-        Job::JudgeBytes => print_run(rt, read, machine::judge_bytes(input))?,
-        Job::JudgeCase => print_run(rt, c, machine::judge(c))?,
+        Job::JudgeBytes => print_run(rt, cases::read(input).case, machine::judge_bytes(input))?,
+        Job::JudgeCase => {
+            let c = changed();
+            print_run(rt, c, machine::judge(c))?;
+        }
         Job::Start => {
+            let c = changed();
             let r = machine::start(c);
             print_line(rt, &said_of_step(&r), c, r.state, &r.state)?;
         }
-        Job::Question => return asked::answer(rt, input, field, value),
-        Job::Step => return take_step(rt, c),
+        Job::Step => return take_step(rt, changed()),
+        Job::Question => return asked::answer(rt, input, third, fourth),
     }
     Ok(true)
 }

@@ -7,7 +7,7 @@
 use machine::cells::State;
 use machine::runs::Verdict;
 use std::io;
-use telling::Place;
+use telling::InTheWay;
 
 // What the persistent words of a program's locations hold.
 fn say_words(rt: HostRuntime, s: &State, locations: u8) -> io::Result<()> {
@@ -26,7 +26,7 @@ fn answer(rt: HostRuntime, bytes: &[u8]) -> io::Result<()> {
             say_words(rt, &judged.state, case.program.locations)
         }
         Verdict::Illegal(rule, index, blocker) => {
-            println!(rt; "ILLEGAL {index} {rule}{}", Place(blocker))
+            println!(rt; "ILLEGAL {index} {rule}{}", InTheWay(blocker))
         }
         Verdict::Refused(number, offset) => println!(rt; "REFUSED {number} {offset}"),
     }

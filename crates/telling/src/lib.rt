@@ -27,6 +27,7 @@ impl fmt::Display for Taken {
 
     fn fmt<W: fmt::Write>(&self, f: &mut fmt::Formatter<W>) -> fmt::Result {
         let k = &self.0;
+        // no match: in its last arm no proof is told which codes the others took
         if k.code == ISSUE {
             return write!(f, "I{}", k.thread.0);
         }
@@ -42,9 +43,9 @@ impl fmt::Display for Taken {
 
 // The place of the first entry in the way, behind a blank: ` B0.2` or ` Q1.0`, and nothing where none is named.
 #[derive(Clone, Copy)]
-pub struct Place(pub Blocker);
+pub struct InTheWay(pub Blocker);
 
-impl fmt::Display for Place {
+impl fmt::Display for InTheWay {
     ghost output = { λ x. Some (place_text x.0) };
 
     fn fmt<W: fmt::Write>(&self, f: &mut fmt::Formatter<W>) -> fmt::Result {
