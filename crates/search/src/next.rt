@@ -150,6 +150,7 @@ fn offer(ranks: &mut [u8; CANDIDATES], count: u8, barred: bool, k: Step) -> u8
     count + 1
 }
 
+#[tactic(auto, using(crate::proofs::next::RanksLoopLaws::offered_low, crate::proofs::next::RanksLoopLaws::offered_next, crate::proofs::next::RanksLoopLaws::offered_end), unfolding(machine::specs::Next::rank_of))]
 fn offer_issues(v: &View, ranks: &mut [u8; CANDIDATES], count: u8) -> u8
     requires { count + threads_in v.now.c.now.numbers ≤ most_candidates }
     ensures { (next_with result ranks.new ≡ offered_from (issue_barred v.now.c.now.numbers v.now.x.now)
@@ -219,6 +220,7 @@ fn offer_moves(v: &View, ranks: &mut [u8; CANDIDATES], count: u8) -> u8
     n
 }
 
+#[tactic(auto, using(crate::proofs::next::RanksLoopLaws::offered_low, crate::proofs::next::RanksLoopLaws::offered_next, crate::proofs::next::RanksLoopLaws::offered_end), unfolding(machine::specs::Next::rank_of, crate::specs::Barred::persist_barred))]
 fn offer_persists(v: &View, ranks: &mut [u8; CANDIDATES], count: u8) -> u8
     requires { count + lines_in v.now.c.now.numbers ≤ most_candidates }
     ensures { next_with result ranks.new ≡ offered_from (persist_barred v.now.c.now.numbers v.now.x.now)
