@@ -150,7 +150,7 @@ fn offer(ranks: &mut [u8; CANDIDATES], count: u8, barred: bool, k: Step) -> u8
     count + 1
 }
 
-#[tactic(auto, using(crate::proofs::next::RanksLoopLaws::offered_low, crate::proofs::next::RanksLoopLaws::offered_next, crate::proofs::next::RanksLoopLaws::offered_end), unfolding(machine::specs::Next::rank_of))]
+#[tactic(auto, using(crate::proofs::next::RanksLoopLaws::offers), unfolding(machine::specs::Next::rank_of))]
 fn offer_issues(v: &View, ranks: &mut [u8; CANDIDATES], count: u8) -> u8
     requires { count + threads_in v.now.c.now.numbers ≤ most_candidates }
     ensures { (next_with result ranks.new ≡ offered_from (issue_barred v.now.c.now.numbers v.now.x.now)
@@ -176,6 +176,7 @@ fn offer_issues(v: &View, ranks: &mut [u8; CANDIDATES], count: u8) -> u8
 }
 
 // The moves of one thread, whose buffer's row starts at base.
+#[tactic(auto, using(crate::proofs::rows::RowLoopLaws::row_room, crate::proofs::next::RanksLoopLaws::offers))]
 fn offer_moves_of(v: &View, t: Thread, base: usize, ranks: &mut [u8; CANDIDATES], count: u8) -> u8
     requires { (t.0 < threads_in v.now.c.now.numbers)
         × (base ≡ row_start v.now.c.now.numbers v.now.x.now t.0)
@@ -204,6 +205,7 @@ fn offer_moves_of(v: &View, t: Thread, base: usize, ranks: &mut [u8; CANDIDATES]
     n
 }
 
+#[tactic(auto, using(crate::proofs::next::RanksLoopLaws::moving))]
 fn offer_moves(v: &View, ranks: &mut [u8; CANDIDATES], count: u8) -> u8
     requires { count + sum_to (threads_in v.now.c.now.numbers) (row_len v.now.c.now.numbers v.now.x.now) ≤ most_candidates }
     ensures { (next_with result ranks.new
@@ -220,7 +222,7 @@ fn offer_moves(v: &View, ranks: &mut [u8; CANDIDATES], count: u8) -> u8
     n
 }
 
-#[tactic(auto, using(crate::proofs::next::RanksLoopLaws::offered_low, crate::proofs::next::RanksLoopLaws::offered_next, crate::proofs::next::RanksLoopLaws::offered_end), unfolding(machine::specs::Next::rank_of, crate::specs::Barred::persist_barred))]
+#[tactic(auto, using(crate::proofs::next::RanksLoopLaws::offers), unfolding(machine::specs::Next::rank_of, crate::specs::Barred::persist_barred))]
 fn offer_persists(v: &View, ranks: &mut [u8; CANDIDATES], count: u8) -> u8
     requires { count + lines_in v.now.c.now.numbers ≤ most_candidates }
     ensures { next_with result ranks.new ≡ offered_from (persist_barred v.now.c.now.numbers v.now.x.now)

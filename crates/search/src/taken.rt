@@ -265,7 +265,7 @@ fn persist(c: &Listing, x: &mut [u32; LANES], q: Line)
 }
 
 // Takes a legal step.
-#[tactic(auto, using(cases::proofs::ChoiceLaws::choices), unfolding(crate::specs::Taken::step_lanes))]
+#[tactic(auto, using(cases::proofs::ChoiceLaws::choices, crate::proofs::taken::TakenLaws::taking), unfolding(crate::specs::Taken::step_lanes))]
 pub(crate) fn take(c: &Listing, x: &mut [u32; LANES], k: Step)
     requires { FewEntries c.now.numbers x.old × Takes c.now.numbers x.old k }
     ensures { x.new ≡ step_lanes c.now.numbers x.old k }
