@@ -3,5 +3,5 @@
 pub mod InPlaceLaws
 -- joined, carried, EntryWithin, entry, fetched, code: a change stays within the lanes, and a row's length has room
 pub mod RowLenLaws
--- takes: what a step's code tells of it
+-- takes: what a step's code tells of it; a ruleset
 pub mod TakenLaws

@@ -151,6 +151,7 @@ impl Ranks {
     }
 }
 
+#[tactic(auto, using(crate::proofs::next::RanksLoopLaws::offers), unfolding(machine::specs::Next::rank_of))]
 fn offer_issues(v: &View, to: &mut Ranks)
     requires { to.old.count + threads_in v.now.c.now.numbers ≤ most_candidates }
     ensures { (to.new ≡ offered_from (issue_barred v.now.c.now.numbers v.now.x.now)
@@ -172,6 +173,7 @@ fn offer_issues(v: &View, to: &mut Ranks)
 }
 
 // The moves of one thread, whose buffer's row starts at base.
+#[tactic(auto, using(crate::proofs::rows::RowLoopLaws::row_room, crate::proofs::next::RanksLoopLaws::offers))]
 fn offer_moves_of(v: &View, t: Thread, base: usize, to: &mut Ranks)
     requires { (t.0 < threads_in v.now.c.now.numbers)
         × (base ≡ row_start v.now.c.now.numbers v.now.x.now t.0)
@@ -195,6 +197,7 @@ fn offer_moves_of(v: &View, t: Thread, base: usize, to: &mut Ranks)
     }
 }
 
+#[tactic(auto, using(crate::proofs::next::RanksLoopLaws::moving))]
 fn offer_moves(v: &View, to: &mut Ranks)
     requires { to.old.count + sum_to (threads_in v.now.c.now.numbers) (row_len v.now.c.now.numbers v.now.x.now) ≤ most_candidates }
     ensures { (to.new ≡ offered_moves v.now.c.now.numbers v.now.x.now 0 (threads_in v.now.c.now.numbers) to.old)
@@ -207,6 +210,7 @@ fn offer_moves(v: &View, to: &mut Ranks)
     }
 }
 
+#[tactic(auto, using(crate::proofs::next::RanksLoopLaws::offers), unfolding(machine::specs::Next::rank_of, crate::specs::Barred::persist_barred))]
 fn offer_persists(v: &View, to: &mut Ranks)
     requires { to.old.count + lines_in v.now.c.now.numbers ≤ most_candidates }
     ensures { to.new ≡ offered_from (persist_barred v.now.c.now.numbers v.now.x.now)

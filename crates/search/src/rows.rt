@@ -122,6 +122,7 @@ impl<'a> View<'a> {
     }
 
     // Does some queue hold a marker of the thread?
+    #[tactic(auto, using(crate::proofs::rows::MarkedLoopLaws::marks))]
     pub(crate) fn is_marked(&self, t: Thread) -> bool
         ensures { result ≡ marked_lanes self.now.c.now.numbers self.now.x.now t.0 }
     {

@@ -10,6 +10,7 @@ use crate::listing::Listing;
 use crate::sizes::LANES;
 use cases::case::{Location, Program};
 
+#[tactic(auto, using(crate::proofs::start::StartLanesLaws::begun_start, crate::proofs::start::StartLanesLaws::start_next))]
 pub(crate) fn start_lanes(p: &Program, c: &Listing) -> [u32; LANES]
     requires { ProgramFits p.now × (c.now.numbers ≡ listing_of p.now) }
     ensures { result ≡ padded (lanes_of p.now (start_of p.now)) }

@@ -105,6 +105,7 @@ fn copy(memory: &mut [u32], at: usize, key: &[u32; LANES], n: usize)
 }
 
 // The key as one more record, in front of its bucket's chain.
+#[tactic(auto, using(crate::proofs::table::KeepLaws::kept_within, crate::proofs::table::KeepLaws::kept_length, crate::proofs::table::KeepLaws::kept))]
 pub(crate) fn keep(memory: &mut [u32], limit: u32, count: u32, b: u32, key: &[u32; LANES], n: usize)
     requires { Chained memory.old limit count × (count < limit) × (b < limit)
         × (b ≡ bucket_of limit (take n key.now)) × (n ≤ most_lanes) }

@@ -60,7 +60,7 @@ fn discount(x: &mut [u32; LANES], at: usize)
 }
 
 // An entry more at a row's end. A hint where the machine's code is faster for it, here and below.
-#[tactic(auto, unfolding(crate::specs::Taken::row_joined))]
+#[tactic(auto, using(crate::proofs::taken::RowLenLaws::joined_within, crate::proofs::taken::RowLenLaws::joined_count), unfolding(crate::specs::Taken::row_joined))]
 #[inline(always)]
 fn join(c: &Listing, x: &mut [u32; LANES], r: Row, tag: u32, word: u32)
     requires { RoomForOne c.now.numbers x.old × (r.0 < rows_in c.now.numbers) }
@@ -74,7 +74,7 @@ fn join(c: &Listing, x: &mut [u32; LANES], r: Row, tag: u32, word: u32)
 }
 
 // The entry at a lane of a row leaves it.
-#[tactic(auto, unfolding(crate::specs::Taken::row_left))]
+#[tactic(auto, using(crate::proofs::taken::RowLenLaws::carried_within, crate::proofs::taken::RowLenLaws::carried_discount), unfolding(crate::specs::Taken::row_left))]
 fn leave(c: &Listing, x: &mut [u32; LANES], r: Row, at: usize)
     requires { FewEntries c.now.numbers x.old × (r.0 < rows_in c.now.numbers)
         × (0 < row_len c.now.numbers x.old r.0) × (pool_at c.now.numbers ≤ at)
@@ -163,7 +163,7 @@ fn fetch(c: &Listing, x: &mut [u32; LANES], t: Thread, at: usize)
 }
 
 // The word goes to the end of the location's queue.
-#[tactic(auto, unfolding(crate::specs::Taken::exchanged_lanes))]
+#[tactic(auto, using(crate::proofs::taken::RowLenLaws::fetched_room, crate::proofs::rows::RowLoopLaws::queue_low), unfolding(crate::specs::Taken::exchanged_lanes))]
 #[inline(never)]
 fn exchange(c: &Listing, x: &mut [u32; LANES], t: Thread, at: usize)
     requires { CodeHere c.now.numbers x.old t.0 at }
@@ -210,7 +210,7 @@ fn perform(c: &Listing, x: &mut [u32; LANES], t: Thread, at: usize)
     }
 }
 
-#[tactic(auto, unfolding(crate::specs::Taken::issue_lanes))]
+#[tactic(auto, using(crate::proofs::rows::RowLoopLaws::code_low, crate::proofs::taken::RowLenLaws::code_here), unfolding(crate::specs::Taken::issue_lanes))]
 fn issue(c: &Listing, x: &mut [u32; LANES], t: Thread)
     requires { RoomForOne c.now.numbers x.old × (t.0 < threads_in c.now.numbers)
         × (get_or x.old t.0 0 < count_in c.now.numbers t.0) }
@@ -265,7 +265,7 @@ fn persist(c: &Listing, x: &mut [u32; LANES], q: Line)
 }
 
 // Takes a legal step.
-#[tactic(auto, using(cases::proofs::ChoiceLaws::choices), unfolding(crate::specs::Taken::step_lanes))]
+#[tactic(auto, using(cases::proofs::ChoiceLaws::choices, crate::proofs::taken::TakenLaws::taking), unfolding(crate::specs::Taken::step_lanes))]
 pub(crate) fn take(c: &Listing, x: &mut [u32; LANES], k: Step)
     requires { FewEntries c.now.numbers x.old × Takes c.now.numbers x.old k }
     ensures { x.new ≡ step_lanes c.now.numbers x.old k }

@@ -19,6 +19,7 @@ use Rattle.search.specs.Barred.{issue_barred, entry_barred, move_barred, persist
 use Rattle.search.specs.Barred.{pushed, offered, offered_from, offered_moves, next_lanes}
 use Rattle.search.proofs.lanes.GeneralLaws.{sum_front}
 use Rattle.machine.proofs.lists.AnyLaws.{any_here, any_next, any_end}
+use Rattle.search.proofs.rows.RowLoopLaws.{row_room, row_next}
 
 -- offered: the list is longer by one at most
 count_offered : (barred : Bool) (k : Step) (n : Ranks) → (offered barred k n).count ≤ n.count + 1
@@ -146,7 +147,11 @@ pub next_made : (c x : List ℕ) (issues moves all : Ranks)
 unfolding next_lanes
 next_made c x issues moves all d e f = rw (f, e, d)
 
--- what `next_steps` needs, and the loop of `is_barred`
+-- what `next_steps` needs, and the loops of this room
 pub ruleset steps = (moves_fit, persists_fit, next_made)
 
 pub ruleset bars = (any_here, any_next, any_end)
+
+pub ruleset offers = (offered_low, offered_end)
+
+pub ruleset moving = (row_room, row_next, moves_start, moves_room, moves_next, moves_end)

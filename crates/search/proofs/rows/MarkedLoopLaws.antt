@@ -15,7 +15,7 @@ use Rattle.cases.proofs.ChoiceLaws.{pick_here, pick_next}
 use Rattle.machine.specs.View.{mark_of}
 use Rattle.search.specs.Listing.{threads_in, lines_in}
 use Rattle.search.specs.Rows.{row_len, row_start, marked_among, marked_from, marked_lanes}
-use Rattle.search.proofs.rows.RowLoopLaws.{row_next}
+use Rattle.search.proofs.rows.RowLoopLaws.{row_next, row_room}
 
 -- the entries from number i on say what all n say
 pub record MarkSoFar (x : List ℕ) (mark base n i : ℕ) : Type 0 where
@@ -95,5 +95,7 @@ module _ {c x : List ℕ} {mark base q : ℕ} (o : MarkedSoFar c x mark base q) 
   unfolding marked_lanes marked_from
   marked_end h t e = let k : lines_in c - q ≡ 0 = omega arith in rw (k, e) at o.rest
 
--- what the loop of `has_mark` needs
+-- what the loops of `has_mark` and `is_marked` need
 pub ruleset mark = (mark_next, mark_here, mark_end)
+
+pub ruleset marks = (row_room, marked_here, marked_end)

@@ -179,10 +179,6 @@ begun_start p c g e =
     }
 
 module _ {p : Program} {c x : List ℕ} {l : ℕ} (o : StartSoFar p c x l) where
-  -- where a word goes is a lane
-  pub start_listed : ListingFits c
-  start_listed = rw o.listed (listing_fits p o.program)
-
   -- one more; all
   pub start_next : l < p.locations → (at : ℕ) → at ≡ word_at c l
       → StartSoFar p c (set x at (get_or p.first l 0)) (l + 1)

@@ -1,15 +1,14 @@
 -- Laws of the way along a chain: every record with the key that is sought is still to be met; and what that
 -- says of the keys that are kept. Assumes nothing.
-use Prim.Native.Nat.{ℕ, zero, suc, ◌+◌, ◌-◌, ◌≤◌, ◌<◌}
+use Prim.Native.Nat.{ℕ, zero, suc, ◌-◌, ◌≤◌, ◌<◌}
 use mathlib.Core.Path.{◌≡◌, refl, sym, ap, subst, ◌∙◌}
 use mathlib.Core.Logic.{◌⊎◌, inl, inr, ◌≢◌}
 use mathlib.Core.Bool.{true, false}
 use mathlib.Core.List.{List}
 use native.Mathlib.Omega.{arith}
 use native.Mathlib.Nat.{eq-or-lt_of_le, le_of_suc-le-suc}
-use lib.ListN.{length, get_or}
+use lib.ListN.{get_or}
 use Rattle.cases.proofs.ChoiceLaws.{either_here, either_next, never_both}
-use Rattle.search.specs.Sizes.{most_lanes, record_words}
 use Rattle.search.specs.Remember.{eq_lanes, among}
 use Rattle.search.specs.Table.{key_at, place_of, link_of, key_of, keys_in, bucket_of, On, Chained}
 use Rattle.search.proofs.recall.AmongLaws.{lanes_equal, equal_lanes, differ_lanes, either_right}
@@ -42,10 +41,6 @@ pub record Seeking (m : List ℕ) (limit count : ℕ) (key : List ℕ) (x : ℕ)
   pub ahead : (j : ℕ) → j < count → key_of m limit j ≡ key → (f : ℕ) × On m limit f x j
 
 module _ {m : List ℕ} {limit count : ℕ} (c : Chained m limit count) where
-  -- a head is within the lent words
-  pub head_within : (b : ℕ) → b < limit → b < length m
-  head_within b h = let l = c.long in omega arith
-
   -- at the head of the key's bucket every record that holds it is still to be met
   pub seek_start : (key : List ℕ) (b : ℕ) → b < limit → b ≡ bucket_of limit key
       → Seeking m limit count key (get_or m b 0)
@@ -67,16 +62,10 @@ module _ {m : List ℕ} {limit count : ℕ} (c : Chained m limit count) where
         go j zero o = o
         go j (suc f) o = let z = o.0 in omega arith
 
-    -- at a record: where it stands, how long it is, that its link is lower
+    -- at a record: its link is lower
     module _ (h : 0 < x) where
       below : x - 1 < count
       below = let a = s.low in omega arith
-
-      pub seek_within : place_of limit (x - 1) + record_words ≤ length m
-      seek_within = let a = below in let f = c.few in let l = c.long in omega arith
-
-      pub seek_size : get_or m (place_of limit (x - 1) + 1) 0 ≤ most_lanes
-      seek_size = c.sizes (x - 1) below
 
       pub seek_falls : get_or m (place_of limit (x - 1)) 0 < x
       unfolding link_of

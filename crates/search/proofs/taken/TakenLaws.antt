@@ -33,3 +33,5 @@ module _ (c x : List ℕ) (k : Step) (h : Takes c x k) where
   takes_persist e f =
       let w = otherwise (otherwise h (λ v. e v.0)) (λ v. f v.0) in
       (w.1, w.2)
+
+pub ruleset taking = (takes_issue, takes_move, takes_persist)

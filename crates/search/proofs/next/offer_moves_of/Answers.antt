@@ -1,14 +1,7 @@
 use Rattle.std.proofs.Common.{arith}
 use Rattle.machine.specs.Next.{rank_of}
-use Rattle.search.proofs.rows.RowLoopLaws.{row_room}
-use Rattle.search.proofs.next.RanksLoopLaws.{offered_low, offered_next, offered_end, move_made}
+use Rattle.search.proofs.next.RanksLoopLaws.{offered_low, offered_next, move_made}
 use Rattle.search.proofs.next.offer_moves_of.Goals as goal
-
-pub is_entry_barred-barred-requires : goal.is_entry_barred-barred-requires
-is_entry_barred-barred-requires c =
-    let g = c.requires in
-    let w = row_room _ _ c.args.v.now.c.now.fits c.args.v.now.few c.args.t.0 (omega arith) _ _ g.1 c.loop-i.invariant.0 in
-    (omega arith)
 
 pub offer-requires : goal.offer-requires
 unfolding rank_of
@@ -24,8 +17,3 @@ loop-i-preserved c =
     let i = c.loop-i.invariant in
     let m = move_made _ _ _ _ _ _ c.requires.1 c.is_entry_barred-barred.ensures in
     (i.0, offered_next i.1 (omega arith) _ _ c.offer.ensures m)
-
-pub returns : goal.returns
-returns c =
-    let i = c.loop-i.invariant in
-    rw (← i.0) (offered_end i.1 (omega arith))

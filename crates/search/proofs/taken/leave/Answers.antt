@@ -1,6 +1,6 @@
 -- `leave` meets its contract. Assumes nothing.
 use Rattle.std.proofs.Common.{arith}
-use Rattle.search.proofs.taken.RowLenLaws.{carried_within, carried_discount}
+use Rattle.search.proofs.taken.RowLenLaws.{carried_within}
 use Rattle.search.proofs.taken.leave.Goals as goal
 
 pub carry-requires : goal.carry-requires
@@ -8,8 +8,3 @@ carry-requires c =
     let w = carried_within _ _ c.args.c.now.fits c.requires.0 _ _ c.requires.1 c.requires.4 _ _ c.requires.1 (omega arith)
     c.pool_end-end.ensures in
     w
-
-pub discount-requires : goal.discount-requires
-discount-requires c =
-    carried_discount _ _ c.args.c.now.fits c.requires.0 _ _ c.requires.1 c.requires.4 c.requires.3 c.requires.2 _ _ _ _ _
-    c.carry.ensures c.row_len_at.ensures
