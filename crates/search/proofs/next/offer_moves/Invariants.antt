@@ -1,7 +1,6 @@
 -- `offer_moves` meets its contract. Assumes nothing.
 use Rattle.std.proofs.Common.{◌≡◌}
 use Rattle.search.specs.Rows.{row_start}
-use Rattle.search.specs.Barred.{next_with}
 use Rattle.search.proofs.next.RanksLoopLaws.{MovesSoFar}
 use Rattle.search.proofs.next.offer_moves.Given as goal
 
