@@ -84,6 +84,7 @@ pub fn question(bytes: &[u8], run: &mut [u8], budget: u32) -> Outcome
     let reading = cases::read(bytes);
     let answer = reading.answer;
     let number = reader::number(answer);
+    // by the number, as the definition has it: a match would have to show first that no refusal's number is 0
     if number != 0 {
         return Outcome::Refused(number, reader::offset(answer));
     }

@@ -103,6 +103,7 @@ pub fn remember(bytes: &[u8], run: &mut [u8], memory: &mut [u32], budget: u32) -
     let reading = cases::read(bytes);
     let answer = reading.answer;
     let number = reader::number(answer);
+    // by the number, as the definition has it: a match would have to show first that no refusal's number is 0
     if number != 0 {
         return Remembered {
             outcome: Outcome::Refused(number, reader::offset(answer)),
