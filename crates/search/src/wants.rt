@@ -14,7 +14,7 @@ use cases::case::{Ask, Location};
 fn misses(wanted: bool, want: u32, word: u32) -> bool
     ensures { result ≡ question.misses wanted want word }
 {
-    if wanted { word != want } else { false }
+    wanted && word != want
 }
 
 // Does some location?
@@ -53,8 +53,5 @@ pub(crate) fn is_reached(v: &View, a: &Ask) -> bool
         ≡ reaches_lanes v.now.c.now.numbers a.now.wanted a.now.want a.now.passed
         v.now.x.now }
 {
-    if is_missed(v, a) {
-        return false;
-    }
-    !is_lacking(v, a)
+    !is_missed(v, a) && !is_lacking(v, a)
 }
