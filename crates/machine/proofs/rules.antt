@@ -1,7 +1,7 @@
 -- The rules (specs/Rules).
 -- issue_ready, move_ready, persist_ready, issue_rule_ready, move_rule_ready: what functions ask for; shallow, head_named
 pub mod ReadyLaws
--- rule, issue_between, move_between, persist_between: its number is in the table; Between, InTable
+-- rule, broken_none (no error), issue_between, move_between, persist_between: its number is in the table; Between, InTable
 pub mod RuleLaws
 -- barrier, entry, first, behind, effect, sfence, pass: what a rule's number tells of the parts it looks at
 pub mod ToldLaws
