@@ -163,12 +163,12 @@ fn as_instruction(s: &[u8]) -> Instruction
 fn as_step(s: &[u8]) -> Step
     ensures { result ≡ as_step s.now }
 {
-    Step {
-        thread: Thread(byte_at(s, 4)),
-        code: byte_at(s, 5),
-        position: byte_at(s, 6),
-        location: Location(byte_at(s, 7)),
-    }
+    Step::from([
+        byte_at(s, 4),
+        byte_at(s, 5),
+        byte_at(s, 6),
+        byte_at(s, 7),
+    ])
 }
 
 // The record of that kind whose bytes s starts with.
