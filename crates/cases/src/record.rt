@@ -1,8 +1,8 @@
 // A record of a case: opened from bytes, and laid out as bytes.
-ghost use Rattle.std.specs.Prelude.{◌≡◌, false, ◌∷◌, ◌++◌, ◌+◌, ◌≤◌, length, drop, IfOk};
+ghost use Rattle.std.specs.Prelude.{◌≡◌, false, ◌∷◌, ◌+◌, ◌≤◌, length, IfOk};
 ghost use Rattle.cases.specs.declared.record.Record.TheVariants.{Declare, Instruct, Passed, Take};
 ghost use Rattle.cases.specs.Sizes.{most_locations};
-ghost use Rattle.cases.specs.Bytes.{half, word_bytes};
+ghost use Rattle.cases.specs.Bytes.{half, word_bytes, put_over};
 ghost use Rattle.cases.specs.Fault.{refusal_no};
 ghost use Rattle.cases.specs.Lines.{table};
 ghost use Rattle.cases.specs.Record.{
@@ -37,7 +37,9 @@ pub struct Header {
     pub line: [u8; LOCATIONS],
 }
 
-// The kinds of records, by the numbers that stand in the file.
+// The kinds of records, by the numbers that stand in the file. No enum: `payload_of`, `mislong` and `record_of`, by which
+// `open_record` and `unopened_decides` of proofs/Promises.antt go, take whatever number stands there, and so does
+// `disordered`, of the kind before it.
 pub(crate) const DECLARE: u16 = 1;
 
 pub(crate) const FIRST: u16 = 2;
@@ -223,7 +225,7 @@ pub(crate) fn open_record(s: &[u8]) -> Result<Record, Fault>
 // payload.
 fn put(out: &mut [u8], bytes: &[u8]) -> usize
     requires { length bytes.now ≤ length out.old }
-    ensures { (result ≡ length bytes.now) × (out.new ≡ bytes.now ++ drop (length bytes.now) out.old) }
+    ensures { (result ≡ length bytes.now) × (out.new ≡ put_over bytes.now out.old) }
 {
     let n = bytes.len();
     out[..n].copy_from_slice(bytes);
@@ -234,7 +236,7 @@ fn put(out: &mut [u8], bytes: &[u8]) -> usize
 fn put_header(out: &mut [u8], h: &Header) -> usize
     requires { length (record_bytes (Declare h.now)) ≤ length out.old }
     ensures { (result ≡ length (record_bytes (Declare h.now)))
-        × (out.new ≡ record_bytes (Declare h.now) ++ drop (length (record_bytes (Declare h.now))) out.old) }
+        × (out.new ≡ put_over (record_bytes (Declare h.now)) out.old) }
 {
     let n = h.listed.min(LOCATIONS as u8);
     let v = half_bytes(h.version);
@@ -254,11 +256,10 @@ fn put_header(out: &mut [u8], h: &Header) -> usize
     end + put(&mut out[end..], &h.line[..n as usize])
 }
 
-// A location and a word, of kind 2 or 4.
+// A location and a word, of kind 2 or 4: the low byte of the kind's two.
 fn put_write(out: &mut [u8], kind: u8, w: Write) -> usize
     requires { 9 ≤ length out.old }
-    ensures { (result ≡ 9)
-        × (out.new ≡ (5 ∷ 0 ∷ kind ∷ 0 ∷ w.location.0 ∷ word_bytes w.word) ++ drop 9 out.old) }
+    ensures { (result ≡ 9) × (out.new ≡ put_over (5 ∷ 0 ∷ kind ∷ 0 ∷ w.location.0 ∷ word_bytes w.word) out.old) }
 {
     let b = word_bytes(w.word);
     put(out, &[5, 0, kind, 0, w.location.0, b[0], b[1], b[2], b[3]])
@@ -268,7 +269,7 @@ fn put_write(out: &mut [u8], kind: u8, w: Write) -> usize
 fn put_instruction(out: &mut [u8], t: Thread, x: Instruction) -> usize
     requires { length (record_bytes (Instruct t x)) ≤ length out.old }
     ensures { (result ≡ length (record_bytes (Instruct t x)))
-        × (out.new ≡ record_bytes (Instruct t x) ++ drop (length (record_bytes (Instruct t x))) out.old) }
+        × (out.new ≡ put_over (record_bytes (Instruct t x)) out.old) }
 {
     let b = word_bytes(x.word);
     put(
@@ -294,8 +295,7 @@ fn put_instruction(out: &mut [u8], t: Thread, x: Instruction) -> usize
 #[tactic(auto, unfolding(crate::specs::Record::record_bytes, crate::specs::Record::payload_bytes, crate::specs::Bytes::half_bytes, crate::specs::Bytes::word_bytes))]
 pub(crate) fn put_record(out: &mut [u8], r: Record) -> usize
     requires { length (record_bytes r) ≤ length out.old }
-    ensures { (result ≡ length (record_bytes r))
-        × (out.new ≡ record_bytes r ++ drop (length (record_bytes r)) out.old) }
+    ensures { (result ≡ length (record_bytes r)) × (out.new ≡ put_over (record_bytes r) out.old) }
 {
     match r {
         Record::Declare(h) => put_header(out, &h),
