@@ -1,9 +1,10 @@
 // What may be wrong with a record that opens, each fault by its name; `fault` tries them in 01's order:
 // 4, 5, 8, 6, 7, 9, with 02's 10 behind 7, and for the program's record in 02's: 4, 5, 3, 8.
-ghost use Rattle.std.specs.Prelude.{◌≡◌, ◌≤◌, false};
+ghost use Rattle.std.specs.Prelude.{◌≡◌, ◌≤◌, take, drop};
+ghost use Rattle.std.specs.List.{list_any};
 ghost use Rattle.cases.specs.declared.record.Record.TheVariants.{Declare, First, Instruct};
 ghost use Rattle.cases.specs.declared.record.Record.TheVariants.{Want, Passed, Take};
-ghost use Rattle.cases.specs.Sizes.{most_instructions, most_locations};
+ghost use Rattle.cases.specs.Sizes.{most_locations};
 ghost use Rattle.cases.specs.Choice.{refuse};
 ghost use Rattle.cases.specs.Fault.{refusal_no};
 ghost use Rattle.cases.specs.Lines.{unordered};
@@ -195,25 +196,25 @@ fn is_set_by(r: Register, x: Instruction) -> bool
     sets_register(x.operation) && x.register == r
 }
 
-// One of the thread's instructions so far sets the register; the newest is looked at first.
+// One of the n instructions from there on sets the register.
+fn is_set_within(code: &[Instruction], at: usize, n: usize, r: Register) -> bool
+    ensures { result ≡ list_any (set_by r.0) (take n (drop at code.now)) }
+{
+    code.iter().skip(at).take(n).any(|x| is_set_by(r, *x))
+}
+
+// One of the thread's instructions so far sets the register.
+#[tactic(auto, using(crate::proofs::checks::SetLaws::set_found))]
 fn is_set(p: &Program, t: Thread, r: Register) -> bool
-    requires { count_at p.now t.0 ≤ most_instructions }
     ensures { result ≡ set_before p.now t.0 r.0 (count_at p.now t.0) }
 {
     let at = (t.0 as usize) * INSTRUCTIONS;
-    let n = count(p, t) as usize;
-    for i in (0..n).rev() {
-        if is_set_by(r, p.code[at + i]) {
-            return true;
-        }
-    }
-    false
+    is_set_within(&p.code, at, count(p, t) as usize, r)
 }
 
 // It needs a register that no instruction before it in its thread sets.
 #[tactic(auto, using(crate::proofs::ChoiceLaws::choices), unfolding(crate::specs::Checks::unset))]
 fn is_unset(p: &Program, t: Thread, x: Instruction) -> bool
-    requires { count_at p.now t.0 ≤ most_instructions }
     ensures { result ≡ unset p.now t x }
 {
     needs_register(x.operation) && !is_set(p, t, x.register)
