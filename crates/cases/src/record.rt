@@ -112,14 +112,13 @@ fn is_mislong(kind: u16, n: u16) -> bool
 }
 
 // The line bytes of a program's record, 0 behind them.
-#[tactic(auto, using(crate::proofs::lines::LineTableLaws::table_start, crate::proofs::lines::LineTableLaws::table_next))]
 fn as_lines(s: &[u8], n: u8) -> [u8; LOCATIONS]
     requires { n ≤ most_locations }
     ensures { result ≡ table (line_byte s.now) n }
 {
     let mut line = [0u8; LOCATIONS];
-    for l in 0..n as usize {
-        line[l] = byte_at(s, 8 + l);
+    for (l, byte) in line[..n as usize].iter_mut().enumerate() {
+        *byte = byte_at(s, 8 + l);
     }
     line
 }

@@ -139,7 +139,8 @@ fn seat_at(c: &Case, k: usize) -> Option<Record>
     }
 }
 
-// Puts the case's file at the front of bytes that it fits into, and says how long it is.
+// Puts the case's file at the front of bytes that it fits into, and says how long it is. No chain: each record is put
+// where the one before ends, and of a closure that changes what it captures a proof knows nothing.
 pub(crate) fn encode(c: &Case, out: &mut [u8]) -> usize
     requires { length (encode_of c.now) ≤ length out.old }
     ensures { (result ≡ length (encode_of c.now)) × (out.new ≡ put_over (encode_of c.now) out.old) }
