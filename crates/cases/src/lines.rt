@@ -59,7 +59,7 @@ pub(crate) fn is_unordered(line: &[u8]) -> bool
 }
 
 // How many lines the line numbers name. No `fold`: its closure doesn't know the bound on `next` that `new_after` requires,
-// and the loop's invariant says it (tried).
+// and the loop's invariant says it.
 pub(crate) fn lines_in(line: &[u8]) -> u8
     requires { length line.now ≤ most_locations }
     ensures { result ≡ lines_in 0 line.now }

@@ -164,12 +164,7 @@ fn as_instruction(s: &[u8]) -> Instruction
 fn as_step(s: &[u8]) -> Step
     ensures { result ≡ as_step s.now }
 {
-    Step::from([
-        byte_at(s, 4),
-        byte_at(s, 5),
-        byte_at(s, 6),
-        byte_at(s, 7),
-    ])
+    Step::from([byte_at(s, 4), byte_at(s, 5), byte_at(s, 6), byte_at(s, 7)])
 }
 
 // The record of that kind whose bytes s starts with.

@@ -5,7 +5,7 @@ use mathlib.Core.Path.{◌≡◌, refl, sym, ap, ◌∙◌}
 use mathlib.Core.Logic.{◌≢◌}
 use mathlib.Core.List.{List, [], ◌++◌}
 use mathlib.Core.Bool.{Bool, true, false}
-use lib.ListN.{length, take, drop, length-append}
+use lib.ListN.{length, take, drop}
 use lib.Seq.{take_at}
 use lib.Dec.{ltb}
 use borrow.Author.Tests.{lt-ltb, le-ltb, eq-eqb, ne_eqb}
@@ -32,9 +32,9 @@ module _ (s : List ℕ) (c : Case) (r : Reading) (is_read : r ≡ read_of s) whe
   reads_as_refused n at e =
       let told : RoundTripTold [] s r = rw is_read (round_trip s) in
       let some : number_of r.answer ≢ 0 = λ z.
-              let whole = told.ends z in
-              let one : ◌≡◌ {A = ℕ} 0 1 = cc in
-              omega arith in
+      let whole = told.ends z in
+      let one : ◌≡◌ {A = ℕ} 0 1 = cc in
+      omega arith in
       rw (← is_read, ne_eqb (number_of r.answer) 0 some)
 
   pub reads_as_whole : (at : ℕ) → r.answer ≡ Whole at
