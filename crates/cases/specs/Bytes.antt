@@ -2,8 +2,9 @@
 --   half s i, word_at s i     the number of two or four bytes from i on; a byte past the end counts as 0
 --   half_bytes, word_bytes    the bytes of such a number
 --   IsBytes s                 every element of s is a byte
+--   put_over bytes out        what `out` holds once the bytes are put at its front: behind them it is as it was
 -- Assumes nothing.
-use Rattle.std.specs.Prelude.{ℕ, ◌+◌, ◌*◌, ◌/◌, ◌%◌, ◌<◌, List, [], ◌∷◌, get_or}
+use Rattle.std.specs.Prelude.{ℕ, ◌+◌, ◌*◌, ◌/◌, ◌%◌, ◌<◌, List, [], ◌∷◌, ◌++◌, length, drop, get_or}
 
 unfoldable pub half : List ℕ → ℕ → ℕ
 half s i = get_or s i 0 + 256 * get_or s (i + 1) 0
@@ -19,3 +20,6 @@ word_bytes n = n % 256 ∷ n / 256 % 256 ∷ n / 65536 % 256 ∷ n / 16777216 % 
 
 abbrev pub IsBytes : List ℕ → Type 0
 IsBytes s = (i : ℕ) → get_or s i 0 < 256
+
+abbrev pub put_over : List ℕ → List ℕ → List ℕ
+put_over bytes out = bytes ++ drop (length bytes) out

@@ -10,6 +10,7 @@
 --   bytes_of rs         the bytes of the records rs, one behind the other
 --   line_byte s l       the byte that says the line of location l
 --   as_header, as_write, as_instruction, as_step   the bytes s as what a payload holds, behind a head of 4 bytes
+--   step_from b         the step whose fields are the four bytes b, in the order of its payload
 --   record_of k s       the record of kind k whose bytes s starts with
 --   open_no s           0 where s starts with a whole record, else the number of the refusal
 --   size_of s           how long that record is, by its head
@@ -97,6 +98,16 @@ as_instruction s =
       location = record { 0 = get_or s 6 0 };
       register = record { 0 = get_or s 7 0 };
       word = word_at s 8;
+    }
+
+-- thread, code, position, location
+abbrev pub step_from : List ℕ → Step
+step_from b =
+    record {
+      thread = record { 0 = get_or b 0 0 };
+      code = get_or b 1 0;
+      position = get_or b 2 0;
+      location = record { 0 = get_or b 3 0 };
     }
 
 unfoldable pub as_step : List ℕ → Step

@@ -20,11 +20,12 @@ use Rattle.cases.specs.Choice.{pick, both}
 use Rattle.cases.specs.Reading.{number_of, read_of}
 use Rattle.cases.specs.Seats.{encode_of}
 
--- "writing 0 and the length"
+-- why nothing is written, by number
 abbrev pub unwritten_no : Unwritten → ℕ
 unwritten_no Unreadable = 32
 unwritten_no Short = 31
 
+-- "writing 0 and the length"
 abbrev pub wrote_no : Result ℕ Unwritten → ℕ
 wrote_no (Ok n) = 0
 wrote_no (Err m) = unwritten_no m

@@ -1,4 +1,7 @@
 // A case in memory, in three parts by value, and what its parts are made of.
+ghost use Rattle.std.specs.Prelude.{◌≡◌};
+ghost use Rattle.cases.specs.Record.{step_from};
+
 use crate::sizes::{CODE, LOCATIONS, STEPS, THREADS};
 
 // A number of one kind can't be passed for one of another. Any byte may stand in it, so that what needs one below the
@@ -39,6 +42,20 @@ pub struct Step {
     pub code: u8,
     pub position: u8,
     pub location: Location,
+}
+
+// The bytes of a step, in the order in which they stand wherever one is told in bytes.
+impl From<[u8; 4]> for Step {
+    ghost from_gives = { λ b k. k ≡ step_from b };
+
+    fn from([thread, code, position, location]: [u8; 4]) -> Step {
+        Step {
+            thread: Thread(thread),
+            code,
+            position,
+            location: Location(location),
+        }
+    }
 }
 
 // Location l lies on line line[l]; behind the program's locations that is 0. Instruction i of thread t stands at

@@ -1,9 +1,11 @@
 // What may be wrong with a record that opens, each fault by its name; `fault` tries them in 01's order:
 // 4, 5, 8, 6, 7, 9, with 02's 10 behind 7, and for the program's record in 02's: 4, 5, 3, 8.
-ghost use Rattle.std.specs.Prelude.{◌≡◌, ◌≤◌, false};
+ghost use Rattle.std.specs.Prelude.{◌≡◌, ◌≤◌, take, drop};
+ghost use Rattle.std.specs.List.{list_any};
 ghost use Rattle.cases.specs.declared.record.Record.TheVariants.{Declare, First, Instruct};
 ghost use Rattle.cases.specs.declared.record.Record.TheVariants.{Want, Passed, Take};
-ghost use Rattle.cases.specs.Sizes.{most_instructions, most_locations};
+ghost use Rattle.cases.specs.Sizes.{most_locations};
+ghost use Rattle.cases.specs.Choice.{refuse};
 ghost use Rattle.cases.specs.Fault.{refusal_no};
 ghost use Rattle.cases.specs.Lines.{unordered};
 ghost use Rattle.cases.specs.Record.{line_bytes};
@@ -43,7 +45,7 @@ use crate::operations::{
     COMPARE, EXCHANGE, FLUSH_OPT, LAST_CODE, LAST_OPERATION, LOAD, MOVE, PERSIST, STORE_REGISTER,
     STORE_WORD,
 };
-use crate::record::{DECLARE, FIRST, Header, INSTRUCT, NO_KIND, PASSED, Record, WANT};
+use crate::record::{DECLARE, FIRST, Header, INSTRUCT, NO_KIND, PASSED, Record, TAKE, WANT};
 use crate::sizes::{INSTRUCTIONS, LOCATIONS, REGISTERS, STEPS, THREADS};
 
 // The program comes first and once, and kinds never go down.
@@ -194,25 +196,25 @@ fn is_set_by(r: Register, x: Instruction) -> bool
     sets_register(x.operation) && x.register == r
 }
 
-// One of the thread's instructions so far sets the register; the newest is looked at first.
+// One of the n instructions from there on sets the register.
+fn is_set_within(code: &[Instruction], at: usize, n: usize, r: Register) -> bool
+    ensures { result ≡ list_any (set_by r.0) (take n (drop at code.now)) }
+{
+    code.iter().skip(at).take(n).any(|x| is_set_by(r, *x))
+}
+
+// One of the thread's instructions so far sets the register.
+#[tactic(auto, using(crate::proofs::checks::SetLaws::set_found))]
 fn is_set(p: &Program, t: Thread, r: Register) -> bool
-    requires { count_at p.now t.0 ≤ most_instructions }
     ensures { result ≡ set_before p.now t.0 r.0 (count_at p.now t.0) }
 {
     let at = (t.0 as usize) * INSTRUCTIONS;
-    let n = count(p, t) as usize;
-    for i in (0..n).rev() {
-        if is_set_by(r, p.code[at + i]) {
-            return true;
-        }
-    }
-    false
+    is_set_within(&p.code, at, count(p, t) as usize, r)
 }
 
 // It needs a register that no instruction before it in its thread sets.
 #[tactic(auto, using(crate::proofs::ChoiceLaws::choices), unfolding(crate::specs::Checks::unset))]
 fn is_unset(p: &Program, t: Thread, x: Instruction) -> bool
-    requires { count_at p.now t.0 ≤ most_instructions }
     ensures { result ≡ unset p.now t x }
 {
     needs_register(x.operation) && !is_set(p, t, x.register)
@@ -247,7 +249,7 @@ fn is_step_left(k: Step) -> bool
         || is_left_over(code == PERSIST, k.location.0 as u32)
 }
 
-// 5 and 8 of a step, as for a kind 6 record.
+// 5 and 8 of a step, as for a kind 6 record, by number; `check_step` says them as a fault.
 #[tactic(auto, using(crate::proofs::ChoiceLaws::choices), unfolding(crate::specs::Checks::step_fault))]
 pub fn step_fault(p: Program, k: Step) -> u8
     ensures { result ≡ step_fault (limits_of p) k }
@@ -259,23 +261,34 @@ pub fn step_fault(p: Program, k: Step) -> u8
 }
 
 #[tactic(auto, using(crate::proofs::ChoiceLaws::choices), unfolding(crate::specs::Checks::step_fault))]
-fn check_step(p: &Program, k: Step) -> Result<(), Fault>
+pub fn check_step(p: &Program, k: Step) -> Result<(), Fault>
     ensures { refusal_no result ≡ step_fault (limits_of p.now) k }
 {
     if is_step_out(p, k) {
-        return Err(Fault::Range);
+        Err(Fault::Range)
+    } else if is_step_left(k) {
+        Err(Fault::Unused)
+    } else {
+        Ok(())
     }
-    if is_step_left(k) {
-        return Err(Fault::Unused);
+}
+
+// A record of a kind that may not stand there.
+#[tactic(auto, using(crate::proofs::ChoiceLaws::choices), unfolding(crate::specs::Choice::refuse))]
+fn check_place(d: &Draft, kind: u16) -> Result<(), Fault>
+    ensures { refusal_no result ≡ refuse (misplaced d.now.kind kind) 4 0 }
+{
+    if is_misplaced(d.kind, kind) {
+        return Err(Fault::Misplaced);
     }
     Ok(())
 }
 
 #[tactic(auto, using(crate::proofs::ChoiceLaws::choices), unfolding(crate::specs::Checks::fault_of))]
 fn header_fault(d: &Draft, h: &Header) -> Result<(), Fault>
-    requires { misplaced d.now.kind 1 ≡ false }
     ensures { refusal_no result ≡ fault_of d.now (Declare h.now) }
 {
+    check_place(d, DECLARE)?;
     if is_header_out(h) {
         return Err(Fault::Range);
     }
@@ -290,9 +303,9 @@ fn header_fault(d: &Draft, h: &Header) -> Result<(), Fault>
 
 #[tactic(auto, using(crate::proofs::ChoiceLaws::choices), unfolding(crate::specs::Checks::fault_of))]
 fn first_fault(d: &Draft, w: Write) -> Result<(), Fault>
-    requires { misplaced d.now.kind 2 ≡ false }
     ensures { refusal_no result ≡ fault_of d.now (First w) }
 {
+    check_place(d, FIRST)?;
     if d.case.program.locations <= w.location.0 {
         return Err(Fault::Range);
     }
@@ -307,9 +320,9 @@ fn first_fault(d: &Draft, w: Write) -> Result<(), Fault>
 
 #[tactic(auto, using(crate::proofs::ChoiceLaws::choices), unfolding(crate::specs::Checks::fault_of))]
 fn instruction_fault(d: &Draft, t: Thread, x: Instruction) -> Result<(), Fault>
-    requires { misplaced d.now.kind 3 ≡ false }
     ensures { refusal_no result ≡ fault_of d.now (Instruct t x) }
 {
+    check_place(d, INSTRUCT)?;
     let p = &d.case.program;
     if is_instruction_out(p, t, x) {
         return Err(Fault::Range);
@@ -331,9 +344,9 @@ fn instruction_fault(d: &Draft, t: Thread, x: Instruction) -> Result<(), Fault>
 
 #[tactic(auto, using(crate::proofs::ChoiceLaws::choices), unfolding(crate::specs::Checks::fault_of))]
 fn want_fault(d: &Draft, w: Write) -> Result<(), Fault>
-    requires { misplaced d.now.kind 4 ≡ false }
     ensures { refusal_no result ≡ fault_of d.now (Want w) }
 {
+    check_place(d, WANT)?;
     if d.case.program.locations <= w.location.0 {
         return Err(Fault::Range);
     }
@@ -345,9 +358,9 @@ fn want_fault(d: &Draft, w: Write) -> Result<(), Fault>
 
 #[tactic(auto, using(crate::proofs::ChoiceLaws::choices), unfolding(crate::specs::Checks::fault_of))]
 fn passed_fault(d: &Draft, t: Thread, n: u8) -> Result<(), Fault>
-    requires { misplaced d.now.kind 5 ≡ false }
     ensures { refusal_no result ≡ fault_of d.now (Passed t n) }
 {
+    check_place(d, PASSED)?;
     if is_passed_out(&d.case.program, t, n) {
         return Err(Fault::Range);
     }
@@ -362,9 +375,9 @@ fn passed_fault(d: &Draft, t: Thread, n: u8) -> Result<(), Fault>
 
 #[tactic(auto, using(crate::proofs::ChoiceLaws::choices), unfolding(crate::specs::Checks::fault_of, crate::specs::Checks::step_fault))]
 fn taken_fault(d: &Draft, k: Step) -> Result<(), Fault>
-    requires { misplaced d.now.kind 6 ≡ false }
     ensures { refusal_no result ≡ fault_of d.now (Take k) }
 {
+    check_place(d, TAKE)?;
     check_step(&d.case.program, k)?;
     if (STEPS as u16) <= d.case.run.count {
         return Err(Fault::TooManySteps);
@@ -372,14 +385,10 @@ fn taken_fault(d: &Draft, k: Step) -> Result<(), Fault>
     Ok(())
 }
 
-// The first fault of a record behind the draft; for each kind, of one that stands where its kind may.
-#[tactic(auto, using(crate::proofs::checks::FaultLaws::fault_misplaced))]
+// The first fault of a record behind the draft.
 pub(crate) fn fault(d: &Draft, r: Record) -> Result<(), Fault>
     ensures { refusal_no result ≡ fault_of d.now r }
 {
-    if is_misplaced(d.kind, r.kind()) {
-        return Err(Fault::Misplaced);
-    }
     match r {
         Record::Declare(h) => header_fault(d, &h),
         Record::First(w) => first_fault(d, w),

@@ -23,14 +23,13 @@ pub(crate) fn listed_of(version: u16, n: u8) -> u8
 }
 
 // A line each for so many locations.
-#[tactic(auto, using(crate::proofs::lines::LineTableLaws::own_start, crate::proofs::lines::LineTableLaws::own_next))]
 pub(crate) fn own_lines(n: u8) -> [u8; LOCATIONS]
     requires { n ≤ most_locations }
     ensures { result ≡ own_lines n }
 {
     let mut line = [0u8; LOCATIONS];
-    for l in 0..n {
-        line[l as usize] = l;
+    for (l, own) in line[..n as usize].iter_mut().enumerate() {
+        *own = l as u8;
     }
     line
 }
@@ -59,7 +58,8 @@ pub(crate) fn is_unordered(line: &[u8]) -> bool
     false
 }
 
-// How many lines the line numbers name.
+// How many lines the line numbers name. No `fold`: its closure doesn't know the bound on `next` that `new_after` requires,
+// and the loop's invariant says it.
 pub(crate) fn lines_in(line: &[u8]) -> u8
     requires { length line.now ≤ most_locations }
     ensures { result ≡ lines_in 0 line.now }

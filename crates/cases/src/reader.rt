@@ -13,8 +13,9 @@ use crate::draft::{Draft, add, blank_draft, empty_case};
 use crate::fault::Fault;
 use crate::record::{NO_KIND, open_record, size};
 
-// Whole: 0, and the input's length. Refused: the number, and the offset of the faulty record. No Result: every reading
-// has a case beside its answer, by a refusal the empty one, as `refusal_hands_out_nothing` of proofs/Promises.antt says.
+// Whole: 0, and the input's length. Refused: the number, and the offset of the faulty record. An enum of its own, and a
+// number in it, since the theorems speak of both: `success_whole` and `read_after_write` of proofs/Promises.antt say
+// `Whole`, `unopened_decides` and `faulty_decides` say `refused_of`, the very number that `open_no` or `fault_of` says.
 #[derive(Clone, Copy)]
 pub enum Answer {
     Whole(usize),

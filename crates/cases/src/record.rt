@@ -1,8 +1,8 @@
 // A record of a case: opened from bytes, and laid out as bytes.
-ghost use Rattle.std.specs.Prelude.{◌≡◌, false, ◌∷◌, ◌++◌, ◌+◌, ◌≤◌, length, drop, IfOk};
+ghost use Rattle.std.specs.Prelude.{◌≡◌, false, ◌∷◌, ◌+◌, ◌≤◌, length, IfOk};
 ghost use Rattle.cases.specs.declared.record.Record.TheVariants.{Declare, Instruct, Passed, Take};
 ghost use Rattle.cases.specs.Sizes.{most_locations};
-ghost use Rattle.cases.specs.Bytes.{half, word_bytes};
+ghost use Rattle.cases.specs.Bytes.{half, word_bytes, put_over};
 ghost use Rattle.cases.specs.Fault.{refusal_no};
 ghost use Rattle.cases.specs.Lines.{table};
 ghost use Rattle.cases.specs.Record.{
@@ -37,7 +37,9 @@ pub struct Header {
     pub line: [u8; LOCATIONS],
 }
 
-// The kinds of records, by the numbers that stand in the file.
+// The kinds of records, by the numbers that stand in the file. No enum: `payload_of`, `mislong` and `record_of`, by which
+// `open_record` and `unopened_decides` of proofs/Promises.antt go, take whatever number stands there, and so does
+// `disordered`, of the kind before it.
 pub(crate) const DECLARE: u16 = 1;
 
 pub(crate) const FIRST: u16 = 2;
@@ -110,14 +112,13 @@ fn is_mislong(kind: u16, n: u16) -> bool
 }
 
 // The line bytes of a program's record, 0 behind them.
-#[tactic(auto, using(crate::proofs::lines::LineTableLaws::table_start, crate::proofs::lines::LineTableLaws::table_next))]
 fn as_lines(s: &[u8], n: u8) -> [u8; LOCATIONS]
     requires { n ≤ most_locations }
     ensures { result ≡ table (line_byte s.now) n }
 {
     let mut line = [0u8; LOCATIONS];
-    for l in 0..n as usize {
-        line[l] = byte_at(s, 8 + l);
+    for (l, byte) in line[..n as usize].iter_mut().enumerate() {
+        *byte = byte_at(s, 8 + l);
     }
     line
 }
@@ -163,12 +164,7 @@ fn as_instruction(s: &[u8]) -> Instruction
 fn as_step(s: &[u8]) -> Step
     ensures { result ≡ as_step s.now }
 {
-    Step {
-        thread: Thread(byte_at(s, 4)),
-        code: byte_at(s, 5),
-        position: byte_at(s, 6),
-        location: Location(byte_at(s, 7)),
-    }
+    Step::from([byte_at(s, 4), byte_at(s, 5), byte_at(s, 6), byte_at(s, 7)])
 }
 
 // The record of that kind whose bytes s starts with.
@@ -223,7 +219,7 @@ pub(crate) fn open_record(s: &[u8]) -> Result<Record, Fault>
 // payload.
 fn put(out: &mut [u8], bytes: &[u8]) -> usize
     requires { length bytes.now ≤ length out.old }
-    ensures { (result ≡ length bytes.now) × (out.new ≡ bytes.now ++ drop (length bytes.now) out.old) }
+    ensures { (result ≡ length bytes.now) × (out.new ≡ put_over bytes.now out.old) }
 {
     let n = bytes.len();
     out[..n].copy_from_slice(bytes);
@@ -234,7 +230,7 @@ fn put(out: &mut [u8], bytes: &[u8]) -> usize
 fn put_header(out: &mut [u8], h: &Header) -> usize
     requires { length (record_bytes (Declare h.now)) ≤ length out.old }
     ensures { (result ≡ length (record_bytes (Declare h.now)))
-        × (out.new ≡ record_bytes (Declare h.now) ++ drop (length (record_bytes (Declare h.now))) out.old) }
+        × (out.new ≡ put_over (record_bytes (Declare h.now)) out.old) }
 {
     let n = h.listed.min(LOCATIONS as u8);
     let v = half_bytes(h.version);
@@ -254,11 +250,10 @@ fn put_header(out: &mut [u8], h: &Header) -> usize
     end + put(&mut out[end..], &h.line[..n as usize])
 }
 
-// A location and a word, of kind 2 or 4.
+// A location and a word, of kind 2 or 4: the low byte of the kind's two.
 fn put_write(out: &mut [u8], kind: u8, w: Write) -> usize
     requires { 9 ≤ length out.old }
-    ensures { (result ≡ 9)
-        × (out.new ≡ (5 ∷ 0 ∷ kind ∷ 0 ∷ w.location.0 ∷ word_bytes w.word) ++ drop 9 out.old) }
+    ensures { (result ≡ 9) × (out.new ≡ put_over (5 ∷ 0 ∷ kind ∷ 0 ∷ w.location.0 ∷ word_bytes w.word) out.old) }
 {
     let b = word_bytes(w.word);
     put(out, &[5, 0, kind, 0, w.location.0, b[0], b[1], b[2], b[3]])
@@ -268,7 +263,7 @@ fn put_write(out: &mut [u8], kind: u8, w: Write) -> usize
 fn put_instruction(out: &mut [u8], t: Thread, x: Instruction) -> usize
     requires { length (record_bytes (Instruct t x)) ≤ length out.old }
     ensures { (result ≡ length (record_bytes (Instruct t x)))
-        × (out.new ≡ record_bytes (Instruct t x) ++ drop (length (record_bytes (Instruct t x))) out.old) }
+        × (out.new ≡ put_over (record_bytes (Instruct t x)) out.old) }
 {
     let b = word_bytes(x.word);
     put(
@@ -294,8 +289,7 @@ fn put_instruction(out: &mut [u8], t: Thread, x: Instruction) -> usize
 #[tactic(auto, unfolding(crate::specs::Record::record_bytes, crate::specs::Record::payload_bytes, crate::specs::Bytes::half_bytes, crate::specs::Bytes::word_bytes))]
 pub(crate) fn put_record(out: &mut [u8], r: Record) -> usize
     requires { length (record_bytes r) ≤ length out.old }
-    ensures { (result ≡ length (record_bytes r))
-        × (out.new ≡ record_bytes r ++ drop (length (record_bytes r)) out.old) }
+    ensures { (result ≡ length (record_bytes r)) × (out.new ≡ put_over (record_bytes r) out.old) }
 {
     match r {
         Record::Declare(h) => put_header(out, &h),

@@ -1,6 +1,7 @@
 // A case as a file: a seat for each record that may stand in it, in one fixed order.
-ghost use Rattle.std.specs.Prelude.{◌≡◌, ◌++◌, ◌<◌, ◌≤◌, length, drop};
+ghost use Rattle.std.specs.Prelude.{◌≡◌, ◌<◌, ◌≤◌, length};
 ghost use Rattle.cases.specs.Sizes.{most_threads, most_locations, most_steps, all_code};
+ghost use Rattle.cases.specs.Bytes.{put_over};
 ghost use Rattle.cases.specs.Seats.{
   listed_lines,
   header_seat,
@@ -138,11 +139,11 @@ fn seat_at(c: &Case, k: usize) -> Option<Record>
     }
 }
 
-// Puts the case's file at the front of bytes that it fits into, and says how long it is.
+// Puts the case's file at the front of bytes that it fits into, and says how long it is. No chain: each record is put
+// where the one before ends, and of a closure that changes what it captures a proof knows nothing.
 pub(crate) fn encode(c: &Case, out: &mut [u8]) -> usize
     requires { length (encode_of c.now) ≤ length out.old }
-    ensures { (result ≡ length (encode_of c.now))
-        × (out.new ≡ encode_of c.now ++ drop (length (encode_of c.now)) out.old) }
+    ensures { (result ≡ length (encode_of c.now)) × (out.new ≡ put_over (encode_of c.now) out.old) }
 {
     let mut at = 0;
     for k in 0..SEATS {

@@ -1,20 +1,28 @@
 // Writing: 32, then 31, then the case's bytes from the front and nothing behind them.
-ghost use Rattle.std.specs.Prelude.{◌≡◌, true, false, length, take, replicate, IfOk, IfErr};
+ghost use Rattle.std.specs.Prelude.{◌≡◌, true, false, length, take, IfOk, IfErr};
 ghost use Rattle.cases.specs.declared.writer.Unwritten.TheVariants.{Unreadable};
 ghost use Rattle.cases.specs.Sizes.{longest};
 ghost use Rattle.cases.specs.Seats.{encode_of};
-ghost use Rattle.cases.specs.Writing.{reads_as, reads_back, wrote_of, written_of, wrote_no, wrote_length};
+ghost use Rattle.cases.specs.Writing.{reads_as, reads_back, wrote_of, written_of, unwritten_no, wrote_no, wrote_length};
 
 use crate::case::Case;
-use crate::reader::{number, read};
+use crate::reader::{Answer, read};
 use crate::seats::encode;
 use crate::sizes::LONGEST;
 
-// Why nothing is written: no byte string reads as the case; the lent bytes are shorter than its file.
+// Why nothing is written, each with its number: no byte string reads as the case; the lent bytes are shorter than its file.
 #[derive(Clone, Copy, PartialEq, Eq)]
 pub enum Unwritten {
     Unreadable = 32,
     Short = 31,
+}
+
+impl Unwritten {
+    fn number(self) -> u8
+        ensures { result ≡ unwritten_no self }
+    {
+        self as u8
+    }
 }
 
 // 0 where the file was stored, else the refusal's number.
@@ -23,7 +31,7 @@ pub fn wrote_number(w: Result<usize, Unwritten>) -> u8
 {
     match w {
         Ok(_) => 0,
-        Err(refusal) => refusal as u8,
+        Err(refusal) => refusal.number(),
     }
 }
 
@@ -34,18 +42,15 @@ pub fn wrote_length(w: Result<usize, Unwritten>) -> usize
     w.unwrap_or(0)
 }
 
-fn blank_file() -> [u8; LONGEST]
-    ensures { result ≡ replicate longest 0 }
-{
-    [0u8; LONGEST]
-}
-
 // Do the bytes read as that very case?
 fn reads_as(bytes: &[u8], c: &Case) -> bool
     ensures { result ≡ reads_as bytes.now c.now }
 {
     let r = read(bytes);
-    number(r.answer) == 0 && *c == r.case
+    match r.answer {
+        Answer::Whole(_) => *c == r.case,
+        Answer::Refused(_, _) => false,
+    }
 }
 
 // Puts the case's file at the front of the longest file's bytes, and says how long it is, if it reads as the case.
@@ -67,14 +72,14 @@ fn checked_file(c: &Case, file: &mut [u8]) -> Result<usize, Unwritten>
 pub fn reads_back(c: Case) -> bool
     ensures { result ≡ reads_back c }
 {
-    checked_file(&c, &mut blank_file()).is_ok()
+    checked_file(&c, &mut [0u8; LONGEST]).is_ok()
 }
 
 // Writes the case from the front of the lent bytes, and says how long its file is.
 pub fn write(c: Case, out: &mut [u8]) -> Result<usize, Unwritten>
     ensures { (result ≡ wrote_of c out.old) × (out.new ≡ written_of c out.old) }
 {
-    let mut file = blank_file();
+    let mut file = [0u8; LONGEST];
     let n = checked_file(&c, &mut file)?;
     if out.len() < n {
         return Err(Unwritten::Short);

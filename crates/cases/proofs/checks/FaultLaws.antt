@@ -1,18 +1,14 @@
--- Laws of a fault's number and of `fault_of`. Assumes nothing.
+-- Laws of a fault's number and of a record's place. Assumes nothing.
+use Prim.Native.Nat.{ℕ}
 use mathlib.Core.Path.{◌≡◌}
 use mathlib.Core.Logic.{◌≢◌}
-use mathlib.Core.Bool.{true}
+use mathlib.Core.Bool.{Bool, true, false}
 use native.Mathlib.Omega.{arith}
-use Rattle.cases.specs.declared.draft.Draft.{Draft}
 use Rattle.cases.specs.declared.fault.Fault.{Fault}
 use Rattle.cases.specs.declared.fault.Fault.TheVariants.{Cut, UnknownKind, Length, Misplaced, Range, Disorder}
 use Rattle.cases.specs.declared.fault.Fault.TheVariants.{TooMany, Unused, TooManySteps, Unset}
-use Rattle.cases.specs.declared.record.Record.{Record}
-use Rattle.cases.specs.declared.record.Record.TheVariants.{Declare, First, Instruct, Want, Passed, Take}
 use Rattle.cases.specs.Choice.{refuse}
 use Rattle.cases.specs.Fault.{fault_no}
-use Rattle.cases.specs.Record.{kind_of}
-use Rattle.cases.specs.Checks.{misplaced, fault_of}
 
 -- a fault has a number
 pub fault_some : (f : Fault) → fault_no f ≢ 0
@@ -27,12 +23,8 @@ fault_some Unused h = omega arith
 fault_some TooManySteps h = omega arith
 fault_some Unset h = omega arith
 
--- a record of whatever kind is looked at for its place first
-pub fault_misplaced : (d : Draft) (r : Record) → misplaced d.kind (kind_of r) ≡ true → 4 ≡ fault_of d r
-unfolding fault_of refuse
-fault_misplaced d (Declare h) e = rw e
-fault_misplaced d (First w) e = rw e
-fault_misplaced d (Instruct t x) e = rw e
-fault_misplaced d (Want w) e = rw e
-fault_misplaced d (Passed t n) e = rw e
-fault_misplaced d (Take k) e = rw e
+-- a record's place is refused: that is the first of its kind's checks
+pub place_refused : (f : Fault) (t : Bool) (rest : ℕ) → fault_no f ≡ refuse t 4 0 → fault_no f ≡ refuse t 4 rest
+unfolding refuse
+place_refused f true rest h = h
+place_refused f false rest h = absurd (fault_some f h)

@@ -1,9 +1,10 @@
 -- Laws of `table` and `own_lines`: a number for each location that there may be. Assumes nothing.
 use Prim.Native.Nat.{ℕ, zero, suc, ◌+◌, ◌<◌, ◌≤◌}
-use mathlib.Core.Path.{◌≡◌, refl, sym, ◌∙◌}
-use mathlib.Core.List.{List}
+use mathlib.Core.Path.{◌≡◌, refl, sym, ap, ◌∙◌}
+use mathlib.Core.List.{List, ◌++◌}
 use mathlib.Core.Bool.{Bool, true, false}
-use lib.ListN.{length, get_or, set, take, replicate, length-set, length-replicate}
+use lib.ListN.{length, get_or, set, take, drop, replicate, length-set, length-take, length-replicate, take-append-drop}
+use Rattle.std.proofs.lemmas.List.{set-append_left}
 use lib.Seq.{length-take-le, get_or-set_same, get_or-set_other, get_or-take, set_out, ext_get_or}
 use lib.Dec.{eqb, ltb}
 use borrow.Author.Tests.{eqb-true, eqb-false, ltb-true, ltb-false}
@@ -12,6 +13,9 @@ use native.Mathlib.Omega.{arith}
 use Rattle.cases.specs.Sizes.{most_locations}
 use Rattle.cases.specs.Lines.{table, own_lines}
 use Rattle.cases.proofs.ArrayLaws.{get_or_blank}
+
+abbrev zeros : List ℕ
+zeros = replicate most_locations 0
 
 -- table: how long it is; what stands below n, and behind
 module _ (f : ℕ → ℕ) where
@@ -38,14 +42,26 @@ module _ (f : ℕ → ℕ) where
   table_behind (suc n) l h =
       get_or-set_other (table f n) n l (f n) 0 (λ e. omega arith) ∙ table_behind n l (omega arith)
 
-  -- a loop that makes it: nothing yet; one more
-  pub table_start : replicate most_locations 0 ≡ table f 0
+  -- a loop that makes it, over the first n elements of an array of zeros: nothing yet; one more; all
+  pub table_start : (n : ℕ) → take n zeros ++ drop n zeros ≡ table f 0
   unfolding table
-  table_start = refl
+  table_start n = take-append-drop n zeros
 
-  pub table_next : (line : List ℕ) (l x : ℕ) → line ≡ table f l → x ≡ f l → set line l x ≡ table f (l + 1)
+  pub table_next : (items rest : List ℕ) (l x : ℕ) → items ++ rest ≡ table f l → l < length items → x ≡ f l
+      → set items l x ++ rest ≡ table f (l + 1)
   unfolding table
-  table_next line l x e h = rw (e, h, add-one l)
+  table_next items rest l x e low h =
+      sym (set-append_left items rest l x low) ∙ rw (e, h, add-one l)
+
+  pub table_all : (items rest : List ℕ) (l n : ℕ) → items ++ rest ≡ table f l → l ≤ length items → n ≤ most_locations
+      → length items ≡ length (take n zeros)
+      → length (take n zeros) ≤ l
+      → items ++ rest ≡ table f n
+  table_all items rest l n e low few long past =
+      let whole = length-take n zeros in
+      let size = length-replicate {A = ℕ} most_locations 0 in
+      let same : l ≡ n = omega arith in
+      e ∙ ap (table f) same
 
   -- its front, where a list has the same elements there
   pub table_front : (n : ℕ) (xs : List ℕ) → n ≤ most_locations → n ≤ length xs
@@ -79,15 +95,7 @@ table_blank xs long none =
     ext_get_or 0 xs (replicate most_locations 0) (long ∙ sym (length-replicate {A = ℕ} most_locations 0))
     (λ i h. none i ∙ sym (get_or_blank {A = ℕ} most_locations i 0))
 
--- a line each: none yet; one more; every location lies on a line that there is
-pub own_start : replicate most_locations 0 ≡ own_lines 0
-unfolding own_lines
-own_start = table_start (λ i. i)
-
-pub own_next : (line : List ℕ) (l : ℕ) → line ≡ own_lines l → set line l l ≡ own_lines (l + 1)
-unfolding own_lines
-own_next line l e = table_next (λ i. i) line l l e refl
-
+-- a line each: every location lies on a line that there is
 pub own_low : (n l : ℕ) → 1 ≤ n → n ≤ most_locations → get_or (own_lines n) l 0 < n
 unfolding own_lines
 own_low n l some few = go (ltb l n) refl

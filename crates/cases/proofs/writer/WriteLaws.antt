@@ -3,15 +3,16 @@
 use Prim.Native.Nat.{ℕ, ◌<◌, ◌≤◌}
 use mathlib.Core.Path.{◌≡◌, refl, sym, ap, ◌∙◌}
 use mathlib.Core.Logic.{◌≢◌}
-use mathlib.Core.List.{List, ◌++◌}
+use mathlib.Core.List.{List, [], ◌++◌}
 use mathlib.Core.Bool.{Bool, true, false}
-use lib.ListN.{length, take, drop, length-append}
+use lib.ListN.{length, take, drop}
 use lib.Seq.{take_at}
 use lib.Dec.{ltb}
 use borrow.Author.Tests.{lt-ltb, le-ltb, eq-eqb, ne_eqb}
 use native.Mathlib.Omega.{arith}
 use Rattle.std.specs.declared.result.Result.TheVariants.{Ok, Err}
 use Rattle.cases.specs.declared.case.Case.{Case}
+use Rattle.cases.specs.declared.reader.Answer.TheVariants.{Whole, Refused}
 use Rattle.cases.specs.declared.reader.Reading.{Reading}
 use Rattle.cases.specs.declared.writer.Unwritten.{Unwritten}
 use Rattle.cases.specs.declared.writer.Unwritten.TheVariants.{Unreadable, Short}
@@ -22,18 +23,25 @@ use Rattle.cases.specs.Seats.{encode_of}
 use Rattle.cases.specs.Writing.{same_case, reads_as, reads_back, wrote_of, written_of}
 use Rattle.cases.proofs.ChoiceLaws.{pick_true, false_not}
 use Rattle.cases.proofs.seats.EncodeLengthLaws.{encode_length}
+use Rattle.cases.proofs.reader.RoundTripLaws.{RoundTripTold, round_trip}
 
--- reads_as: a refusal; a reading
+-- reads_as: a refusal, whose number is never 0; a reading
 module _ (s : List ℕ) (c : Case) (r : Reading) (is_read : r ≡ read_of s) where
-  pub reads_as_none : (n : ℕ) → n ≡ number_of r.answer → n ≢ 0 → false ≡ reads_as s c
+  pub reads_as_refused : (n at : ℕ) → r.answer ≡ Refused n at → false ≡ reads_as s c
   unfolding reads_as both
-  reads_as_none n e h = rw (← is_read, ← e, ne_eqb n 0 h)
+  reads_as_refused n at e =
+      let told : RoundTripTold [] s r = rw is_read (round_trip s) in
+      let some : number_of r.answer ≢ 0 = λ z.
+      let whole = told.ends z in
+      let one : ◌≡◌ {A = ℕ} 0 1 = cc in
+      omega arith in
+      rw (← is_read, ne_eqb (number_of r.answer) 0 some)
 
-  pub reads_as_some : (n : ℕ) → n ≡ number_of r.answer → n ≡ 0
+  pub reads_as_whole : (at : ℕ) → r.answer ≡ Whole at
       → (b : Bool) → b ≡ same_case c r.case
       → b ≡ reads_as s c
   unfolding reads_as both
-  reads_as_some n e h b same = rw (← is_read, ← e, eq-eqb n 0 h) same
+  reads_as_whole at e b same = rw (← is_read, eq-eqb (number_of r.answer) 0 (ap number_of e)) same
 
 -- a case's file at the front of the longest file's bytes: it has room, it is the first n bytes, and they are read back
 module _ (c : Case) (bytes : List ℕ) (sized : length bytes ≡ longest) where
@@ -42,19 +50,12 @@ module _ (c : Case) (bytes : List ℕ) (sized : length bytes ≡ longest) where
 
   module _ (n : ℕ) (file : List ℕ) (is_length : n ≡ length (encode_of c))
       (filled : file ≡ encode_of c ++ drop (length (encode_of c)) bytes) where
-    pub write_file_within : n ≤ length file
-    write_file_within = rw filled (simp length-append (omega arith))
-
     pub write_file_front : take n file ≡ encode_of c
     write_file_front = rw filled (take_at (encode_of c) _ n (sym is_length))
 
     pub write_file_reads : (r : Bool) → r ≡ reads_as (take n file) c → r ≡ reads_back c
     unfolding reads_back
     write_file_reads r e = e ∙ ap (λ (s : List ℕ). reads_as s c) write_file_front
-
-    -- how many bytes the part has that is read back
-    pub write_file_count : n ≡ length (take n file)
-    write_file_count = is_length ∙ ap length (sym write_file_front)
 
 -- The ways out of the writer: 32, 31, and the file
 module _ (c : Case) (out : List ℕ) where

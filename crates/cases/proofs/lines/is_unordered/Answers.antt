@@ -5,7 +5,7 @@ use Rattle.cases.proofs.lines.is_unordered.Goals as goal
 pub returns-then-next-x : goal.returns-then-next-x
 returns-then-next-x c =
     let l = c.loop-x in
-    unordered_here _ l.x-index l.next (omega arith) c.if-next-x.true ∙ l.invariant.same
+    unordered_here _ l.x-index l.next (omega arith) (omega (arith, c.if-next-x.true)) ∙ l.invariant.same
 
 pub loop-x-preserved : goal.loop-x-preserved
 loop-x-preserved c =
