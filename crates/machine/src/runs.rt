@@ -6,7 +6,8 @@ ghost use Rattle.machine.specs.Judge.{judge_of, judge_bytes};
 
 use crate::blocker::Blocker;
 use crate::cells::State;
-use crate::{blocker, steps};
+use crate::fitted::Fitted;
+use crate::steps;
 use cases::case::Case;
 use cases::reader;
 
@@ -80,13 +81,10 @@ fn judge_run(c: &Case) -> Judged
     let mut s = steps::start_of(c.program);
     for i in 0..n {
         let k = c.run.steps[i];
-        if let Err(broken) = steps::rule(p, &s, k) {
+        let v = Fitted { p, s: &s };
+        if let Err(broken) = v.rule(k) {
             return Judged {
-                verdict: Verdict::Illegal(
-                    broken.number(),
-                    i,
-                    blocker::blocker_by(p, &s, k, broken),
-                ),
+                verdict: Verdict::Illegal(broken.number(), i, v.blocker_by(k, broken)),
                 state: s,
             };
         }

@@ -8,9 +8,10 @@ ghost use Rattle.machine.specs.Ptso.{ptso};
 
 use crate::blocker::Blocker;
 use crate::cells::{BLANK, State};
+use crate::fitted::Fitted;
 use crate::rule::Rule;
 use crate::sizes::{ALL_REGISTERS, SLOTS};
-use crate::{blocker, fit, issue, moves};
+use crate::{fit, issue, moves};
 use cases::case::{Case, Line, Program, Step};
 use cases::checks;
 use cases::operations::{ISSUE, MOVE};
@@ -69,16 +70,18 @@ pub fn start_of(p: Program) -> State
     }
 }
 
-// May a step be taken?
-#[tactic(auto, using(cases::proofs::ChoiceLaws::choices), unfolding(crate::specs::Rules::rule_of, crate::specs::Rules::rule_in))]
-pub(crate) fn rule(p: &Program, s: &State, k: Step) -> Result<(), Rule>
-    requires { Fits p.now s.now × (step_fault (limits_of p.now) k ≡ 0) }
-    ensures { broken result ≡ rule_of p.now s.now k }
-{
-    match k.code {
-        ISSUE => issue::issue_rule(p, s, k.thread),
-        MOVE => moves::move_rule(p, s, k.thread, k.position),
-        _ => moves::persist_rule(s, Line(k.location.0)),
+impl<'a> Fitted<'a> {
+    // May a step be taken?
+    #[tactic(auto, using(cases::proofs::ChoiceLaws::choices), unfolding(crate::specs::Rules::rule_of, crate::specs::Rules::rule_in))]
+    pub(crate) fn rule(&self, k: Step) -> Result<(), Rule>
+        requires { step_fault (limits_of self.now.p.now) k ≡ 0 }
+        ensures { broken result ≡ rule_of self.now.p.now self.now.s.now k }
+    {
+        match k.code {
+            ISSUE => self.issue_rule(k.thread),
+            MOVE => self.move_rule(k.thread, k.position),
+            _ => self.persist_rule(Line(k.location.0)),
+        }
     }
 }
 
@@ -125,9 +128,10 @@ fn step_in(p: &Program, s: State, k: Step) -> Stepped
             state: s,
         };
     }
-    if let Err(broken) = rule(p, &s, k) {
+    let v = Fitted { p, s: &s };
+    if let Err(broken) = v.rule(k) {
         return Stepped {
-            ruling: Ruling::Broken(broken.number(), blocker::blocker_by(p, &s, k, broken)),
+            ruling: Ruling::Broken(broken.number(), v.blocker_by(k, broken)),
             state: s,
         };
     }

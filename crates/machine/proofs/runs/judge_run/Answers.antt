@@ -16,7 +16,7 @@ bounds-c-i c = let o = c.loop-i.invariant in omega (arith, o.few)
 pub rule-requires : goal.rule-requires
 rule-requires c =
     let o = c.loop-i.invariant in
-    (o.fit, o.faultless _ (omega arith))
+    o.faultless _ (omega arith)
 
 pub blocker_by-requires : goal.blocker_by-requires
 blocker_by-requires c =

@@ -12,7 +12,7 @@ unfolding stepped_of told
 returns-then-fault-ne0 c = rw (← c.step_fault-fault.ensures) (search choices)
 
 pub rule-requires : goal.rule-requires
-rule-requires c = (c.requires, sym c.step_fault-fault.ensures ∙ c.if-fault-ne0.false)
+rule-requires c = sym c.step_fault-fault.ensures ∙ c.if-fault-ne0.false
 
 pub blocker_by-requires : goal.blocker_by-requires
 blocker_by-requires c =
