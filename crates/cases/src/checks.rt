@@ -259,7 +259,7 @@ pub fn step_fault(p: Program, k: Step) -> u8
 }
 
 #[tactic(auto, using(crate::proofs::ChoiceLaws::choices), unfolding(crate::specs::Checks::step_fault))]
-fn check_step(p: &Program, k: Step) -> Result<(), Fault>
+pub fn check_step(p: &Program, k: Step) -> Result<(), Fault>
     ensures { refusal_no result ≡ step_fault (limits_of p.now) k }
 {
     if is_step_out(p, k) {

@@ -17,7 +17,7 @@ pub enum Fault {
 }
 
 impl Fault {
-    pub(crate) fn number(self) -> u8
+    pub fn number(self) -> u8
         ensures { result ≡ fault_no self }
     {
         self as u8

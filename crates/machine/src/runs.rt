@@ -8,8 +8,9 @@ use crate::blocker::Blocker;
 use crate::cells::State;
 use crate::fitted::Fitted;
 use crate::steps;
+use crate::work::Unweighed;
 use cases::case::Case;
-use cases::reader;
+use cases::reader::Answer;
 
 // Legal with the number of steps; illegal with the rule, the index and the first entry in the way; refused with
 // the number and the offset. The rule and the refusal are 01's numbers: `verdict_no` and theorems
@@ -79,16 +80,15 @@ fn judge_run(c: &Case) -> Judged
     let p = &c.program;
     let n = c.run.count as usize;
     let mut s = steps::start_of(c.program);
-    for i in 0..n {
-        let k = c.run.steps[i];
+    for (i, k) in c.run.steps[..n].iter().enumerate() {
         let v = Fitted { p, s: &s };
-        if let Err(broken) = v.rule(k) {
+        if let Err(broken) = v.rule(*k) {
             return Judged {
-                verdict: Verdict::Illegal(broken.number(), i, v.blocker_by(k, broken)),
+                verdict: Verdict::Illegal(broken.number(), i, v.blocker_by(*k, broken)),
                 state: s,
             };
         }
-        s = steps::take_step(p, s, k);
+        s = steps::take_step(p, s, *k);
     }
     Judged {
         verdict: Verdict::Legal(n),
@@ -102,7 +102,7 @@ pub fn judge(c: Case) -> Judged
     ensures { result ≡ judge_of c }
 {
     if !cases::reads_back(c) {
-        return stop(32, 0);
+        return stop(Unweighed::Unreadable.number(), 0);
     }
     judge_run(&c)
 }
@@ -113,10 +113,8 @@ pub fn judge_bytes(bytes: &[u8]) -> Judged
     ensures { result ≡ judge_bytes bytes.now }
 {
     let reading = cases::read(bytes);
-    let answer = reading.answer;
-    let number = reader::number(answer);
-    if number != 0 {
-        return stop(number, reader::offset(answer));
+    match reading.answer {
+        Answer::Whole(_) => judge_run(&reading.case),
+        Answer::Refused(number, offset) => stop(number, offset),
     }
-    judge_run(&reading.case)
 }

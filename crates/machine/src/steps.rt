@@ -11,6 +11,7 @@ use crate::cells::{BLANK, State};
 use crate::fitted::Fitted;
 use crate::rule::Rule;
 use crate::sizes::{ALL_REGISTERS, SLOTS};
+use crate::work::Unweighed;
 use crate::{fit, issue, moves};
 use cases::case::{Case, Line, Program, Step};
 use cases::checks;
@@ -106,7 +107,7 @@ pub fn start(c: Case) -> Stepped
     if !cases::reads_back(c) {
         let none = cases::empty_case();
         return Stepped {
-            ruling: Ruling::Declined(32),
+            ruling: Ruling::Declined(Unweighed::Unreadable.number()),
             state: start_of(none.program),
         };
     }
@@ -121,10 +122,9 @@ fn step_in(p: &Program, s: State, k: Step) -> Stepped
     requires { Fits p.now s }
     ensures { result ≡ stepped_of (ptso p.now) s k }
 {
-    let fault = checks::step_fault(*p, k);
-    if fault != 0 {
+    if let Err(fault) = checks::check_step(p, k) {
         return Stepped {
-            ruling: Ruling::Declined(fault),
+            ruling: Ruling::Declined(fault.number()),
             state: s,
         };
     }
@@ -148,14 +148,14 @@ pub fn step(c: Case, s: State, k: Step) -> Stepped
 {
     if !cases::reads_back(c) {
         return Stepped {
-            ruling: Ruling::Declined(32),
+            ruling: Ruling::Declined(Unweighed::Unreadable.number()),
             state: s,
         };
     }
     let p = &c.program;
     if fit::is_misfit(p, &s) {
         return Stepped {
-            ruling: Ruling::Declined(33),
+            ruling: Ruling::Declined(Unweighed::Misfit.number()),
             state: s,
         };
     }

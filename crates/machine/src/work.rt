@@ -6,7 +6,7 @@ ghost use Rattle.machine.specs.View.{buffer, buffer_len, issued_of};
 ghost use Rattle.machine.specs.Fit.{sum_to, Fits};
 ghost use Rattle.machine.specs.Work.{unissued_weight, waiting_weight, code_weight, entry_weight, weigh};
 ghost use Rattle.machine.specs.Work.{unissued_code, thread_work, work};
-ghost use Rattle.machine.specs.Judge.{weighed_no, weighed_work, work_of, full_of};
+ghost use Rattle.machine.specs.Judge.{unweighed_no, weighed_no, weighed_work, work_of, full_of};
 
 use crate::cells::{Entry, State, Waiting};
 use crate::fitted::Fitted;
@@ -24,6 +24,18 @@ pub enum Unweighed {
     Misfit,
 }
 
+impl Unweighed {
+    // 01's number of it.
+    pub(crate) fn number(self) -> u8
+        ensures { result ≡ unweighed_no self }
+    {
+        match self {
+            Unweighed::Unreadable => 32,
+            Unweighed::Misfit => 33,
+        }
+    }
+}
+
 // The work left, or why it is not told.
 pub type Weighed = Result<usize, Unweighed>;
 
@@ -33,8 +45,7 @@ pub fn weighed_number(w: Weighed) -> u8
 {
     match w {
         Ok(_) => 0,
-        Err(Unweighed::Unreadable) => 32,
-        Err(Unweighed::Misfit) => 33,
+        Err(u) => u.number(),
     }
 }
 
