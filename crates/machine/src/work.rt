@@ -94,7 +94,8 @@ impl<'a> Fitted<'a> {
 
     fn weigh_code(&self, t: Thread) -> usize
         requires { t.0 < most_threads }
-        ensures { result ≡ sum_by code_weight (unissued_code self.now.p.now self.now.s.now t.0) }
+        ensures is { result ≡ sum_by code_weight (unissued_code self.now.p.now self.now.s.now t.0) }
+        ensures few { result ≤ 3 * most_instructions }
     {
         self.unissued(t)
             .iter()
@@ -104,7 +105,8 @@ impl<'a> Fitted<'a> {
 
     fn weigh_buffer(&self, t: Thread) -> usize
         requires { t.0 < most_threads }
-        ensures { result ≡ sum_by entry_weight (buffer self.now.s.now t.0) }
+        ensures is { result ≡ sum_by entry_weight (buffer self.now.s.now t.0) }
+        ensures few { result ≤ 2 * most_instructions }
     {
         self.buffer(t).iter().map(|w| waiting_weight(*w)).sum()
     }
@@ -117,6 +119,7 @@ impl<'a> Fitted<'a> {
         self.weigh_code(t) + self.weigh_buffer(t)
     }
 
+    // No chain, as for `all_unissued`.
     fn threads_work(&self) -> usize
         ensures { (result ≡ sum_to most_threads (thread_work self.now.p.now self.now.s.now)) × (result ≤ 5 * all_code) }
     {

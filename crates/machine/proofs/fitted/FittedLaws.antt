@@ -51,12 +51,9 @@ module _ {p : Program} {s : State} (f : ∥ Fits p s ∥₁) where
   pub lent_head : (t : ℕ) → t < most_threads → Named most_locations (entry_at (buffer s t) 0)
   lent_head t h = ∥∥₁_elim f (named_prop _ _) (λ g. head_named p s g t h)
 
-  -- as many instructions as a thread may have, and no more of them issued
+  -- as many instructions as a thread may have
   pub lent_counts : (t : ℕ) → count_at p t ≤ most_instructions
   lent_counts t = ∥∥₁_elim f le_prop (λ g. g.program.sized.few_instructions t)
-
-  pub lent_issued : (t : ℕ) → t < most_threads → issued_of s t ≤ count_at p t
-  lent_issued t h = ∥∥₁_elim f le_prop (λ g. g.few_issued t h)
 
   -- of a step that 5 and 8 have nothing against
   module _ (k : Step) (faultless : step_fault (limits_of p) k ≡ 0) where
