@@ -48,11 +48,12 @@ queued_word p s l = newest_write l (queue s (line_of p l)) (word_of s l)
 unfoldable pub load_of : Program → State → ℕ → ℕ → ℕ
 load_of p s t l = newest_store l (buffer s t) (queued_word p s l)
 
--- "Looking for a thread's marker goes through every queue and stops at the first one found." The marks of
--- queue q from position i on, and what comes after that queue.
+-- a place by its numbers
 abbrev pub place_at : ℕ → ℕ → Place
 place_at q i = record { line = record { 0 = q }; position = i }
 
+-- "Looking for a thread's marker goes through every queue and stops at the first one found." The marks of
+-- queue q from position i on, and what comes after that queue.
 unfoldable pub marker_among : ℕ → ℕ → ℕ → List ℕ → Option Place → Option Place
 marker_among t q i [] after = after
 marker_among t q i (m ∷ ms) after =

@@ -20,7 +20,8 @@ use cases::operations::{
 };
 use cases::sizes::{INSTRUCTIONS, REGISTERS};
 
-// Does an operation need what went before it to be done? Exchange, compare and mfence do.
+// Does an operation need what went before it to be done? Exchange, compare and mfence do. An operation is its record's
+// number, here and below: `issue_fits` and specs/Rules.antt choose by it, and docs/DECISIONS.md says why it is no enum.
 #[tactic(auto, using(cases::proofs::ChoiceLaws::choices), unfolding(crate::specs::Rules::is_barrier))]
 fn is_barrier(op: u8) -> bool
     ensures { result ≡ is_barrier op }

@@ -31,7 +31,8 @@ pub(crate) fn line_of(p: &Program, l: Location) -> Line
     Line(p.line[at])
 }
 
-// The newest write of a location in a line's queue, else the word given: the first one found from its end.
+// The newest write of a location in a line's queue, else the word given: the first one found from its end. By index: words
+// and marks are two arrays.
 pub(crate) fn newest_write(s: &State, q: Line, l: Location, other: u32) -> u32
     requires { (q.0 < most_locations) × (queue_len s.now q.0 ≤ room) }
     ensures { result ≡ newest_write l.0 (queue s.now q.0) other }
@@ -47,16 +48,15 @@ pub(crate) fn newest_write(s: &State, q: Line, l: Location, other: u32) -> u32
     other
 }
 
-// The newest store to a location in a thread's buffer, else the word given: the first one found from its end.
+// The newest store to a location in a thread's buffer, else the word given: the first one found from its end. By index: of
+// a slice's `rev()` the invariant would need what its iterator has left, in place of a position.
 pub(crate) fn newest_store(s: &State, t: Thread, l: Location, other: u32) -> u32
     requires { (t.0 < most_threads) × (buffer_len s.now t.0 ≤ most_instructions) }
     ensures { result ≡ newest_store l.0 (buffer s.now t.0) other }
 {
-    let base = (t.0 as usize) * INSTRUCTIONS;
-    let n = s.waiting[t.0 as usize] as usize;
-    for j in (0..n).rev() {
-        let e = s.buffers[base + j].entry;
-        if let Entry::Store(x) = e {
+    let b = s.buffer(t);
+    for j in (0..b.len()).rev() {
+        if let Entry::Store(x) = b[j].entry {
             if x.location == l {
                 return x.word;
             }
@@ -86,7 +86,7 @@ fn bar_in(p: &Program, entries: &[Waiting], q: Line) -> Option<usize>
 }
 
 impl<'a> Fitted<'a> {
-    // The first marker of a thread, by queue and then by position.
+    // The first marker of a thread, by queue and then by position. The labels are the loops' names in the proofs.
     pub(crate) fn marker(&self, t: Thread) -> Option<Place>
         requires { t.0 < most_threads }
         ensures { result ≡ marker_of self.now.s.now.marks self.now.s.now.lengths t.0 }

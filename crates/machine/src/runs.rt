@@ -13,8 +13,8 @@ use cases::case::Case;
 use cases::reader::Answer;
 
 // Legal with the number of steps; illegal with the rule, the index and the first entry in the way; refused with
-// the number and the offset. The rule and the refusal are 01's numbers: `verdict_no` and theorems
-// (`judge_illegal` of proofs/Promises.antt) speak of them.
+// the number and the offset. Both are 01's numbers: `judge_illegal` of proofs/Promises.antt is over any rule's number, as
+// `judge_from` is over any `Model`'s, and `stopped` hands on what `number_of` of a reading says.
 #[derive(Clone, Copy)]
 pub enum Verdict {
     Legal(usize),

@@ -8,18 +8,17 @@ use Rattle.std.specs.Coded.{Unit-prop, le_prop}
 use Rattle.std.proofs.Math.Logic.{∥∥₁_elim}
 use Rattle.cases.specs.declared.case.Step.{Step}
 use Rattle.cases.specs.declared.case.Program.{Program}
-use Rattle.cases.specs.Checks.{limits_of, step_fault, count_at}
-use Rattle.cases.specs.Sizes.{most_threads, most_instructions, most_locations}
-use Rattle.cases.specs.Operations.{issue, move}
+use Rattle.cases.specs.Checks.{limits_of, step_fault}
+use Rattle.cases.specs.Sizes.{most_threads, most_locations}
 use Rattle.machine.specs.declared.cells.State.{State}
 use Rattle.machine.specs.declared.cells.Entry.{Entry}
 use Rattle.machine.specs.declared.cells.Entry.TheVariants.{Store, Flush, FlushOpt, Sfence}
 use Rattle.machine.specs.Sizes.{all_slots}
-use Rattle.machine.specs.View.{buffer, buffer_len, line_of, issued_of}
+use Rattle.machine.specs.View.{buffer, line_of}
 use Rattle.machine.specs.Rules.{entry_at}
 use Rattle.machine.specs.Fit.{Fits, Named, Shallow}
 use Rattle.machine.proofs.view.LineOfLaws.{line_low}
-use Rattle.machine.proofs.fit.FitLaws.{fits_queue_within, fits_buffer_within}
+use Rattle.machine.proofs.fit.FitLaws.{fits_queue_within}
 use Rattle.machine.proofs.rules.ReadyLaws.{head_named, taken_low, persist_low}
 
 named_prop : (n : ℕ) (e : Entry) → IsProp (Named n e)
@@ -30,10 +29,7 @@ named_prop n (FlushOpt l) = le_prop
 named_prop n Sfence = Unit-prop
 
 module _ {p : Program} {s : State} (f : ∥ Fits p s ∥₁) where
-  -- a buffer and a queue are within their room, an entry's line is one, a buffer's oldest entry names a location
-  pub lent_buffer : (t : ℕ) → t < most_threads → buffer_len s t ≤ most_instructions
-  lent_buffer t h = ∥∥₁_elim f le_prop (λ g. fits_buffer_within p s g t h)
-
+  -- a queue is within its room, an entry's line is one, a buffer's oldest entry names a location
   pub lent_shallow : Shallow s.lengths
   unfolding Shallow
   lent_shallow q h = ∥∥₁_elim f le_prop (λ g. fits_queue_within p s g q h)
@@ -50,10 +46,6 @@ module _ {p : Program} {s : State} (f : ∥ Fits p s ∥₁) where
 
   pub lent_head : (t : ℕ) → t < most_threads → Named most_locations (entry_at (buffer s t) 0)
   lent_head t h = ∥∥₁_elim f (named_prop _ _) (λ g. head_named p s g t h)
-
-  -- as many instructions as a thread may have
-  pub lent_counts : (t : ℕ) → count_at p t ≤ most_instructions
-  lent_counts t = ∥∥₁_elim f le_prop (λ g. g.program.sized.few_instructions t)
 
   -- of a step that 5 and 8 have nothing against
   module _ (k : Step) (faultless : step_fault (limits_of p) k ≡ 0) where

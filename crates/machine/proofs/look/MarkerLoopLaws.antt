@@ -97,7 +97,7 @@ module _ {marks lengths : List ℕ} {mark q n i : ℕ}
           low = o.low;
           few = o.few;
           counted = o.counted;
-            rest = λ t e. marker_among_next t _ (ne_eqb _ _ (λ p. f (p ∙ sym e))) ∙ o.rest t e;
+          rest = λ t e. marker_among_next t _ (ne_eqb _ _ (λ p. f (p ∙ sym e))) ∙ o.rest t e;
         }
 
     pub marker_here : (t : ℕ) → mark ≡ mark_of t → get_or marks (q * room + i) 0 ≡ mark

@@ -9,7 +9,7 @@ use mathlib.Core.List.{List, [], ◌∷◌}
 use Rattle.cases.specs.declared.case.Step.{Step}
 use Rattle.cases.specs.declared.case.Program.{Program}
 use Rattle.cases.specs.Checks.{limits_of, step_fault, count_at, instruction_at}
-use Rattle.cases.specs.Sizes.{most_threads, most_instructions, most_locations, most_registers}
+use Rattle.cases.specs.Sizes.{most_threads, most_instructions, most_locations}
 use Rattle.cases.proofs.ChoiceLaws.{pick_true, pick_false}
 use Rattle.cases.proofs.Promises.{thread_low}
 use Rattle.cases.specs.Operations.{issue, move}
@@ -18,11 +18,11 @@ use Rattle.machine.specs.declared.cells.Waiting.{Waiting}
 use Rattle.machine.specs.declared.cells.Entry.{Entry}
 use Rattle.machine.specs.declared.cells.Entry.TheVariants.{Store, Flush, FlushOpt, Sfence}
 use Rattle.machine.specs.Sizes.{room}
-use Rattle.machine.specs.View.{line_of, queue_len, buffer, buffer_len, issued_of}
+use Rattle.machine.specs.View.{queue_len, buffer, buffer_len, issued_of}
 use Rattle.machine.specs.Parts.{parts_of}
 use Rattle.machine.specs.Rules.{issue_rule, move_rule, persist_rule, rule_in, rule_of, entry_at}
 use Rattle.cases.specs.Ranges.{ProgramFits}
-use Rattle.machine.specs.Fit.{Fits, Issuable, Named, Shallow, Roomy, unissued, due, AllOf, NamedBy}
+use Rattle.machine.specs.Fit.{Fits, Issuable, Named, Roomy, unissued, due, AllOf, NamedBy}
 use Rattle.machine.proofs.lists.SumLaws.{sum_part}
 use Rattle.machine.proofs.view.LineOfLaws.{few_lines, line_low}
 use Rattle.machine.proofs.fit.FitLaws.{fits_queue_within, fits_buffer_within}
@@ -59,10 +59,6 @@ module _ (p : Program) (g : ProgramFits p) (k : Step) (faultless : step_fault (l
       omega arith
 
 module _ (p : Program) (s : State) (f : Fits p s) where
-  pub shallow : Shallow s.lengths
-  unfolding Shallow
-  shallow q h = fits_queue_within p s f q h
-
   pub head_named : (t : ℕ) → t < most_threads → Named most_locations (entry_at (buffer s t) 0)
   head_named t h = first_entry p.locations (buffer s t) f.program.sized.few_locations (f.named t h)
 
@@ -116,8 +112,7 @@ module _ (p : Program) (s : State) (f : Fits p s) where
           let reg = fits.low_register in
           let l : (instruction_at p k.thread.0 (issued_of s k.thread.0)).location.0 < most_locations
           = omega arith in
-          let q = line_low p f.program _ l in
-          (
+          let q = line_low p f.program _ l in (
             omega arith,
             record {
               low_thread = low;

@@ -21,10 +21,9 @@ use Rattle.machine.specs.declared.rule.Rule.{Rule}
 use Rattle.machine.specs.declared.rule.Rule.TheVariants.{NothingToIssue, BufferNotEmpty, MarkerQueued, NothingThere}
 use Rattle.machine.specs.declared.rule.Rule.TheVariants.{OnlyFlushOpt, HeldBack, LineNotEmpty, MarkerBeforeSfence}
 use Rattle.machine.specs.declared.rule.Rule.TheVariants.{NothingQueued}
-use Rattle.std.specs.Prelude.{Result, Ok, Err}
 use Rattle.machine.specs.Parts.{Parts}
 use Rattle.machine.specs.Rules.{barrier_rule, operation_rule, issue_rule, effect_rule, pass_rule, move_rule}
-use Rattle.machine.specs.Rules.{rule_number, broken, persist_rule, rule_in, rule_of}
+use Rattle.machine.specs.Rules.{rule_number, persist_rule, rule_in, rule_of}
 
 -- a rule has a number
 pub rule_some : (r : Rule) → rule_number r ≢ 0

@@ -7,7 +7,7 @@ use native.Mathlib.Omega.{arith}
 use borrow.Author.Tests.{ne_eqb}
 use Rattle.cases.proofs.ChoiceLaws.{pick_next}
 use native.Mathlib.Numerals.{add-one}
-use lib.ListN.{length, get_or, take, drop, length-take, drop_of_length-le}
+use lib.ListN.{length, get_or, drop, length-take, drop_of_length-le}
 use lib.Seq.{drop-cons, get_or-take}
 use Rattle.cases.specs.declared.case.Step.{Step}
 use Rattle.cases.specs.declared.case.Program.{Program}
@@ -15,7 +15,6 @@ use Rattle.cases.specs.declared.case.Case.{Case}
 use Rattle.cases.specs.Checks.{limits_of, step_fault}
 use Rattle.cases.specs.Draft.{no_step}
 use Rattle.cases.specs.declared.reader.Reading.{Reading}
-use Rattle.cases.specs.declared.reader.Answer.{Answer}
 use Rattle.cases.specs.declared.reader.Answer.TheVariants.{Whole, Refused}
 use Rattle.cases.specs.Ranges.{Ranged}
 use Rattle.cases.specs.Reading.{number_of, read_of}

@@ -2,30 +2,19 @@
 use Prim.Native.Nat.{ℕ, zero, suc, ◌+◌, ◌*◌, ◌≤◌, ◌<◌}
 use mathlib.Core.Path.{◌≡◌, refl, ◌∙◌}
 use mathlib.Core.List.{List, [], ◌∷◌, ◌++◌}
-use mathlib.Core.Bool.{true, false}
 use native.Mathlib.Omega.{arith}
 use native.Mathlib.Nat.{mul-le-mul_right}
 use native.Mathlib.Numerals.{add-one}
-use lib.ListN.{length, get_or, take, drop, length-take}
+use lib.ListN.{length, get_or}
 use Rattle.std.specs.List.{sum_by}
 use Rattle.std.proofs.lemmas.List.Sums.{sum_by-cons}
-use Rattle.cases.specs.declared.case.Case.{Case}
 use Rattle.cases.specs.declared.case.Program.{Program}
-use Rattle.cases.specs.Checks.{count_at}
-use Rattle.cases.specs.Sizes.{most_instructions}
-use Rattle.cases.specs.Choice.{pick}
-use Rattle.cases.specs.Writing.{reads_back}
 use Rattle.machine.specs.declared.cells.State.{State}
 use Rattle.machine.specs.declared.cells.Waiting.{Waiting}
 use Rattle.machine.specs.declared.cells.Entry.{Entry}
 use Rattle.machine.specs.declared.cells.Entry.TheVariants.{Store, Flush, FlushOpt, Sfence}
-use Rattle.std.specs.Prelude.{Ok}
-use Rattle.machine.specs.View.{part, without, buffer_in, buffer, buffer_len}
-use Rattle.machine.specs.Rules.{start_of}
-use Rattle.machine.specs.Fit.{misfits, unissued}
-use Rattle.machine.specs.Work.{work, weigh, unissued_weight, waiting_weight, code_weight, entry_weight, unissued_code, thread_work}
-use Rattle.machine.specs.Model.{full_length}
-use Rattle.machine.specs.Judge.{work_of, full_of}
+use Rattle.machine.specs.View.{without, buffer}
+use Rattle.machine.specs.Work.{weigh, unissued_weight, waiting_weight, code_weight, entry_weight, unissued_code, thread_work}
 use Rattle.cases.proofs.ChoiceLaws.{pick_cases}
 
 -- one and the rest; two lists joined; one taken out; each at most `most`

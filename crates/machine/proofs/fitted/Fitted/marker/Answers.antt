@@ -6,7 +6,7 @@ use Rattle.machine.proofs.fitted.FittedLaws.{lent_marks, lent_shallow}
 use Rattle.machine.proofs.fitted.Fitted.marker.Goals as goal
 
 pub queues-init : goal.queues-init
-queues-init c = 
+queues-init c =
     let f = c.args.self.now.fits in
     marker_queues_start _ _ _ (lent_marks f) (lent_shallow f)
 

@@ -18,7 +18,6 @@ returns-in_default c =
 pub effect_rule-requires : goal.effect_rule-requires
 effect_rule-requires c =
     let is : entry_at (buffer c.args.self.now.s.now c.args.t.0) c.args.i ≡ c.in-Some.w.now.entry = search rules in
-    
     let head = lent_head c.args.self.now.fits c.args.t.0 c.requires in
     (c.requires, move_first_named c.args.self.now.s.now _ _ _ is c.if-i-eq0.true _ head)
 
