@@ -1,10 +1,9 @@
 // The first entry that stands in the way of a step that breaks a rule. Asked only once a rule is broken.
 ghost use Rattle.std.specs.Prelude.{◌≡◌, ◌<◌, ◌≤◌};
-ghost use Rattle.cases.specs.Sizes.{most_threads, most_instructions};
+ghost use Rattle.cases.specs.Sizes.{most_threads};
 ghost use Rattle.machine.specs.View.{buffer, buffer_len};
 ghost use Rattle.machine.specs.Parts.{parts_of};
 ghost use Rattle.machine.specs.Rules.{entry_at, rule_number};
-ghost use Rattle.machine.specs.Fit.{Shallow};
 ghost use Rattle.machine.specs.Blocker.{blocker_which, blocker_number, blocker_position, marker_place};
 ghost use Rattle.machine.specs.Blocker.{entry_line, blocker_by};
 
@@ -13,7 +12,7 @@ use crate::fitted::Fitted;
 use crate::look;
 use crate::look::Place;
 use crate::rule::Rule;
-use cases::case::{Line, Program, Step, Thread};
+use cases::case::{Line, Step, Thread};
 
 // Where it stands: a thread's buffer or a line's queue, and the position there.
 #[derive(Clone, Copy)]

@@ -4,7 +4,7 @@ ghost use Rattle.std.specs.List.{list_any};
 ghost use Rattle.cases.specs.Sizes.{most_threads, most_instructions, most_locations};
 ghost use Rattle.machine.specs.Sizes.{room};
 ghost use Rattle.machine.specs.View.{marks_in, queue_len, buffer, buffer_len};
-ghost use Rattle.machine.specs.Fit.{sum_to, any_from, any_of, strays, strayed, foreign, unissued, due};
+ghost use Rattle.machine.specs.Fit.{sum_to, any_from, strays, strayed, foreign, unissued, due};
 ghost use Rattle.machine.specs.Fit.{thread_misfits, queue_misfits, misfits};
 
 use crate::cells::{Entry, State, Waiting};

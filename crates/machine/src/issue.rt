@@ -1,9 +1,8 @@
 // Issue: which rule a thread's next instruction breaks, and what it does.
-ghost use Rattle.std.specs.Prelude.{◌≡◌, ◌+◌, ◌<◌, ◌≤◌};
-ghost use Rattle.cases.specs.Sizes.{most_threads, most_instructions, most_locations, most_registers};
-ghost use Rattle.cases.specs.Checks.{count_at, instruction_at};
-ghost use Rattle.machine.specs.Sizes.{room};
-ghost use Rattle.machine.specs.View.{line_of, queue_len, buffer_len, issued_of};
+ghost use Rattle.std.specs.Prelude.{◌≡◌, ◌+◌, ◌<◌};
+ghost use Rattle.cases.specs.Sizes.{most_threads, most_instructions, most_registers};
+ghost use Rattle.cases.specs.Checks.{instruction_at};
+ghost use Rattle.machine.specs.View.{line_of, buffer_len, issued_of};
 ghost use Rattle.machine.specs.Parts.{parts_of};
 ghost use Rattle.machine.specs.Rules.{broken, is_barrier, barrier_rule, operation_rule};
 ghost use Rattle.machine.specs.Rules.{issue_rule, entry_of, loaded, fetched, exchanged, compared, performed};

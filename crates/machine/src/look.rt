@@ -3,14 +3,13 @@ ghost use Rattle.std.specs.Prelude.{◌≡◌, ◌<◌, ◌≤◌, take, positio
 ghost use Rattle.cases.specs.Sizes.{most_threads, most_instructions, most_locations};
 ghost use Rattle.machine.specs.Sizes.{room};
 ghost use Rattle.machine.specs.View.{line_of, queue, queue_len, buffer, buffer_len};
-ghost use Rattle.machine.specs.Fit.{Shallow};
 ghost use Rattle.machine.specs.Look.{newest_write, newest_store, marker_of, marked, bars, first_bar};
 
 use crate::cells::{Entry, State, Waiting};
 use crate::fitted::Fitted;
 use crate::sizes::{MARKER, ROOM};
 use cases::case::{Line, Location, Program, Thread};
-use cases::sizes::{INSTRUCTIONS, LOCATIONS};
+use cases::sizes::LOCATIONS;
 
 // Where a marker stands: its queue and its position there.
 #[derive(Clone, Copy)]

@@ -7,7 +7,7 @@ ghost use Rattle.machine.specs.Parts.{parts_of};
 ghost use Rattle.machine.specs.Rules.{effect_rule, effect_of, pass_rule, entry_at, move_rule, move_of};
 ghost use Rattle.machine.specs.Rules.{broken, persist_rule, persist_of};
 ghost use Rattle.cases.specs.Ranges.{ProgramFits};
-ghost use Rattle.machine.specs.Fit.{Named, Shallow, Roomy};
+ghost use Rattle.machine.specs.Fit.{Named, Roomy};
 
 use crate::cells::{BLANK, Entry, State};
 use crate::fitted::Fitted;

@@ -1,10 +1,9 @@
 // The work left, and the full length.
 ghost use Rattle.std.specs.Prelude.{◌≡◌, ◌+◌, ◌*◌, ◌<◌, ◌≤◌, length, sum_by};
 ghost use Rattle.cases.specs.Sizes.{most_threads, most_instructions, all_code};
-ghost use Rattle.cases.specs.Checks.{count_at};
-ghost use Rattle.machine.specs.View.{buffer, buffer_len, issued_of};
+ghost use Rattle.machine.specs.View.{buffer};
 ghost use Rattle.machine.specs.Fit.{sum_to, Fits};
-ghost use Rattle.machine.specs.Work.{unissued_weight, waiting_weight, code_weight, entry_weight, weigh};
+ghost use Rattle.machine.specs.Work.{unissued_weight, waiting_weight, code_weight, entry_weight};
 ghost use Rattle.machine.specs.Work.{unissued_code, thread_work, work};
 ghost use Rattle.machine.specs.Judge.{unweighed_no, weighed_no, weighed_work, work_of, full_of};
 
@@ -12,16 +11,14 @@ use crate::cells::{Entry, State, Waiting};
 use crate::fitted::Fitted;
 use crate::{fit, steps};
 use cases::case::{Case, Instruction, Program, Thread};
-use cases::operations::{
-    COMPARE, EXCHANGE, FLUSH, FLUSH_OPT, LOAD, SFENCE, STORE_REGISTER, STORE_WORD,
-};
-use cases::sizes::{INSTRUCTIONS, LOCATIONS, THREADS};
+use cases::operations::{COMPARE, EXCHANGE, FLUSH, FLUSH_OPT, SFENCE, STORE_REGISTER, STORE_WORD};
+use cases::sizes::{INSTRUCTIONS, THREADS};
 
 // Why the work is not told: the case is none that can be read, or the state doesn't fit it.
 #[derive(Clone, Copy, PartialEq, Eq)]
 pub enum Unweighed {
-    Unreadable,
-    Misfit,
+    Unreadable = 32,
+    Misfit = 33,
 }
 
 impl Unweighed {
@@ -29,10 +26,7 @@ impl Unweighed {
     pub(crate) fn number(self) -> u8
         ensures { result ≡ unweighed_no self }
     {
-        match self {
-            Unweighed::Unreadable => 32,
-            Unweighed::Misfit => 33,
-        }
+        self as u8
     }
 }
 
