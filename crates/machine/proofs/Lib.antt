@@ -8,7 +8,7 @@ pub mod Blockers
 pub mod OperationLaws
 pub mod Computing
 pub mod lists
--- rooms beside those of src/: blocker, change, fit, look, moves, runs, steps and work
+-- rooms beside those of src/: blocker, change, fit, fitted, look, moves, runs, steps and work
 mod next
 mod view
 mod rules

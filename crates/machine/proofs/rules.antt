@@ -1,5 +1,5 @@
 -- The rules (specs/Rules).
--- issue_ready, move_ready, persist_ready, issue_rule_ready, move_rule_ready: what functions ask for; shallow, head_named
+-- issue_ready, move_ready, persist_ready: what a legal step's function asks for; taken_low, persist_low; head_named
 pub mod ReadyLaws
 -- rule, broken_none (no error), issue_between, move_between, persist_between: its number is in the table; Between, InTable
 pub mod RuleLaws

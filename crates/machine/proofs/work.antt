@@ -1,5 +1,5 @@
 -- The work left (specs/Work).
--- weigh, weight, entry_most, thread_weighed: weights, and sums of them; work_told, full_told
+-- weigh, weight, entry_most, summed, thread_weighed: weights, and sums of them
 pub mod WeighLaws
 -- work: what a change of one part does to it
 pub mod WorkLaws

@@ -13,11 +13,14 @@
 --   Fits p s         the facts: the program's numbers are in range, and the state fits it
 --   Named, NamedBy   an entry, or one that waits, names a location that it has
 --   Borne p q m      the mark m belongs in queue q
+--   Issuable p s t x what the instruction x of thread t asks for as it is issued
+--   Shallow, Roomy   no queue is longer than its room; none is full
 -- Assumes nothing.
 use Rattle.std.specs.Prelude.{ℕ, zero, suc, ◌+◌, ◌-◌, ◌<◌, ◌≤◌, ◌≡◌, ◌⊎◌, Bool, false, not, List, [], ◌∷◌, length, get_or, eqb, leb, ltb}
 use Rattle.cases.specs.declared.case.Program.{Program}
+use Rattle.cases.specs.declared.case.Instruction.{Instruction}
 use Rattle.cases.specs.Choice.{pick, both, either}
-use Rattle.cases.specs.Sizes.{most_threads, most_instructions, most_locations, all_code}
+use Rattle.cases.specs.Sizes.{most_threads, most_instructions, most_locations, most_registers, all_code}
 use Rattle.cases.specs.Ranges.{ProgramFits}
 use Rattle.cases.specs.Checks.{count_at, lines_of}
 use Rattle.machine.specs.declared.cells.State.{State}
@@ -132,7 +135,17 @@ pub record Fits (p : Program) (s : State) : Type 0 where
   pub named : (t : ℕ) → t < most_threads → AllOf (NamedBy p.locations) (buffer s t)
   pub borne : (q : ℕ) → q < most_locations → AllOf (Borne p q) (marks_in s.marks s.lengths q)
 
--- What the machine's parts ask for where the whole state is not at hand.
+-- What the machine's parts ask for of a state, as each needs it.
+-- an instruction as it is issued: its thread, location, register and line are ones that there may be, and its line's
+-- queue and its thread's buffer have room for an entry
+pub record Issuable (p : Program) (s : State) (t : ℕ) (x : Instruction) : Type 0 where
+  pub low_thread : t < most_threads
+  pub low_location : x.location.0 < most_locations
+  pub low_register : x.register.0 < most_registers
+  pub low_line : line_of p x.location.0 < most_locations
+  pub queue_room : queue_len s (line_of p x.location.0) < room
+  pub buffer_room : buffer_len s t < most_instructions
+
 -- no queue is longer than its room
 unfoldable pub Shallow : List ℕ → Type 0
 Shallow lengths = (q : ℕ) → q < most_locations → get_or lengths q 0 ≤ room

@@ -1,18 +1,18 @@
 // The first entry that stands in the way of a step that breaks a rule. Asked only once a rule is broken.
 ghost use Rattle.std.specs.Prelude.{◌≡◌, ◌<◌, ◌≤◌};
-ghost use Rattle.cases.specs.Sizes.{most_threads, most_instructions};
+ghost use Rattle.cases.specs.Sizes.{most_threads};
 ghost use Rattle.machine.specs.View.{buffer, buffer_len};
 ghost use Rattle.machine.specs.Parts.{parts_of};
 ghost use Rattle.machine.specs.Rules.{entry_at, rule_number};
-ghost use Rattle.machine.specs.Fit.{Shallow};
 ghost use Rattle.machine.specs.Blocker.{blocker_which, blocker_number, blocker_position, marker_place};
 ghost use Rattle.machine.specs.Blocker.{entry_line, blocker_by};
 
-use crate::cells::{Entry, State};
+use crate::cells::Entry;
+use crate::fitted::Fitted;
 use crate::look;
 use crate::look::Place;
 use crate::rule::Rule;
-use cases::case::{Line, Program, Step, Thread};
+use cases::case::{Line, Step, Thread};
 
 // Where it stands: a thread's buffer or a line's queue, and the position there.
 #[derive(Clone, Copy)]
@@ -64,39 +64,39 @@ fn marker_place(found: Option<Place>) -> Blocker
     }
 }
 
-// The line of an entry that waits: an sfence's is never asked for.
-#[tactic(auto, unfolding(crate::specs::Blocker::entry_line))]
-fn entry_line(p: &Program, s: &State, t: Thread, i: u8) -> Line
-    requires { (t.0 < most_threads) × (i < buffer_len s.now t.0)
-        × (buffer_len s.now t.0 ≤ most_instructions) }
-    ensures { result.0 ≡ entry_line p.now (entry_at (buffer s.now t.0) i) }
-{
-    let w = s.buffer(t)[i as usize];
-    match w.entry {
-        Entry::Store(x) => look::line_of(p, x.location),
-        Entry::Flush(l) | Entry::FlushOpt(l) => look::line_of(p, l),
-        Entry::Sfence => Line(0),
-    }
-}
-
-// The first entry in the way of a step, by the rule that it breaks.
-#[tactic(auto, unfolding(crate::specs::Blocker::blocker_by, cases::specs::Choice::pick))]
-pub(crate) fn blocker_by(p: &Program, s: &State, k: Step, broken: Rule) -> Blocker
-    requires { (k.thread.0 < most_threads) × (buffer_len s.now k.thread.0 ≤ most_instructions)
-        × Shallow s.now.lengths
-        × (26 ≤ rule_number broken → rule_number broken ≤ 27 → k.position < buffer_len s.now k.thread.0) }
-    ensures { result ≡ blocker_by (rule_number broken) p.now (parts_of s.now) k }
-{
-    let t = k.thread;
-    let i = k.position;
-    match broken {
-        Rule::BufferNotEmpty => Blocker::InBuffer(t, 0),
-        Rule::MarkerQueued | Rule::MarkerBeforeSfence => marker_place(look::marker(s, t)),
-        Rule::HeldBack => {
-            let q = entry_line(p, s, t, i);
-            Blocker::InBuffer(t, look::first_bar(p, s, t, i, q))
+impl<'a> Fitted<'a> {
+    // The line of an entry that waits: an sfence's is never asked for.
+    #[tactic(auto, unfolding(crate::specs::Blocker::entry_line))]
+    fn entry_line(&self, t: Thread, i: u8) -> Line
+        requires { (t.0 < most_threads) × (i < buffer_len self.now.s.now t.0) }
+        ensures { result.0 ≡ entry_line self.now.p.now (entry_at (buffer self.now.s.now t.0) i) }
+    {
+        let w = self.buffer(t)[i as usize];
+        match w.entry {
+            Entry::Store(x) => look::line_of(self.p, x.location),
+            Entry::Flush(l) | Entry::FlushOpt(l) => look::line_of(self.p, l),
+            Entry::Sfence => Line(0),
         }
-        Rule::LineNotEmpty => Blocker::InQueue(entry_line(p, s, t, i), 0),
-        _ => Blocker::NoEntry,
+    }
+
+    // The first entry in the way of a step, by the rule that it breaks.
+    #[tactic(auto, unfolding(crate::specs::Blocker::blocker_by, cases::specs::Choice::pick))]
+    pub(crate) fn blocker_by(&self, k: Step, broken: Rule) -> Blocker
+        requires { (k.thread.0 < most_threads)
+            × (26 ≤ rule_number broken → rule_number broken ≤ 27 → k.position < buffer_len self.now.s.now k.thread.0) }
+        ensures { result ≡ blocker_by (rule_number broken) self.now.p.now (parts_of self.now.s.now) k }
+    {
+        let t = k.thread;
+        let i = k.position;
+        match broken {
+            Rule::BufferNotEmpty => Blocker::InBuffer(t, 0),
+            Rule::MarkerQueued | Rule::MarkerBeforeSfence => marker_place(self.marker(t)),
+            Rule::HeldBack => {
+                let q = self.entry_line(t, i);
+                Blocker::InBuffer(t, self.first_bar(t, i, q))
+            }
+            Rule::LineNotEmpty => Blocker::InQueue(self.entry_line(t, i), 0),
+            _ => Blocker::NoEntry,
+        }
     }
 }

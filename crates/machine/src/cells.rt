@@ -17,6 +17,7 @@ pub enum Entry {
     Sfence,
 }
 
+// A struct of one enum, as docs/FORMS.md has it of 01: "Each waiting entry in a store buffer is one of four kinds".
 #[derive(Clone, Copy)]
 pub struct Waiting {
     pub entry: Entry,
@@ -32,8 +33,9 @@ pub(crate) const BLANK: Waiting = Waiting {
 
 // Line q's queue holds the first lengths[q] slots from q * ROOM on, a slot a word and a mark side by side: the
 // mark of a write is its location, that of a marker MARKER and its thread. Buffer t holds the first waiting[t]
-// entries from t * INSTRUCTIONS on, and register r of thread t stands at t * REGISTERS + r. Counts beside arrays, words
-// beside marks: memory is fixed, and Promises and Effects in proofs/, and docs/FRAMES.md, speak of these fields.
+// entries from t * INSTRUCTIONS on, and register r of thread t stands at t * REGISTERS + r.
+// Counts beside arrays: memory is fixed. Arrays side by side, and a mark that is one number: `queue_marks` of
+// proofs/Promises.antt, `issue_registers` of proofs/Effects.antt and the bytes in docs/FRAMES.md speak of them.
 #[derive(Clone, Copy)]
 pub struct State {
     pub words: [u32; LOCATIONS],

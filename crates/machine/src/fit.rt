@@ -4,14 +4,13 @@ ghost use Rattle.std.specs.List.{list_any};
 ghost use Rattle.cases.specs.Sizes.{most_threads, most_instructions, most_locations};
 ghost use Rattle.machine.specs.Sizes.{room};
 ghost use Rattle.machine.specs.View.{marks_in, queue_len, buffer, buffer_len};
-ghost use Rattle.machine.specs.Fit.{sum_to, any_from, any_of, strays, strayed, foreign, unissued, due};
+ghost use Rattle.machine.specs.Fit.{sum_to, any_from, strays, strayed, foreign, unissued, due};
 ghost use Rattle.machine.specs.Fit.{thread_misfits, queue_misfits, misfits};
 
 use crate::cells::{Entry, State, Waiting};
 use crate::look;
 use crate::sizes::{MARKER, ROOM};
 use cases::case::{Line, Location, Program, Thread};
-use cases::checks;
 use cases::sizes::{INSTRUCTIONS, LOCATIONS, THREADS};
 
 // Does an entry name a location that the program lacks?
@@ -101,7 +100,7 @@ pub(crate) fn total(counts: &[u8]) -> usize
     counts.iter().map(|n| *n as usize).sum()
 }
 
-// All instructions that are not issued.
+// All instructions that are not issued. No chain: of a sum over numbers the check finds neither the bound nor the sum.
 fn all_unissued(p: &Program, s: &State) -> usize
     ensures { (result ≡ sum_to most_threads (unissued p.now s.now)) × (result ≤ 255 * most_threads) }
 {
@@ -112,22 +111,23 @@ fn all_unissued(p: &Program, s: &State) -> usize
     n
 }
 
-// Is there something in a queue that doesn't fit? What may still come into it is given.
-#[tactic(auto, using(cases::proofs::ChoiceLaws::choices, crate::proofs::lists::AnyLaws::any_of_is), unfolding(crate::specs::Fit::queue_misfits))]
+// Is there something in a queue that doesn't fit? What may still come into it is given, and no bound is asked of it.
+#[tactic(auto, using(cases::proofs::ChoiceLaws::choices, crate::proofs::lists::AnyLaws::any_of_is), unfolding(crate::specs::Fit::queue_misfits, cases::specs::Checks::lines_of))]
 fn queue_misfits(p: &Program, s: &State, q: Line, coming: usize) -> bool
-    requires { (q.0 < most_locations) × (coming ≡ due p.now s.now) × (coming ≤ 510 * most_threads) }
+    requires { (q.0 < most_locations) × (coming ≡ due p.now s.now) }
     ensures { result ≡ queue_misfits p.now s.now q.0 }
 {
     let n = s.lengths[q.0 as usize];
-    if checks::lines_of(*p) <= q.0 && 0 < n {
+    if p.lines <= q.0 && 0 < n {
         return true;
     }
-    if ROOM < (n as usize) + coming {
+    if ROOM < (n as usize).saturating_add(coming) {
         return true;
     }
     has_foreign(p, s, q)
 }
 
+// No chain: the call asks something of `coming`, and of a closure the check doesn't find the answer then.
 fn queues_misfit(p: &Program, s: &State) -> bool
     ensures { result ≡ any_from 0 most_locations (queue_misfits p.now s.now) }
 {

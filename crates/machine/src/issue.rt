@@ -1,16 +1,16 @@
 // Issue: which rule a thread's next instruction breaks, and what it does.
-ghost use Rattle.std.specs.Prelude.{◌≡◌, ◌+◌, ◌<◌, ◌≤◌};
-ghost use Rattle.cases.specs.Sizes.{most_threads, most_instructions, most_locations, most_registers};
-ghost use Rattle.cases.specs.Checks.{count_at, instruction_at};
-ghost use Rattle.machine.specs.Sizes.{room};
-ghost use Rattle.machine.specs.View.{line_of, queue_len, buffer_len, issued_of};
+ghost use Rattle.std.specs.Prelude.{◌≡◌, ◌+◌, ◌<◌};
+ghost use Rattle.cases.specs.Sizes.{most_threads, most_instructions, most_registers};
+ghost use Rattle.cases.specs.Checks.{instruction_at};
+ghost use Rattle.machine.specs.View.{line_of, buffer_len, issued_of};
 ghost use Rattle.machine.specs.Parts.{parts_of};
 ghost use Rattle.machine.specs.Rules.{broken, is_barrier, barrier_rule, operation_rule};
 ghost use Rattle.machine.specs.Rules.{issue_rule, entry_of, loaded, fetched, exchanged, compared, performed};
 ghost use Rattle.machine.specs.Rules.{issue_of, await};
-ghost use Rattle.machine.specs.Fit.{Shallow};
+ghost use Rattle.machine.specs.Fit.{Issuable};
 
 use crate::cells::{Entry, State, Waiting};
+use crate::fitted::Fitted;
 use crate::rule::Rule;
 use crate::{change, look};
 use cases::case::{Instruction, Program, Thread, Write};
@@ -19,7 +19,8 @@ use cases::operations::{
 };
 use cases::sizes::{INSTRUCTIONS, REGISTERS};
 
-// Does an operation need what went before it to be done? Exchange, compare and mfence do.
+// Does an operation need what went before it to be done? Exchange, compare and mfence do. An operation is its record's
+// number, here and below: `issue_fits` and specs/Rules.antt choose by it, and docs/DECISIONS.md says why it is no enum.
 #[tactic(auto, using(cases::proofs::ChoiceLaws::choices), unfolding(crate::specs::Rules::is_barrier))]
 fn is_barrier(op: u8) -> bool
     ensures { result ≡ is_barrier op }
@@ -27,44 +28,46 @@ fn is_barrier(op: u8) -> bool
     matches!(op, EXCHANGE | COMPARE | MFENCE)
 }
 
-#[tactic(auto, using(cases::proofs::ChoiceLaws::choices), unfolding(crate::specs::Rules::barrier_rule))]
-fn barrier_rule(s: &State, t: Thread) -> Result<(), Rule>
-    requires { (t.0 < most_threads) × Shallow s.now.lengths }
-    ensures { broken result ≡ barrier_rule (parts_of s.now) t.0 }
-{
-    if 0 < s.waiting[t.0 as usize] {
-        return Err(Rule::BufferNotEmpty);
+impl<'a> Fitted<'a> {
+    #[tactic(auto, using(cases::proofs::ChoiceLaws::choices), unfolding(crate::specs::Rules::barrier_rule))]
+    fn barrier_rule(&self, t: Thread) -> Result<(), Rule>
+        requires { t.0 < most_threads }
+        ensures { broken result ≡ barrier_rule (parts_of self.now.s.now) t.0 }
+    {
+        if 0 < self.s.waiting[t.0 as usize] {
+            return Err(Rule::BufferNotEmpty);
+        }
+        if self.is_marked(t) {
+            return Err(Rule::MarkerQueued);
+        }
+        Ok(())
     }
-    if look::is_marked(s, t) {
-        return Err(Rule::MarkerQueued);
-    }
-    Ok(())
-}
 
-#[tactic(auto, using(cases::proofs::ChoiceLaws::choices), unfolding(crate::specs::Rules::operation_rule))]
-pub(crate) fn operation_rule(op: u8, s: &State, t: Thread) -> Result<(), Rule>
-    requires { (t.0 < most_threads) × Shallow s.now.lengths }
-    ensures { broken result ≡ operation_rule op (parts_of s.now) t.0 }
-{
-    if !is_barrier(op) {
-        return Ok(());
+    #[tactic(auto, using(cases::proofs::ChoiceLaws::choices), unfolding(crate::specs::Rules::operation_rule))]
+    fn operation_rule(&self, op: u8, t: Thread) -> Result<(), Rule>
+        requires { t.0 < most_threads }
+        ensures { broken result ≡ operation_rule op (parts_of self.now.s.now) t.0 }
+    {
+        if !is_barrier(op) {
+            return Ok(());
+        }
+        self.barrier_rule(t)
     }
-    barrier_rule(s, t)
-}
 
-// May a thread's next instruction be issued?
-#[tactic(auto, using(cases::proofs::ChoiceLaws::choices), unfolding(crate::specs::Rules::issue_rule))]
-pub(crate) fn issue_rule(p: &Program, s: &State, t: Thread) -> Result<(), Rule>
-    requires { (t.0 < most_threads) × (count_at p.now t.0 ≤ most_instructions) × Shallow s.now.lengths }
-    ensures { broken result ≡ issue_rule p.now (parts_of s.now) t.0 }
-{
-    let at = t.0 as usize;
-    let n = s.issued[at];
-    if p.counts[at] <= n {
-        return Err(Rule::NothingToIssue);
+    // May a thread's next instruction be issued?
+    #[tactic(auto, using(cases::proofs::ChoiceLaws::choices), unfolding(crate::specs::Rules::issue_rule))]
+    pub(crate) fn issue_rule(&self, t: Thread) -> Result<(), Rule>
+        requires { t.0 < most_threads }
+        ensures { broken result ≡ issue_rule self.now.p.now (parts_of self.now.s.now) t.0 }
+    {
+        let at = t.0 as usize;
+        let n = self.s.issued[at];
+        if self.p.counts[at] <= n {
+            return Err(Rule::NothingToIssue);
+        }
+        let x = self.p.code[at * INSTRUCTIONS + (n as usize)];
+        self.operation_rule(x.operation, t)
     }
-    let x = p.code[at * INSTRUCTIONS + (n as usize)];
-    operation_rule(x.operation, s, t)
 }
 
 // The entry that a store, flush, flush-opt or sfence leaves in the buffer; a store's word is fixed now.
@@ -93,9 +96,7 @@ fn entry_of(s: &State, t: Thread, x: Instruction) -> Entry
 // persistent word.
 #[tactic(auto, unfolding(crate::specs::Rules::loaded, crate::specs::View::with_register, crate::specs::Look::load_of, crate::specs::Look::queued_word))]
 fn load(p: &Program, s: State, t: Thread, x: Instruction) -> State
-    requires { (t.0 < most_threads) × (x.location.0 < most_locations) × (x.register.0 < most_registers)
-        × (buffer_len s t.0 ≤ most_instructions) × (line_of p.now x.location.0 < most_locations)
-        × (queue_len s (line_of p.now x.location.0) ≤ room) }
+    requires { Issuable p.now s t.0 x }
     ensures { result ≡ loaded p.now s t.0 x }
 {
     let mut u = s;
@@ -110,9 +111,7 @@ fn load(p: &Program, s: State, t: Thread, x: Instruction) -> State
 // The register takes the newest write in the line's queue, else the persistent word.
 #[tactic(auto, unfolding(crate::specs::Rules::fetched, crate::specs::View::with_register, crate::specs::Look::queued_word))]
 fn fetch(p: &Program, s: State, t: Thread, x: Instruction) -> State
-    requires { (t.0 < most_threads) × (x.location.0 < most_locations) × (x.register.0 < most_registers)
-        × (line_of p.now x.location.0 < most_locations)
-        × (queue_len s (line_of p.now x.location.0) ≤ room) }
+    requires { Issuable p.now s t.0 x }
     ensures { result ≡ fetched p.now s t.0 x }
 {
     let mut u = s;
@@ -126,9 +125,7 @@ fn fetch(p: &Program, s: State, t: Thread, x: Instruction) -> State
 // The register takes the old word; the instruction's goes to the queue's end.
 #[tactic(auto, unfolding(crate::specs::Rules::exchanged, crate::specs::Rules::fetched, crate::specs::View::with_register))]
 fn exchange(p: &Program, s: State, t: Thread, x: Instruction) -> State
-    requires { (t.0 < most_threads) × (x.location.0 < most_locations) × (x.register.0 < most_registers)
-        × (line_of p.now x.location.0 < most_locations)
-        × (queue_len s (line_of p.now x.location.0) < room) }
+    requires { Issuable p.now s t.0 x }
     ensures { result ≡ exchanged p.now s t.0 x }
 {
     let l = x.location;
@@ -138,9 +135,7 @@ fn exchange(p: &Program, s: State, t: Thread, x: Instruction) -> State
 // Where the word read is the register's, an exchange; else the register takes it, and nothing is written.
 #[tactic(auto, unfolding(crate::specs::Rules::fetched, crate::specs::View::with_register))]
 fn compare(p: &Program, s: State, t: Thread, x: Instruction) -> State
-    requires { (t.0 < most_threads) × (x.location.0 < most_locations) × (x.register.0 < most_registers)
-        × (line_of p.now x.location.0 < most_locations)
-        × (queue_len s (line_of p.now x.location.0) < room) }
+    requires { Issuable p.now s t.0 x }
     ensures { result ≡ compared p.now s t.0 x }
 {
     let l = x.location;
@@ -172,9 +167,7 @@ fn join_buffer(s: State, t: Thread, x: Instruction) -> State
 // What an instruction does as it is issued; those that wait are told apart in `entry_of`.
 #[tactic(auto, using(cases::proofs::ChoiceLaws::choices), unfolding(crate::specs::Rules::performed))]
 fn perform(p: &Program, s: State, t: Thread, x: Instruction) -> State
-    requires { (t.0 < most_threads) × (x.location.0 < most_locations) × (x.register.0 < most_registers)
-        × (buffer_len s t.0 < most_instructions) × (line_of p.now x.location.0 < most_locations)
-        × (queue_len s (line_of p.now x.location.0) < room) }
+    requires { Issuable p.now s t.0 x }
     ensures { result ≡ performed p.now s t.0 x }
 {
     match x.operation {
@@ -189,12 +182,8 @@ fn perform(p: &Program, s: State, t: Thread, x: Instruction) -> State
 // A thread's next instruction issued, where it breaks no rule.
 #[tactic(auto, unfolding(crate::specs::Rules::issue_of, crate::specs::View::with_issued))]
 pub(crate) fn issue(p: &Program, s: State, t: Thread) -> State
-    requires { (t.0 < most_threads) × (issued_of s t.0 < most_instructions)
-        × (buffer_len s t.0 < most_instructions)
-        × ((instruction_at p.now t.0 (issued_of s t.0)).location.0 < most_locations)
-        × ((instruction_at p.now t.0 (issued_of s t.0)).register.0 < most_registers)
-        × (line_of p.now (instruction_at p.now t.0 (issued_of s t.0)).location.0 < most_locations)
-        × (queue_len s (line_of p.now (instruction_at p.now t.0 (issued_of s t.0)).location.0) < room) }
+    requires { (issued_of s t.0 < most_instructions)
+        × Issuable p.now s t.0 (instruction_at p.now t.0 (issued_of s t.0)) }
     ensures { result ≡ issue_of p.now s t.0 }
 {
     let mut u = s;

@@ -6,6 +6,7 @@ pub mod blocker;
 pub mod cells;
 mod change;
 mod fit;
+mod fitted;
 mod issue;
 mod look;
 mod moves;

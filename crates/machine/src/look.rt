@@ -1,15 +1,15 @@
 // What a look through the state finds. No function here changes a state.
-ghost use Rattle.std.specs.Prelude.{◌≡◌, ◌<◌, ◌≤◌, take};
+ghost use Rattle.std.specs.Prelude.{◌≡◌, ◌<◌, ◌≤◌, take, position};
 ghost use Rattle.cases.specs.Sizes.{most_threads, most_instructions, most_locations};
 ghost use Rattle.machine.specs.Sizes.{room};
 ghost use Rattle.machine.specs.View.{line_of, queue, queue_len, buffer, buffer_len};
-ghost use Rattle.machine.specs.Fit.{Shallow};
 ghost use Rattle.machine.specs.Look.{newest_write, newest_store, marker_of, marked, bars, first_bar};
 
 use crate::cells::{Entry, State, Waiting};
+use crate::fitted::Fitted;
 use crate::sizes::{MARKER, ROOM};
 use cases::case::{Line, Location, Program, Thread};
-use cases::sizes::{INSTRUCTIONS, LOCATIONS};
+use cases::sizes::LOCATIONS;
 
 // Where a marker stands: its queue and its position there.
 #[derive(Clone, Copy)]
@@ -30,7 +30,8 @@ pub(crate) fn line_of(p: &Program, l: Location) -> Line
     Line(p.line[at])
 }
 
-// The newest write of a location in a line's queue, else the word given: the first one found from its end.
+// The newest write of a location in a line's queue, else the word given: the first one found from its end. By index: words
+// and marks are two arrays.
 pub(crate) fn newest_write(s: &State, q: Line, l: Location, other: u32) -> u32
     requires { (q.0 < most_locations) × (queue_len s.now q.0 ≤ room) }
     ensures { result ≡ newest_write l.0 (queue s.now q.0) other }
@@ -46,53 +47,21 @@ pub(crate) fn newest_write(s: &State, q: Line, l: Location, other: u32) -> u32
     other
 }
 
-// The newest store to a location in a thread's buffer, else the word given: the first one found from its end.
+// The newest store to a location in a thread's buffer, else the word given: the first one found from its end. By index: of
+// a slice's `rev()` the invariant would need what its iterator has left, in place of a position.
 pub(crate) fn newest_store(s: &State, t: Thread, l: Location, other: u32) -> u32
     requires { (t.0 < most_threads) × (buffer_len s.now t.0 ≤ most_instructions) }
     ensures { result ≡ newest_store l.0 (buffer s.now t.0) other }
 {
-    let base = (t.0 as usize) * INSTRUCTIONS;
-    let n = s.waiting[t.0 as usize] as usize;
-    for j in (0..n).rev() {
-        let e = s.buffers[base + j].entry;
-        if let Entry::Store(x) = e {
+    let b = s.buffer(t);
+    for j in (0..b.len()).rev() {
+        if let Entry::Store(x) = b[j].entry {
             if x.location == l {
                 return x.word;
             }
         }
     }
     other
-}
-
-// The first marker of a thread, by queue and then by position.
-pub(crate) fn marker(s: &State, t: Thread) -> Option<Place>
-    requires { (t.0 < most_threads) × Shallow s.now.lengths }
-    ensures { result ≡ marker_of s.now.marks s.now.lengths t.0 }
-{
-    let mark = t.0 + MARKER;
-    let mut found = None;
-    'queues: for q in 0..LOCATIONS {
-        let n = s.lengths[q];
-        'entries: for i in 0..n {
-            if s.marks[q * ROOM + (i as usize)] == mark {
-                found = Some(Place {
-                    line: Line(q as u8),
-                    position: i,
-                });
-                break 'queues;
-            }
-        }
-    }
-    found
-}
-
-// Does some queue hold a marker of the thread?
-#[tactic(auto, unfolding(crate::specs::Look::marked))]
-pub(crate) fn is_marked(s: &State, t: Thread) -> bool
-    requires { (t.0 < most_threads) × Shallow s.now.lengths }
-    ensures { result ≡ marked s.now.marks s.now.lengths t.0 }
-{
-    marker(s, t).is_some()
 }
 
 // Does an entry keep a flush-opt of the line behind it?
@@ -108,18 +77,53 @@ fn is_bar(p: &Program, w: Waiting, q: Line) -> bool
     }
 }
 
-// The position of the first of a buffer's first i entries that keeps a flush-opt of the line behind it; i
-// where none does.
-pub(crate) fn first_bar(p: &Program, s: &State, t: Thread, i: u8, q: Line) -> u8
-    requires { (t.0 < most_threads) × (i ≤ buffer_len s.now t.0)
-        × (buffer_len s.now t.0 ≤ most_instructions) }
-    ensures { result ≡ first_bar p.now q.0 (take i (buffer s.now t.0)) }
+// The first of these entries that does.
+fn bar_in(p: &Program, entries: &[Waiting], q: Line) -> Option<usize>
+    ensures { result ≡ position (λ w. bars p.now q.0 w.entry) entries.now }
 {
-    let base = (t.0 as usize) * INSTRUCTIONS;
-    for j in 0..i {
-        if is_bar(p, s.buffers[base + (j as usize)], q) {
-            return j;
+    entries.iter().position(|w| is_bar(p, *w, q))
+}
+
+impl<'a> Fitted<'a> {
+    // The first marker of a thread, by queue and then by position. The labels are the loops' names in the proofs.
+    pub(crate) fn marker(&self, t: Thread) -> Option<Place>
+        requires { t.0 < most_threads }
+        ensures { result ≡ marker_of self.now.s.now.marks self.now.s.now.lengths t.0 }
+    {
+        let mark = t.0 + MARKER;
+        'queues: for q in 0..LOCATIONS {
+            let n = self.s.lengths[q];
+            'entries: for i in 0..n {
+                if self.s.marks[q * ROOM + (i as usize)] == mark {
+                    return Some(Place {
+                        line: Line(q as u8),
+                        position: i,
+                    });
+                }
+            }
+        }
+        None
+    }
+
+    // Does some queue hold a marker of the thread?
+    #[tactic(auto, unfolding(crate::specs::Look::marked))]
+    pub(crate) fn is_marked(&self, t: Thread) -> bool
+        requires { t.0 < most_threads }
+        ensures { result ≡ marked self.now.s.now.marks self.now.s.now.lengths t.0 }
+    {
+        self.marker(t).is_some()
+    }
+
+    // The position of the first of a buffer's first i entries that keeps a flush-opt of the line behind it; i
+    // where none does.
+    pub(crate) fn first_bar(&self, t: Thread, i: u8, q: Line) -> u8
+        requires { (t.0 < most_threads) × (i ≤ buffer_len self.now.s.now t.0) }
+        ensures { result ≡ first_bar self.now.p.now q.0 (take i (buffer self.now.s.now t.0)) }
+    {
+        let front = &self.buffer(t)[..i as usize];
+        match bar_in(self.p, front, q) {
+            Some(j) => j as u8,
+            None => i,
         }
     }
-    i
 }

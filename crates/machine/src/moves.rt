@@ -7,67 +7,80 @@ ghost use Rattle.machine.specs.Parts.{parts_of};
 ghost use Rattle.machine.specs.Rules.{effect_rule, effect_of, pass_rule, entry_at, move_rule, move_of};
 ghost use Rattle.machine.specs.Rules.{broken, persist_rule, persist_of};
 ghost use Rattle.cases.specs.Ranges.{ProgramFits};
-ghost use Rattle.machine.specs.Fit.{Named, Shallow, Roomy};
+ghost use Rattle.machine.specs.Fit.{Named, Roomy};
 
 use crate::cells::{BLANK, Entry, State};
+use crate::fitted::Fitted;
 use crate::rule::Rule;
 use crate::sizes::{MARKER, ROOM};
 use crate::{change, look};
 use cases::case::{Line, Program, Thread};
 use cases::sizes::{INSTRUCTIONS, LOCATIONS};
 
-// May an entry take effect?
-#[tactic(auto, using(cases::proofs::ChoiceLaws::choices), unfolding(crate::specs::Rules::effect_rule))]
-fn effect_rule(p: &Program, s: &State, t: Thread, e: Entry) -> Result<(), Rule>
-    requires { ProgramFits p.now × (t.0 < most_threads) × Named most_locations e × Shallow s.now.lengths }
-    ensures { broken result ≡ effect_rule p.now (parts_of s.now) t.0 e }
-{
-    match e {
-        Entry::Flush(l) => {
-            let q = look::line_of(p, l);
-            if 0 < s.lengths[q.0 as usize] {
-                return Err(Rule::LineNotEmpty);
+impl<'a> Fitted<'a> {
+    // May an entry take effect?
+    #[tactic(auto, using(cases::proofs::ChoiceLaws::choices), unfolding(crate::specs::Rules::effect_rule))]
+    fn effect_rule(&self, t: Thread, e: Entry) -> Result<(), Rule>
+        requires { (t.0 < most_threads) × Named most_locations e }
+        ensures { broken result ≡ effect_rule self.now.p.now (parts_of self.now.s.now) t.0 e }
+    {
+        match e {
+            Entry::Flush(l) => {
+                let q = look::line_of(self.p, l);
+                if 0 < self.s.lengths[q.0 as usize] {
+                    return Err(Rule::LineNotEmpty);
+                }
             }
-        }
-        Entry::Sfence => {
-            if look::is_marked(s, t) {
-                return Err(Rule::MarkerBeforeSfence);
+            Entry::Sfence => {
+                if self.is_marked(t) {
+                    return Err(Rule::MarkerBeforeSfence);
+                }
             }
+            Entry::Store(_) | Entry::FlushOpt(_) => {}
         }
-        Entry::Store(_) | Entry::FlushOpt(_) => {}
+        Ok(())
     }
-    Ok(())
-}
 
-// May an entry go before the others?
-#[tactic(auto, using(cases::proofs::ChoiceLaws::choices), unfolding(crate::specs::Rules::pass_rule))]
-fn pass_rule(p: &Program, s: &State, t: Thread, i: u8, e: Entry) -> Result<(), Rule>
-    requires { (t.0 < most_threads) × (i ≤ buffer_len s.now t.0)
-        × (buffer_len s.now t.0 ≤ most_instructions) }
-    ensures { broken result ≡ pass_rule p.now (buffer s.now t.0) i e }
-{
-    let Entry::FlushOpt(l) = e else {
-        return Err(Rule::OnlyFlushOpt);
-    };
-    if look::first_bar(p, s, t, i, look::line_of(p, l)) < i {
-        return Err(Rule::HeldBack);
+    // May an entry go before the others?
+    #[tactic(auto, using(cases::proofs::ChoiceLaws::choices), unfolding(crate::specs::Rules::pass_rule))]
+    fn pass_rule(&self, t: Thread, i: u8, e: Entry) -> Result<(), Rule>
+        requires { (t.0 < most_threads) × (i ≤ buffer_len self.now.s.now t.0) }
+        ensures { broken result ≡ pass_rule self.now.p.now (buffer self.now.s.now t.0) i e }
+    {
+        let Entry::FlushOpt(l) = e else {
+            return Err(Rule::OnlyFlushOpt);
+        };
+        if self.first_bar(t, i, look::line_of(self.p, l)) < i {
+            return Err(Rule::HeldBack);
+        }
+        Ok(())
     }
-    Ok(())
-}
 
-// May the entry at a position be moved?
-pub(crate) fn move_rule(p: &Program, s: &State, t: Thread, i: u8) -> Result<(), Rule>
-    requires { ProgramFits p.now × (t.0 < most_threads) × (buffer_len s.now t.0 ≤ most_instructions)
-        × Named most_locations (entry_at (buffer s.now t.0) 0) × Shallow s.now.lengths }
-    ensures { broken result ≡ move_rule p.now (parts_of s.now) t.0 i }
-{
-    let Some(w) = s.buffer(t).get(i as usize) else {
-        return Err(Rule::NothingThere);
-    };
-    if i == 0 {
-        return effect_rule(p, s, t, w.entry);
+    // May the entry at a position be moved?
+    pub(crate) fn move_rule(&self, t: Thread, i: u8) -> Result<(), Rule>
+        requires { t.0 < most_threads }
+        ensures { broken result ≡ move_rule self.now.p.now (parts_of self.now.s.now) t.0 i }
+    {
+        let Some(w) = self.buffer(t).get(i as usize) else {
+            return Err(Rule::NothingThere);
+        };
+        if i == 0 {
+            return self.effect_rule(t, w.entry);
+        }
+        self.pass_rule(t, i, w.entry)
     }
-    pass_rule(p, s, t, i, w.entry)
+
+    // May the oldest entry of a line's queue be persisted?
+    #[tactic(auto, using(cases::proofs::ChoiceLaws::choices), unfolding(crate::specs::Rules::persist_rule))]
+    pub(crate) fn persist_rule(&self, q: Line) -> Result<(), Rule>
+        requires { q.0 < most_locations }
+        ensures { broken result ≡ persist_rule (parts_of self.now.s.now) q.0 }
+    {
+        if self.s.lengths[q.0 as usize] == 0 {
+            return Err(Rule::NothingQueued);
+        }
+        Ok(())
+    }
 }
 
 // What an entry that has left its buffer does.
@@ -103,18 +116,6 @@ pub(crate) fn move_entry(p: &Program, s: State, t: Thread, i: u8) -> State
     );
     u.waiting[at] = n - 1;
     take_effect(p, u, t, e)
-}
-
-// May the oldest entry of a line's queue be persisted?
-#[tactic(auto, using(cases::proofs::ChoiceLaws::choices), unfolding(crate::specs::Rules::persist_rule))]
-pub(crate) fn persist_rule(s: &State, q: Line) -> Result<(), Rule>
-    requires { q.0 < most_locations }
-    ensures { broken result ≡ persist_rule (parts_of s.now) q.0 }
-{
-    if s.lengths[q.0 as usize] == 0 {
-        return Err(Rule::NothingQueued);
-    }
-    Ok(())
 }
 
 // The oldest entry of a line's queue persisted, where there is one.

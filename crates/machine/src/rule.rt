@@ -5,23 +5,23 @@ ghost use Rattle.machine.specs.Rules.{rule_number};
 #[derive(Clone, Copy, PartialEq, Eq)]
 pub enum Rule {
     // Issue: the thread has no instruction left.
-    NothingToIssue,
+    NothingToIssue = 21,
     // Exchange, compare or mfence: something waits in the own buffer.
-    BufferNotEmpty,
+    BufferNotEmpty = 22,
     // The same three: a queue holds a marker of the thread.
-    MarkerQueued,
+    MarkerQueued = 23,
     // Move: nothing waits at that position.
-    NothingThere,
+    NothingThere = 24,
     // What goes before others is no flush-opt.
-    OnlyFlushOpt,
+    OnlyFlushOpt = 25,
     // A flush-opt: an entry before it keeps it back.
-    HeldBack,
+    HeldBack = 26,
     // A flush: its line's queue holds something.
-    LineNotEmpty,
+    LineNotEmpty = 27,
     // An sfence: a queue holds a marker of the thread.
-    MarkerBeforeSfence,
+    MarkerBeforeSfence = 28,
     // Persist: the queue is empty.
-    NothingQueued,
+    NothingQueued = 29,
 }
 
 impl Rule {
@@ -29,16 +29,6 @@ impl Rule {
     pub(crate) fn number(self) -> u8
         ensures { result ≡ rule_number self }
     {
-        match self {
-            Rule::NothingToIssue => 21,
-            Rule::BufferNotEmpty => 22,
-            Rule::MarkerQueued => 23,
-            Rule::NothingThere => 24,
-            Rule::OnlyFlushOpt => 25,
-            Rule::HeldBack => 26,
-            Rule::LineNotEmpty => 27,
-            Rule::MarkerBeforeSfence => 28,
-            Rule::NothingQueued => 29,
-        }
+        self as u8
     }
 }

@@ -6,13 +6,15 @@ ghost use Rattle.machine.specs.Judge.{judge_of, judge_bytes};
 
 use crate::blocker::Blocker;
 use crate::cells::State;
-use crate::{blocker, steps};
+use crate::fitted::Fitted;
+use crate::steps;
+use crate::work::Unweighed;
 use cases::case::Case;
-use cases::reader;
+use cases::reader::Answer;
 
 // Legal with the number of steps; illegal with the rule, the index and the first entry in the way; refused with
-// the number and the offset. The rule and the refusal are 01's numbers: `verdict_no` and theorems
-// (`judge_illegal` of proofs/Promises.antt) speak of them.
+// the number and the offset. Both are 01's numbers: `judge_illegal` of proofs/Promises.antt is over any rule's number, as
+// `judge_from` is over any `Model`'s, and `stopped` hands on what `number_of` of a reading says.
 #[derive(Clone, Copy)]
 pub enum Verdict {
     Legal(usize),
@@ -78,19 +80,15 @@ fn judge_run(c: &Case) -> Judged
     let p = &c.program;
     let n = c.run.count as usize;
     let mut s = steps::start_of(c.program);
-    for i in 0..n {
-        let k = c.run.steps[i];
-        if let Err(broken) = steps::rule(p, &s, k) {
+    for (i, k) in c.run.steps[..n].iter().enumerate() {
+        let v = Fitted { p, s: &s };
+        if let Err(broken) = v.rule(*k) {
             return Judged {
-                verdict: Verdict::Illegal(
-                    broken.number(),
-                    i,
-                    blocker::blocker_by(p, &s, k, broken),
-                ),
+                verdict: Verdict::Illegal(broken.number(), i, v.blocker_by(*k, broken)),
                 state: s,
             };
         }
-        s = steps::take_step(p, s, k);
+        s = steps::take_step(p, s, *k);
     }
     Judged {
         verdict: Verdict::Legal(n),
@@ -104,7 +102,7 @@ pub fn judge(c: Case) -> Judged
     ensures { result ≡ judge_of c }
 {
     if !cases::reads_back(c) {
-        return stop(32, 0);
+        return stop(Unweighed::Unreadable.number(), 0);
     }
     judge_run(&c)
 }
@@ -115,10 +113,8 @@ pub fn judge_bytes(bytes: &[u8]) -> Judged
     ensures { result ≡ judge_bytes bytes.now }
 {
     let reading = cases::read(bytes);
-    let answer = reading.answer;
-    let number = reader::number(answer);
-    if number != 0 {
-        return stop(number, reader::offset(answer));
+    match reading.answer {
+        Answer::Whole(_) => judge_run(&reading.case),
+        Answer::Refused(number, offset) => stop(number, offset),
     }
-    judge_run(&reading.case)
 }

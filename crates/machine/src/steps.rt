@@ -8,16 +8,18 @@ ghost use Rattle.machine.specs.Ptso.{ptso};
 
 use crate::blocker::Blocker;
 use crate::cells::{BLANK, State};
+use crate::fitted::Fitted;
 use crate::rule::Rule;
 use crate::sizes::{ALL_REGISTERS, SLOTS};
-use crate::{blocker, fit, issue, moves};
+use crate::work::Unweighed;
+use crate::{fit, issue, moves};
 use cases::case::{Case, Line, Program, Step};
 use cases::checks;
 use cases::operations::{ISSUE, MOVE};
 use cases::sizes::{CODE, LOCATIONS, THREADS};
 
-// What is said of a step: legal, a rule broken and the first entry in the way, or the input refused. The rule and the
-// refusal are 01's numbers: `ruling_no` and theorems (`step_refuses_unchanged` of demands) speak of them.
+// What is said of a step: legal, a rule broken and the first entry in the way, or the input refused. Both are 01's numbers:
+// `stepped_of` is over any `Model`, whose rule and fault are numbers, and so say `order_of_stepping`, `unchecked_stepping` of demands.
 #[derive(Clone, Copy)]
 pub enum Ruling {
     Allowed,
@@ -69,16 +71,18 @@ pub fn start_of(p: Program) -> State
     }
 }
 
-// May a step be taken?
-#[tactic(auto, using(cases::proofs::ChoiceLaws::choices), unfolding(crate::specs::Rules::rule_of, crate::specs::Rules::rule_in))]
-pub(crate) fn rule(p: &Program, s: &State, k: Step) -> Result<(), Rule>
-    requires { Fits p.now s.now × (step_fault (limits_of p.now) k ≡ 0) }
-    ensures { broken result ≡ rule_of p.now s.now k }
-{
-    match k.code {
-        ISSUE => issue::issue_rule(p, s, k.thread),
-        MOVE => moves::move_rule(p, s, k.thread, k.position),
-        _ => moves::persist_rule(s, Line(k.location.0)),
+impl<'a> Fitted<'a> {
+    // May a step be taken?
+    #[tactic(auto, using(cases::proofs::ChoiceLaws::choices), unfolding(crate::specs::Rules::rule_of, crate::specs::Rules::rule_in))]
+    pub(crate) fn rule(&self, k: Step) -> Result<(), Rule>
+        requires { step_fault (limits_of self.now.p.now) k ≡ 0 }
+        ensures { broken result ≡ rule_of self.now.p.now self.now.s.now k }
+    {
+        match k.code {
+            ISSUE => self.issue_rule(k.thread),
+            MOVE => self.move_rule(k.thread, k.position),
+            _ => self.persist_rule(Line(k.location.0)),
+        }
     }
 }
 
@@ -103,7 +107,7 @@ pub fn start(c: Case) -> Stepped
     if !cases::reads_back(c) {
         let none = cases::empty_case();
         return Stepped {
-            ruling: Ruling::Declined(32),
+            ruling: Ruling::Declined(Unweighed::Unreadable.number()),
             state: start_of(none.program),
         };
     }
@@ -118,16 +122,16 @@ fn step_in(p: &Program, s: State, k: Step) -> Stepped
     requires { Fits p.now s }
     ensures { result ≡ stepped_of (ptso p.now) s k }
 {
-    let fault = checks::step_fault(*p, k);
-    if fault != 0 {
+    if let Err(fault) = checks::check_step(p, k) {
         return Stepped {
-            ruling: Ruling::Declined(fault),
+            ruling: Ruling::Declined(fault.number()),
             state: s,
         };
     }
-    if let Err(broken) = rule(p, &s, k) {
+    let v = Fitted { p, s: &s };
+    if let Err(broken) = v.rule(k) {
         return Stepped {
-            ruling: Ruling::Broken(broken.number(), blocker::blocker_by(p, &s, k, broken)),
+            ruling: Ruling::Broken(broken.number(), v.blocker_by(k, broken)),
             state: s,
         };
     }
@@ -144,14 +148,14 @@ pub fn step(c: Case, s: State, k: Step) -> Stepped
 {
     if !cases::reads_back(c) {
         return Stepped {
-            ruling: Ruling::Declined(32),
+            ruling: Ruling::Declined(Unweighed::Unreadable.number()),
             state: s,
         };
     }
     let p = &c.program;
     if fit::is_misfit(p, &s) {
         return Stepped {
-            ruling: Ruling::Declined(33),
+            ruling: Ruling::Declined(Unweighed::Misfit.number()),
             state: s,
         };
     }

@@ -1,26 +1,33 @@
 // The work left, and the full length.
 ghost use Rattle.std.specs.Prelude.{◌≡◌, ◌+◌, ◌*◌, ◌<◌, ◌≤◌, length, sum_by};
 ghost use Rattle.cases.specs.Sizes.{most_threads, most_instructions, all_code};
-ghost use Rattle.cases.specs.Checks.{count_at};
-ghost use Rattle.machine.specs.View.{buffer, buffer_len, issued_of};
+ghost use Rattle.machine.specs.View.{buffer};
 ghost use Rattle.machine.specs.Fit.{sum_to, Fits};
-ghost use Rattle.machine.specs.Work.{unissued_weight, waiting_weight, code_weight, entry_weight, weigh};
+ghost use Rattle.machine.specs.Work.{unissued_weight, waiting_weight, code_weight, entry_weight};
 ghost use Rattle.machine.specs.Work.{unissued_code, thread_work, work};
-ghost use Rattle.machine.specs.Judge.{weighed_no, weighed_work, work_of, full_of};
+ghost use Rattle.machine.specs.Judge.{unweighed_no, weighed_no, weighed_work, work_of, full_of};
 
 use crate::cells::{Entry, State, Waiting};
+use crate::fitted::Fitted;
 use crate::{fit, steps};
 use cases::case::{Case, Instruction, Program, Thread};
-use cases::operations::{
-    COMPARE, EXCHANGE, FLUSH, FLUSH_OPT, LOAD, SFENCE, STORE_REGISTER, STORE_WORD,
-};
-use cases::sizes::{INSTRUCTIONS, LOCATIONS, THREADS};
+use cases::operations::{COMPARE, EXCHANGE, FLUSH, FLUSH_OPT, SFENCE, STORE_REGISTER, STORE_WORD};
+use cases::sizes::{INSTRUCTIONS, THREADS};
 
 // Why the work is not told: the case is none that can be read, or the state doesn't fit it.
 #[derive(Clone, Copy, PartialEq, Eq)]
 pub enum Unweighed {
-    Unreadable,
-    Misfit,
+    Unreadable = 32,
+    Misfit = 33,
+}
+
+impl Unweighed {
+    // 01's number of it.
+    pub(crate) fn number(self) -> u8
+        ensures { result ≡ unweighed_no self }
+    {
+        self as u8
+    }
 }
 
 // The work left, or why it is not told.
@@ -32,8 +39,7 @@ pub fn weighed_number(w: Weighed) -> u8
 {
     match w {
         Ok(_) => 0,
-        Err(Unweighed::Unreadable) => 32,
-        Err(Unweighed::Misfit) => 33,
+        Err(u) => u.number(),
     }
 }
 
@@ -67,54 +73,56 @@ fn waiting_weight(w: Waiting) -> usize
     }
 }
 
-// The instructions of a thread that are not issued yet.
-fn unissued<'a>(p: &'a Program, s: &State, t: Thread) -> &'a [Instruction]
-    requires { (t.0 < most_threads) × (issued_of s.now t.0 ≤ count_at p.now t.0)
-        × (count_at p.now t.0 ≤ most_instructions) }
-    ensures is { result.now ≡ unissued_code p.now s.now t.0 }
-    ensures few { length result.now ≤ most_instructions }
-{
-    let at = t.0 as usize;
-    let base = at * INSTRUCTIONS;
-    &p.code[base + (s.issued[at] as usize)..base + (p.counts[at] as usize)]
-}
-
-fn weigh_code(p: &Program, s: &State, t: Thread) -> usize
-    requires { (t.0 < most_threads) × (issued_of s.now t.0 ≤ count_at p.now t.0)
-        × (count_at p.now t.0 ≤ most_instructions) }
-    ensures { result ≡ sum_by code_weight (unissued_code p.now s.now t.0) }
-{
-    unissued(p, s, t)
-        .iter()
-        .map(|x| unissued_weight(x.operation))
-        .sum()
-}
-
-fn weigh_buffer(s: &State, t: Thread) -> usize
-    requires { (t.0 < most_threads) × (buffer_len s.now t.0 ≤ most_instructions) }
-    ensures { result ≡ sum_by entry_weight (buffer s.now t.0) }
-{
-    s.buffer(t).iter().map(|w| waiting_weight(*w)).sum()
-}
-
-// The work left in a thread.
-fn thread_work(p: &Program, s: &State, t: Thread) -> usize
-    requires { (t.0 < most_threads) × (issued_of s.now t.0 ≤ count_at p.now t.0)
-        × (count_at p.now t.0 ≤ most_instructions) × (buffer_len s.now t.0 ≤ most_instructions) }
-    ensures { (result ≡ thread_work p.now s.now t.0) × (result ≤ 5 * most_instructions) }
-{
-    weigh_code(p, s, t) + weigh_buffer(s, t)
-}
-
-fn threads_work(p: &Program, s: &State) -> usize
-    requires { Fits p.now s.now }
-    ensures { (result ≡ sum_to most_threads (thread_work p.now s.now)) × (result ≤ 5 * all_code) }
-{
-    let mut total: usize = 0;
-    for t in 0..THREADS {
-        total += thread_work(p, s, Thread(t as u8));
+impl<'a> Fitted<'a> {
+    // The instructions of a thread that are not issued yet.
+    fn unissued(&self, t: Thread) -> &'a [Instruction]
+        requires { t.0 < most_threads }
+        ensures is { result.now ≡ unissued_code self.now.p.now self.now.s.now t.0 }
+        ensures few { length result.now ≤ most_instructions }
+    {
+        let p = self.p;
+        let at = t.0 as usize;
+        let base = at * INSTRUCTIONS;
+        &p.code[base + (self.s.issued[at] as usize)..base + (p.counts[at] as usize)]
     }
-    total
+
+    fn weigh_code(&self, t: Thread) -> usize
+        requires { t.0 < most_threads }
+        ensures is { result ≡ sum_by code_weight (unissued_code self.now.p.now self.now.s.now t.0) }
+        ensures few { result ≤ 3 * most_instructions }
+    {
+        self.unissued(t)
+            .iter()
+            .map(|x| unissued_weight(x.operation))
+            .sum()
+    }
+
+    fn weigh_buffer(&self, t: Thread) -> usize
+        requires { t.0 < most_threads }
+        ensures is { result ≡ sum_by entry_weight (buffer self.now.s.now t.0) }
+        ensures few { result ≤ 2 * most_instructions }
+    {
+        self.buffer(t).iter().map(|w| waiting_weight(*w)).sum()
+    }
+
+    // The work left in a thread.
+    fn thread_work(&self, t: Thread) -> usize
+        requires { t.0 < most_threads }
+        ensures { (result ≡ thread_work self.now.p.now self.now.s.now t.0) × (result ≤ 5 * most_instructions) }
+    {
+        self.weigh_code(t) + self.weigh_buffer(t)
+    }
+
+    // No chain, as for `all_unissued`.
+    fn threads_work(&self) -> usize
+        ensures { (result ≡ sum_to most_threads (thread_work self.now.p.now self.now.s.now)) × (result ≤ 5 * all_code) }
+    {
+        let mut total: usize = 0;
+        for t in 0..THREADS {
+            total += self.thread_work(Thread(t as u8));
+        }
+        total
+    }
 }
 
 // The work left in a state that fits; the layer above asks for it where a walk begins.
@@ -122,7 +130,7 @@ pub fn work_in(p: Program, s: State) -> usize
     requires { Fits p s }
     ensures { result ≡ work p s }
 {
-    threads_work(&p, &s) + fit::total(&s.lengths)
+    Fitted { p: &p, s: &s }.threads_work() + fit::total(&s.lengths)
 }
 
 // The work left of a case in a state in memory: 32, then 33.

@@ -8,7 +8,7 @@ use lib.ListN.{get_or}
 use Rattle.cases.specs.declared.case.Step.{Step}
 use Rattle.cases.specs.declared.case.Program.{Program}
 use Rattle.cases.specs.Checks.{limits_of, step_fault}
-use Rattle.cases.specs.Sizes.{most_threads, most_instructions}
+use Rattle.cases.specs.Sizes.{most_threads}
 use Rattle.cases.proofs.Promises.{thread_low}
 use Rattle.machine.specs.declared.cells.State.{State}
 use Rattle.machine.specs.declared.blocker.Blocker.{Blocker}
@@ -16,11 +16,9 @@ use Rattle.machine.specs.View.{buffer_len}
 use Rattle.machine.specs.Parts.{parts_of}
 use Rattle.machine.specs.Rules.{rule_of}
 use Rattle.machine.specs.Blocker.{blocker_by, blocker_in, blocker_of}
-use Rattle.machine.specs.Fit.{Fits, Shallow}
+use Rattle.machine.specs.Fit.{Fits}
 use Rattle.machine.specs.Next.{persist_step}
 use Rattle.machine.proofs.lists.PartLaws.{lt_or_ge}
-use Rattle.machine.proofs.fit.FitLaws.{fits_buffer_within}
-use Rattle.machine.proofs.rules.ReadyLaws.{shallow}
 use Rattle.machine.proofs.steps.StepFaultLaws.{StepKinds, step_kinds, fault_none}
 use Rattle.machine.proofs.blocker.BrokenLaws.{issue_numbers, move_waits, persist_numbers}
 
@@ -53,15 +51,11 @@ module _ (p : Program) (s : State) (fit : Fits p s) (k : Step) (faultless : step
 
   -- what `blocker_by` asks for, once the rule is known
   pub blocker_ready : (r : ℕ) → r ≡ rule_of p s k
-      → (k.thread.0 < most_threads) × (buffer_len s k.thread.0 ≤ most_instructions) × Shallow s.lengths
+      → (k.thread.0 < most_threads)
       × (26 ≤ r → r ≤ 27 → k.position < buffer_len s k.thread.0)
   blocker_ready r e =
-      let waits : 26 ≤ r → r ≤ 27 → k.position < buffer_len s k.thread.0 = rw e entry_waits in (
-        own_thread,
-        fits_buffer_within p s fit k.thread.0 own_thread,
-        shallow p s fit,
-        waits,
-      )
+      let waits : 26 ≤ r → r ≤ 27 → k.position < buffer_len s k.thread.0 = rw e entry_waits in
+      (own_thread, waits)
 
 -- and what it answers is the blocker in that state
 pub blocker_is : (p : Program) (s : State) (k : Step) (r : ℕ) → r ≡ rule_of p s k

@@ -1,15 +1,27 @@
 -- Laws of what `first_bar` answers: the bar stands there, and none before it does. Assumes nothing.
-use Prim.Native.Nat.{ℕ, zero, suc, ◌≤◌, ◌<◌}
-use mathlib.Core.Path.{◌≡◌, refl}
+use Prim.Native.Nat.{ℕ, zero, suc, ◌+◌, ◌≤◌, ◌<◌}
+use mathlib.Core.Path.{◌≡◌, refl, sym, ◌∙◌}
 use mathlib.Core.Bool.{Bool, true, false}
 use mathlib.Core.List.{List, [], ◌∷◌}
 use native.Mathlib.Omega.{arith}
 use lib.ListN.{length, take}
+use lib.Dec.{ltb}
+use borrow.Author.Tests.{ltb-false}
+use Rattle.std.specs.Prelude.{Some, None, cond}
+use Rattle.std.specs.List.{position, position_or_len}
+use Rattle.std.proofs.lemmas.List.Recursion.{is_position_or_len}
+use Rattle.std.proofs.lemmas.Option.{cond_some, none-some}
 use Rattle.cases.specs.declared.case.Program.{Program}
 use Rattle.cases.specs.Choice.{pick}
 use Rattle.machine.specs.declared.cells.Waiting.{Waiting}
 use Rattle.machine.specs.Look.{bars, first_bar}
 use Rattle.machine.specs.InTheWay.{StandsAt}
+
+-- one turn in the words of the library
+bar_cond : (c : Bool) (n : ℕ) → pick c 0 (suc n) ≡ cond c 0 (1 + n)
+unfolding pick
+bar_cond true n = refl
+bar_cond false n = omega arith
 
 -- the first bar of the first i entries: it stands there, and no bar before it does
 module _ (p : Program) (q : ℕ) where
@@ -41,3 +53,30 @@ module _ (p : Program) (q : ℕ) where
       go : (c : Bool) → first_bar p q (take i b) ≤ j → pick c 0 (suc (first_bar p q (take i b))) ≤ suc j
       go true n = omega arith
       go false n = omega arith
+
+  -- it is the library's first position
+  bar_is : (b : List Waiting) → first_bar p q b ≡ position_or_len (λ w. bars p q w.entry) b
+  unfolding first_bar
+  bar_is = is_position_or_len (first_bar p q) (λ w. bars p q w.entry) refl next
+    where
+      next : (w : Waiting) (b : List Waiting) → first_bar p q (w ∷ b) ≡ cond (bars p q w.entry) 0 (1 + first_bar p q b)
+      next w b = bar_cond (bars p q w.entry) (first_bar p q b)
+
+  bar_within : (b : List Waiting) → first_bar p q b ≤ length b
+  unfolding first_bar pick
+  bar_within [] = omega arith
+  bar_within (w ∷ b) = go (bars p q w.entry) (bar_within b)
+    where
+      go : (c : Bool) → first_bar p q b ≤ length b → pick c 0 (suc (first_bar p q b)) ≤ suc (length b)
+      go true n = omega arith
+      go false n = omega arith
+
+  pub bar_at : (b : List Waiting) (j : ℕ) → position (λ w. bars p q w.entry) b ≡ Some j → j ≡ first_bar p q b
+  bar_at b j e = sym (bar_is b ∙ (cond_some _ _ _ e).1)
+
+  pub bar_none : (b : List Waiting) → position (λ w. bars p q w.entry) b ≡ None → length b ≡ first_bar p q b
+  bar_none b e = go (ltb (first_bar p q b) (length b)) refl
+    where
+      go : (c : Bool) → ltb (first_bar p q b) (length b) ≡ c → length b ≡ first_bar p q b
+      go true h = absurd (none-some _ (sym (rw (← bar_is b, h) at e)))
+      go false h = let m = bar_within b in let n = ltb-false _ _ h in omega arith

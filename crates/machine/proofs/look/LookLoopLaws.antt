@@ -1,25 +1,20 @@
 -- Laws of the looks that are one loop each: for each a record of what it has found so far, made where the loop
 -- begins (start), and one law for each point of the loop that uses it (next, here, end). Assumes nothing.
-use Prim.Native.Nat.{ℕ, zero, suc, ◌+◌, ◌*◌, ◌-◌, ◌≤◌, ◌<◌}
+use Prim.Native.Nat.{ℕ, zero, suc, ◌+◌, ◌-◌, ◌≤◌, ◌<◌}
 use mathlib.Core.Path.{◌≡◌, refl, ap, sym, ◌∙◌}
 use mathlib.Core.Logic.{◌≢◌}
-use mathlib.Core.Bool.{true, false}
 use mathlib.Core.List.{List, [], ◌∷◌}
 use native.Mathlib.Omega.{arith}
-use native.Mathlib.Nat.{zero-add, add-zero}
 use borrow.Author.Tests.{eq-eqb, ne_eqb}
-use lib.ListN.{length, get_or, take, drop}
-use Rattle.cases.specs.declared.case.Program.{Program}
+use lib.ListN.{length, get_or, drop, drop_of_length-le}
+use lib.Seq.{drop-cons}
 use Rattle.cases.specs.declared.case.Write.{Write}
-use Rattle.cases.specs.Choice.{pick}
-use Rattle.cases.specs.Sizes.{most_instructions}
 use Rattle.cases.proofs.ChoiceLaws.{pick_true, pick_false}
 use Rattle.machine.specs.declared.cells.Waiting.{Waiting}
 use Rattle.machine.specs.declared.cells.Entry.{Entry}
 use Rattle.machine.specs.declared.cells.Entry.TheVariants.{Store, Flush, FlushOpt, Sfence}
-use Rattle.machine.specs.View.{Slot, part, slots, blank_waiting, buffer_in}
-use Rattle.machine.specs.Look.{word_or, newest_write, stored_or, newest_store, bars, first_bar}
-use Rattle.machine.proofs.lists.PartLaws.{take_part, part_next, part_end}
+use Rattle.machine.specs.View.{Slot, part, slots, blank_waiting}
+use Rattle.machine.specs.Look.{word_or, newest_write, stored_or, newest_store}
 use Rattle.machine.proofs.view.SlotLaws.{slots_end, slots_next}
 
 -- The newest of a list, looked for from its end: `all xs w` is what the list makes of the word w, entry after entry
@@ -95,9 +90,9 @@ module _ (l : ℕ) (held marks : List ℕ) (base n : ℕ) (h : base + n ≤ leng
       newest_here e =
           silent_here (word_or l) (newest_write l) (newest_more l) o newest_before _ (λ w. pick_true _ _ _ (eq-eqb _ _ e))
 
--- newest_store: of the n entries from base on
-abbrev pub StoreSoFar : ℕ → List Waiting → ℕ → ℕ → ℕ → Type 0
-StoreSoFar l b base n i = SilentFrom (newest_store l) (part base n b) n i
+-- newest_store: of the entries b
+abbrev pub StoreSoFar : ℕ → List Waiting → ℕ → Type 0
+StoreSoFar l b i = SilentFrom (newest_store l) b (length b) i
 
 abbrev waiting_or : ℕ → Waiting → ℕ → ℕ
 waiting_or l w before = stored_or l w.entry before
@@ -125,63 +120,22 @@ store_none l (Flush m) h w = refl
 store_none l (FlushOpt m) h w = refl
 store_none l Sfence h w = refl
 
-module _ (l : ℕ) (b : List Waiting) (base n : ℕ) (h : base + n ≤ length b) where
-  pub store_start : StoreSoFar l b base n n
+module _ (l : ℕ) (b : List Waiting) where
+  pub store_start : StoreSoFar l b (length b)
   unfolding newest_store
-  store_start = record { within = omega arith; silent = λ w. rw (part_end base n n b (omega arith)) }
+  store_start =
+      record { within = omega arith; silent = λ w. rw (drop_of_length-le b {i = length b} (omega arith)) refl }
 
-  module _ {i : ℕ} (o : StoreSoFar l b base n i) (c : 0 < i) where
-    store_before : drop (i - 1) (part base n b) ≡ get_or b (base + (i - 1)) blank_waiting ∷ drop i (part base n b)
+  module _ {i : ℕ} (o : StoreSoFar l b i) (c : 0 < i) where
+    store_before : drop (i - 1) b ≡ get_or b (i - 1) blank_waiting ∷ drop i b
     store_before =
-        entry_before (λ m. get_or b m blank_waiting) _ base n i
-        (λ m r. part_next base n m b blank_waiting r h) o.within c
+        let j : suc (i - 1) ≡ i = omega arith in
+        rw j at (drop-cons b (i - 1) blank_waiting (omega (arith, o.within)))
 
-    pub store_next : ((w : ℕ) → stored_or l (get_or b (base + (i - 1)) blank_waiting).entry w ≡ w)
-        → StoreSoFar l b base n (i - 1)
+    pub store_next : ((w : ℕ) → stored_or l (get_or b (i - 1) blank_waiting).entry w ≡ w) → StoreSoFar l b (i - 1)
     store_next e = silent_next (waiting_or l) (newest_store l) (store_more l) o store_before e
 
-    pub store_here : (word : ℕ)
-        → ((w : ℕ) → stored_or l (get_or b (base + (i - 1)) blank_waiting).entry w ≡ word) → (other : ℕ)
-        → word ≡ newest_store l (part base n b) other
+    pub store_here : (word : ℕ) → ((w : ℕ) → stored_or l (get_or b (i - 1) blank_waiting).entry w ≡ word)
+        → (other : ℕ)
+        → word ≡ newest_store l b other
     store_here = silent_here (waiting_or l) (newest_store l) (store_more l) o store_before
-
--- first_bar: what the entries behind the first j say, counted from there, is what the first i say
-pub record BarSoFar (p : Program) (q : ℕ) (b : List Waiting) (base i j : ℕ) : Type 0 where
-  pub long : base + i ≤ length b
-  pub within : j ≤ i
-  pub rest : j + first_bar p q (drop j (part base i b)) ≡ first_bar p q (part base i b)
-
-pub bar_start : (p : Program) (q : ℕ) (b : List Waiting) (base i : ℕ) → base + i ≤ length b
-    → BarSoFar p q b base i 0
-bar_start p q b base i h = record { long = h; within = omega arith; rest = zero-add _ }
-
-module _ {p : Program} {q : ℕ} {b : List Waiting} {base i j : ℕ} (o : BarSoFar p q b base i j) where
-  pub bar_next : j < i → bars p q (get_or b (base + j) blank_waiting).entry ≡ false
-      → BarSoFar p q b base i (j + 1)
-  unfolding first_bar pick
-  bar_next h e =
-      let r : j + suc (first_bar p q (drop (j + 1) (part base i b))) ≡ first_bar p q (part base i b)
-      = rw (part_next base i j b blank_waiting h o.long, e) at o.rest in
-      record { long = o.long; within = omega arith; rest = omega arith }
-
-module _ {p : Program} {q : ℕ} {b : List Waiting} (waiting : List ℕ) (t : ℕ) {i j : ℕ}
-    (o : BarSoFar p q b (t * most_instructions) i j) (few : i ≤ get_or waiting t 0) where
-  bar_front : first_bar p q (part (t * most_instructions) i b) ≡ first_bar p q (take i (buffer_in b waiting t))
-  unfolding buffer_in
-  bar_front = rw (take_part i (t * most_instructions) (get_or waiting t 0) b few)
-
-  pub bar_here : j < i → bars p q (get_or b (t * most_instructions + j) blank_waiting).entry ≡ true
-      → j ≡ first_bar p q (take i (buffer_in b waiting t))
-  unfolding first_bar pick
-  bar_here h e =
-      let r : j + 0 ≡ first_bar p q (part (t * most_instructions) i b)
-      = rw (part_next (t * most_instructions) i j b blank_waiting h o.long, e) at o.rest in
-      sym (add-zero j) ∙ r ∙ bar_front
-
-  pub bar_end : i ≤ j → i ≡ first_bar p q (take i (buffer_in b waiting t))
-  unfolding first_bar
-  bar_end h =
-      let same : i ≡ j + 0 = let w = o.within in omega arith in
-      let r : j + 0 ≡ first_bar p q (part (t * most_instructions) i b)
-      = rw (part_end (t * most_instructions) i j b h) at o.rest in
-      same ∙ r ∙ bar_front

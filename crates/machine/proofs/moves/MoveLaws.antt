@@ -40,7 +40,7 @@ module _ {n : ℕ} {e : Entry} (h : Named n e) where
   unfolding Named
   move_store_named w p = rw p at h
 
-  flush_named : (l : Location) → e ≡ Flush l → l.0 < n
+  pub flush_named : (l : Location) → e ≡ Flush l → l.0 < n
   unfolding Named
   flush_named l p = rw p at h
 

@@ -9,7 +9,7 @@ use mathlib.Core.List.{List, [], ◌∷◌}
 use Rattle.cases.specs.declared.case.Step.{Step}
 use Rattle.cases.specs.declared.case.Program.{Program}
 use Rattle.cases.specs.Checks.{limits_of, step_fault, count_at, instruction_at}
-use Rattle.cases.specs.Sizes.{most_threads, most_instructions, most_locations, most_registers}
+use Rattle.cases.specs.Sizes.{most_threads, most_instructions, most_locations}
 use Rattle.cases.proofs.ChoiceLaws.{pick_true, pick_false}
 use Rattle.cases.proofs.Promises.{thread_low}
 use Rattle.cases.specs.Operations.{issue, move}
@@ -18,11 +18,11 @@ use Rattle.machine.specs.declared.cells.Waiting.{Waiting}
 use Rattle.machine.specs.declared.cells.Entry.{Entry}
 use Rattle.machine.specs.declared.cells.Entry.TheVariants.{Store, Flush, FlushOpt, Sfence}
 use Rattle.machine.specs.Sizes.{room}
-use Rattle.machine.specs.View.{line_of, queue_len, buffer, buffer_len, issued_of}
+use Rattle.machine.specs.View.{queue_len, buffer, buffer_len, issued_of}
 use Rattle.machine.specs.Parts.{parts_of}
 use Rattle.machine.specs.Rules.{issue_rule, move_rule, persist_rule, rule_in, rule_of, entry_at}
 use Rattle.cases.specs.Ranges.{ProgramFits}
-use Rattle.machine.specs.Fit.{Fits, Named, Shallow, Roomy, unissued, due, AllOf, NamedBy}
+use Rattle.machine.specs.Fit.{Fits, Issuable, Named, Roomy, unissued, due, AllOf, NamedBy}
 use Rattle.machine.proofs.lists.SumLaws.{sum_part}
 use Rattle.machine.proofs.view.LineOfLaws.{few_lines, line_low}
 use Rattle.machine.proofs.fit.FitLaws.{fits_queue_within, fits_buffer_within}
@@ -47,7 +47,7 @@ first_entry n (w ∷ b) h a = named_low n w.entry h a.0
 
 -- the rules by their codes, over the parts they look at
 module _ (p : Program) (g : ProgramFits p) (k : Step) (faultless : step_fault (limits_of p) k ≡ 0) where
-  taken_low : k.code ≤ 1 → k.thread.0 < most_threads
+  pub taken_low : k.code ≤ 1 → k.thread.0 < most_threads
   taken_low h = thread_low g ((fault_none p k faultless).low_thread h)
 
   pub persist_low : k.code ≢ 0 → k.code ≢ 1 → k.location.0 < most_locations
@@ -59,10 +59,6 @@ module _ (p : Program) (g : ProgramFits p) (k : Step) (faultless : step_fault (l
       omega arith
 
 module _ (p : Program) (s : State) (f : Fits p s) where
-  pub shallow : Shallow s.lengths
-  unfolding Shallow
-  shallow q h = fits_queue_within p s f q h
-
   pub head_named : (t : ℕ) → t < most_threads → Named most_locations (entry_at (buffer s t) 0)
   head_named t h = first_entry p.locations (buffer s t) f.program.sized.few_locations (f.named t h)
 
@@ -83,19 +79,6 @@ module _ (p : Program) (s : State) (f : Fits p s) where
   due_unissued t low h = let w = sum_part most_threads t (unissued p s) low in omega arith
 
   module _ (k : Step) (faultless : step_fault (limits_of p) k ≡ 0) where
-    -- what the rules of an issue and of a move ask for
-    pub issue_rule_ready : k.code ≡ issue
-        → (k.thread.0 < most_threads) × (count_at p k.thread.0 ≤ most_instructions) × Shallow s.lengths
-    issue_rule_ready h =
-        (taken_low p f.program k faultless (omega arith), f.program.sized.few_instructions k.thread.0, shallow)
-
-    pub move_rule_ready : k.code ≡ move
-        → ProgramFits p × (k.thread.0 < most_threads) × (buffer_len s k.thread.0 ≤ most_instructions)
-        × Named most_locations (entry_at (buffer s k.thread.0) 0) × Shallow s.lengths
-    move_rule_ready h =
-        let low = taken_low p f.program k faultless (omega arith) in
-        (f.program, low, fits_buffer_within p s f k.thread.0 low, head_named k.thread.0 low, shallow)
-
     -- the three steps, where they are legal
     module _ (legal : rule_of p s k ≡ 0) where
       issue_legal : k.code ≡ issue → issue_rule p (parts_of s) k.thread.0 ≡ 0
@@ -114,14 +97,8 @@ module _ (p : Program) (s : State) (f : Fits p s) where
           sym (pick_false _ _ _ (ne_eqb _ _ h) ∙ pick_false _ _ _ (ne_eqb _ _ g)) ∙ legal
 
       pub issue_ready : k.code ≡ issue
-          → (k.thread.0 < most_threads) × (issued_of s k.thread.0 < most_instructions)
-          × (buffer_len s k.thread.0 < most_instructions)
-          × ((instruction_at p k.thread.0 (issued_of s k.thread.0)).location.0 < most_locations)
-          × ((instruction_at p k.thread.0 (issued_of s k.thread.0)).register.0 < most_registers)
-          × (line_of p (instruction_at p k.thread.0 (issued_of s k.thread.0)).location.0
-          < most_locations)
-          × (queue_len s (line_of p (instruction_at p k.thread.0 (issued_of s k.thread.0)).location.0)
-          < room)
+          → (issued_of s k.thread.0 < most_instructions)
+          × Issuable p s k.thread.0 (instruction_at p k.thread.0 (issued_of s k.thread.0))
       issue_ready h =
           let low = taken_low p f.program k faultless (omega arith) in
           let left : issued_of s k.thread.0 < count_at p k.thread.0
@@ -135,8 +112,17 @@ module _ (p : Program) (s : State) (f : Fits p s) where
           let reg = fits.low_register in
           let l : (instruction_at p k.thread.0 (issued_of s k.thread.0)).location.0 < most_locations
           = omega arith in
-          let q = line_low p f.program _ l in
-          (low, omega arith, omega arith, l, reg, q, queue_room (due_unissued k.thread.0 low some) _ q)
+          let q = line_low p f.program _ l in (
+            omega arith,
+            record {
+              low_thread = low;
+              low_location = l;
+              low_register = reg;
+              low_line = q;
+              queue_room = queue_room (due_unissued k.thread.0 low some) _ q;
+              buffer_room = omega arith;
+            },
+          )
 
       pub move_ready : k.code ≡ move
           → ProgramFits p × (k.thread.0 < most_threads) × (k.position < buffer_len s k.thread.0)

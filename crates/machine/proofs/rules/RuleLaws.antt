@@ -7,6 +7,10 @@ use native.Mathlib.Omega.{arith}
 use mathlib.Core.List.{List}
 use Rattle.cases.specs.declared.case.Step.{Step}
 use Rattle.cases.specs.declared.case.Program.{Program}
+use Rattle.cases.specs.declared.fault.Fault.{Fault}
+use Rattle.cases.specs.declared.fault.Fault.TheVariants.{Cut, UnknownKind, Length, Misplaced, Range, Disorder}
+use Rattle.cases.specs.declared.fault.Fault.TheVariants.{TooMany, Unused, TooManySteps, Unset}
+use Rattle.cases.specs.Fault.{fault_no}
 use Rattle.cases.specs.Choice.{refuse}
 use Rattle.cases.proofs.ChoiceLaws.{pick_cases}
 use Rattle.machine.specs.declared.cells.State.{State}
@@ -17,12 +21,11 @@ use Rattle.machine.specs.declared.rule.Rule.{Rule}
 use Rattle.machine.specs.declared.rule.Rule.TheVariants.{NothingToIssue, BufferNotEmpty, MarkerQueued, NothingThere}
 use Rattle.machine.specs.declared.rule.Rule.TheVariants.{OnlyFlushOpt, HeldBack, LineNotEmpty, MarkerBeforeSfence}
 use Rattle.machine.specs.declared.rule.Rule.TheVariants.{NothingQueued}
-use Rattle.std.specs.Prelude.{Result, Ok, Err}
 use Rattle.machine.specs.Parts.{Parts}
 use Rattle.machine.specs.Rules.{barrier_rule, operation_rule, issue_rule, effect_rule, pass_rule, move_rule}
-use Rattle.machine.specs.Rules.{rule_number, broken, persist_rule, rule_in, rule_of}
+use Rattle.machine.specs.Rules.{rule_number, persist_rule, rule_in, rule_of}
 
--- a rule has a number; of a test that says no rule it is 0
+-- a rule has a number
 pub rule_some : (r : Rule) → rule_number r ≢ 0
 rule_some NothingToIssue e = omega arith
 rule_some BufferNotEmpty e = omega arith
@@ -34,9 +37,18 @@ rule_some LineNotEmpty e = omega arith
 rule_some MarkerBeforeSfence e = omega arith
 rule_some NothingQueued e = omega arith
 
-pub broken_none : (x : Result (Unit {0}) Rule) → ((r : Rule) → x ≢ Err r) → broken x ≡ 0
-broken_none (Ok u) h = refl
-broken_none (Err r) h = absurd (h r refl)
+-- so has a fault of a step
+pub fault_some : (f : Fault) → fault_no f ≢ 0
+fault_some Cut e = omega arith
+fault_some UnknownKind e = omega arith
+fault_some Length e = omega arith
+fault_some Misplaced e = omega arith
+fault_some Range e = omega arith
+fault_some Disorder e = omega arith
+fault_some TooMany e = omega arith
+fault_some Unused e = omega arith
+fault_some TooManySteps e = omega arith
+fault_some Unset e = omega arith
 
 -- 0, or one of the numbers from a to b
 abbrev pub Between : ℕ → ℕ → ℕ → Type 0

@@ -15,7 +15,7 @@ use Rattle.cases.specs.Draft.{no_step}
 use Rattle.cases.proofs.ChoiceLaws.{pick_true, pick_false, true_not, false_not}
 use Rattle.machine.specs.declared.cells.State.{State}
 use Rattle.machine.specs.declared.blocker.Blocker.{Blocker}
-use Rattle.machine.specs.declared.steps.Ruling.TheVariants.{Allowed, Broken}
+use Rattle.machine.specs.declared.steps.Ruling.TheVariants.{Allowed, Broken, Declined}
 use Rattle.machine.specs.declared.runs.Verdict.{Verdict}
 use Rattle.machine.specs.declared.runs.Verdict.TheVariants.{Legal, Illegal}
 use Rattle.machine.specs.declared.runs.Judged.{Judged}
@@ -148,6 +148,13 @@ module _ (m : Model State Step) (s : State) (ks : List Step) where
             subst (λ n. m.rule e.1 (get_or ks n no_step) ≡ r) w.1 w.0,
             subst (λ n. m.blocker e.1 (get_or ks n no_step) ≡ b) w.1 w.2,
           )
+
+-- A single step that 5 or 8 declines
+pub stepped_declined : (m : Model State Step) (s : State) (k : Step) (n : ℕ) → n ≡ m.fault k → n ≢ 0
+    → told (Declined n) s ≡ stepped_of m s k
+unfolding stepped_of
+stepped_declined m s k n e d =
+    ap (λ x. told (Declined x) s) e ∙ sym (pick_true _ _ _ (false_not _ (ne_eqb _ 0 (λ z. d (e ∙ z)))))
 
 -- A single step that passes the checks 5 and 8: it breaks a rule; it breaks none
 module _ (m : Model State Step) (s : State) (k : Step) (f : m.fault k ≡ 0) where

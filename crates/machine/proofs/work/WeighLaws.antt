@@ -1,32 +1,20 @@
--- Laws of `weigh`; what an instruction, an entry and a part of an array weigh at most; what is told of the work.
--- Assumes nothing.
+-- Laws of `weigh`; what an instruction, an entry and a list of them weigh at most. Assumes nothing.
 use Prim.Native.Nat.{ℕ, zero, suc, ◌+◌, ◌*◌, ◌≤◌, ◌<◌}
 use mathlib.Core.Path.{◌≡◌, refl, ◌∙◌}
 use mathlib.Core.List.{List, [], ◌∷◌, ◌++◌}
-use mathlib.Core.Bool.{true, false}
 use native.Mathlib.Omega.{arith}
 use native.Mathlib.Nat.{mul-le-mul_right}
 use native.Mathlib.Numerals.{add-one}
-use lib.ListN.{length, get_or, take, drop, length-take}
+use lib.ListN.{length, get_or}
 use Rattle.std.specs.List.{sum_by}
 use Rattle.std.proofs.lemmas.List.Sums.{sum_by-cons}
-use Rattle.cases.specs.declared.case.Case.{Case}
 use Rattle.cases.specs.declared.case.Program.{Program}
-use Rattle.cases.specs.Checks.{count_at}
-use Rattle.cases.specs.Sizes.{most_instructions}
-use Rattle.cases.specs.Choice.{pick}
-use Rattle.cases.specs.Writing.{reads_back}
 use Rattle.machine.specs.declared.cells.State.{State}
 use Rattle.machine.specs.declared.cells.Waiting.{Waiting}
 use Rattle.machine.specs.declared.cells.Entry.{Entry}
 use Rattle.machine.specs.declared.cells.Entry.TheVariants.{Store, Flush, FlushOpt, Sfence}
-use Rattle.std.specs.Prelude.{Ok}
-use Rattle.machine.specs.View.{part, without, buffer_in, buffer, buffer_len}
-use Rattle.machine.specs.Rules.{start_of}
-use Rattle.machine.specs.Fit.{misfits, unissued}
-use Rattle.machine.specs.Work.{work, weigh, unissued_weight, waiting_weight, code_weight, entry_weight, unissued_code, thread_work}
-use Rattle.machine.specs.Model.{full_length}
-use Rattle.machine.specs.Judge.{work_of, full_of}
+use Rattle.machine.specs.View.{without, buffer}
+use Rattle.machine.specs.Work.{weigh, unissued_weight, waiting_weight, code_weight, entry_weight, unissued_code, thread_work}
 use Rattle.cases.proofs.ChoiceLaws.{pick_cases}
 
 -- one and the rest; two lists joined; one taken out; each at most `most`
@@ -78,45 +66,26 @@ entry_most w = go w.entry
     go (FlushOpt l) = omega arith
     go Sfence = omega arith
 
--- the library's sum of weights, and what a part of an array weighs at most
+-- the library's sum of weights, and what it is at most
 module _ {A : Type 0} (f : A → ℕ) where
   pub weigh_is : (xs : List A) → sum_by f xs ≡ weigh f xs
   unfolding weigh
   weigh_is [] = refl
   weigh_is (x ∷ xs) = sum_by-cons f x xs ∙ rw (weigh_is xs)
 
-  pub weigh_part : (most : ℕ) → ((x : A) → f x ≤ most) → (base n few : ℕ) (xs : List A) → n ≤ few
-      → weigh f (part base n xs) ≤ few * most
-  unfolding part
-  weigh_part most h base n few xs k =
-      let w = weigh_most f most h (take n (drop base xs)) in
-      let l : length (take n (drop base xs)) ≤ few = rw length-take (omega arith) in
-      let m = mul-le-mul_right {m = length (take n (drop base xs))} {n = few} most l in
+  pub summed_most : (most few : ℕ) → ((x : A) → f x ≤ most) → (xs : List A) → length xs ≤ few → sum_by f xs ≤ most * few
+  summed_most most few h xs l =
+      let w = weigh_most f most h xs in
+      let e = weigh_is xs in
+      let m = mul-le-mul_right {m = length xs} {n = few} most l in
       omega arith
 
 -- a thread's work, as the code sums it
 pub thread_weighed : (p : Program) (s : State) (t a b : ℕ) → a ≡ sum_by code_weight (unissued_code p s t)
     → b ≡ sum_by entry_weight (buffer s t)
-    → count_at p t ≤ most_instructions
-    → buffer_len s t ≤ most_instructions
-    → (a + b ≡ thread_work p s t) × (a + b ≤ 5 * most_instructions)
-unfolding thread_work unissued_code unissued buffer_in
-thread_weighed p s t a b e f h k =
+    → a + b ≡ thread_work p s t
+unfolding thread_work
+thread_weighed p s t a b e f =
     let x = weigh_is code_weight (unissued_code p s t) in
     let y = weigh_is entry_weight (buffer s t) in
-    let v : weigh code_weight (unissued_code p s t) ≤ most_instructions * 3
-    = weigh_part code_weight 3 (λ i. weight_most i.operation) _ _ most_instructions _ (omega arith) in
-    let w : weigh entry_weight (buffer s t) ≤ most_instructions * 2
-    = weigh_part entry_weight 2 entry_most _ _ most_instructions _ k in
-    (omega arith, omega arith)
-
--- what is told of a case that passes 32: with a state that passes 33, and of its full length
-module _ (c : Case) (readable : reads_back c ≡ true) where
-  pub work_told : (s : State) → misfits c.program s ≡ false → (n : ℕ) → n ≡ work c.program s
-      → Ok n ≡ work_of c s
-  unfolding work_of pick
-  work_told s h n e = rw (readable, h, e)
-
-  pub full_told : (s : State) → s ≡ start_of c.program → (n : ℕ) → n ≡ work c.program s → Ok n ≡ full_of c
-  unfolding full_of full_length pick
-  full_told s h n e = rw (readable, e, h)
+    omega arith

@@ -13,7 +13,7 @@ loop-q-init c =
     let e = c.all_unissued.ensures in
     let f = c.total.ensures in
     let w : c.total.result ≡ sum_to most_threads (buffer_len c.args.s.now) = f.is ∙ sum_counted _ _ (omega arith) in
-    ((omega arith, omega arith), any_start _ _)
+    (omega arith, any_start _ _)
 
 pub returns-then-queue_misfits : goal.returns-then-queue_misfits
 returns-then-queue_misfits c =

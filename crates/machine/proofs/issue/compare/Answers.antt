@@ -12,11 +12,11 @@ sized c = search rules
 pub returns-then-u-at : goal.returns-then-u-at
 returns-then-u-at c =
     let long = sized (goal.at.returns-then-u-at c).Start in
-    compare_some c.args.p.now c.args.s _ c.args.x long c.requires.0 c.requires.2 _ c.fetch-u.ensures
+    compare_some c.args.p.now c.args.s _ c.args.x long c.requires.low_thread c.requires.low_register _ c.fetch-u.ensures
     c.if-u-at.true _ _ c.line_of.ensures c.enqueue.ensures
 
 pub returns : goal.returns
 returns c =
     let long = sized (goal.at.returns c).Start in
-    compare_none c.args.p.now c.args.s _ c.args.x long c.requires.0 c.requires.2 _ c.fetch-u.ensures
+    compare_none c.args.p.now c.args.s _ c.args.x long c.requires.low_thread c.requires.low_register _ c.fetch-u.ensures
     c.if-u-at.false

@@ -1,22 +1,19 @@
 use Rattle.std.proofs.Common.{sym, ◌∙◌, arith}
 use Rattle.machine.specs.Judge.{judge_run, judged}
-use Rattle.machine.proofs.rules.RuleLaws.{rule_some, broken_none}
+use Rattle.machine.proofs.rules.RuleLaws.{rule_some}
 use Rattle.machine.proofs.blocker.BlockerLaws.{blocker_ready, blocker_is}
 use Rattle.machine.proofs.runs.JudgeLoopLaws.{judging_start, judging_next, judging_here}
-use Rattle.machine.proofs.runs.JudgeLoopLaws.{judging_end}
+use Rattle.machine.proofs.runs.JudgeLoopLaws.{judging_end, run_long}
 use Rattle.machine.proofs.runs.judge_run.Goals as goal
 
 pub loop-i-init : goal.loop-i-init
 loop-i-init c =
     judging_start c.args.c.now _ c.requires c.start_of-s.ensures
 
-pub bounds-c-i : goal.bounds-c-i
-bounds-c-i c = let o = c.loop-i.invariant in omega (arith, o.few)
-
 pub rule-requires : goal.rule-requires
 rule-requires c =
     let o = c.loop-i.invariant in
-    (o.fit, o.faultless _ (omega arith))
+    o.faultless _ (omega arith)
 
 pub blocker_by-requires : goal.blocker_by-requires
 blocker_by-requires c =
@@ -34,13 +31,13 @@ returns-in-Err c =
 pub take_step-s-requires : goal.take_step-s-requires
 take_step-s-requires c =
     let o = c.loop-i.invariant in
-    (o.fit, o.faultless _ (omega arith), sym c.rule.ensures ∙ broken_none _ c.in_default.not-Err)
+    (o.fit, o.faultless _ (omega arith), sym c.in_default.ensures)
 
 pub loop-i-preserved : goal.loop-i-preserved
 loop-i-preserved c =
     let o = c.loop-i.invariant in
-    judging_next o (omega arith) _ (sym c.rule.ensures ∙ broken_none _ c.in_default.not-Err) c.take_step-s.ensures
+    judging_next o (omega arith) _ (sym c.in_default.ensures) c.take_step-s.ensures
 
 pub returns : goal.returns
 unfolding judge_run judged
-returns c = judging_end c.loop-i.invariant (omega arith)
+returns c = judging_end c.loop-i.invariant (omega arith) _ (run_long _ c.requires)

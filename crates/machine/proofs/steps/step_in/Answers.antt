@@ -1,39 +1,27 @@
 -- `step_in` meets its contract: 5 and 8, then the rules. Assumes nothing.
 use Rattle.std.proofs.Common.{sym, ◌∙◌}
-use Rattle.cases.proofs.ChoiceLaws.{choices}
-use Rattle.machine.specs.Judge.{stepped_of, told}
-use Rattle.machine.proofs.rules.RuleLaws.{rule_some, broken_none}
+use Rattle.machine.specs.Judge.{told}
+use Rattle.machine.proofs.rules.RuleLaws.{rule_some, fault_some}
 use Rattle.machine.proofs.blocker.BlockerLaws.{blocker_ready, blocker_is}
-use Rattle.machine.proofs.runs.JudgeLaws.{stepped_broken, stepped_legal}
+use Rattle.machine.proofs.runs.JudgeLaws.{stepped_declined, stepped_broken, stepped_legal}
 use Rattle.machine.proofs.steps.step_in.Goals as goal
-
-pub returns-then-fault-ne0 : goal.returns-then-fault-ne0
-unfolding stepped_of told
-returns-then-fault-ne0 c = rw (← c.step_fault-fault.ensures) (search choices)
-
-pub rule-requires : goal.rule-requires
-rule-requires c = (c.requires, sym c.step_fault-fault.ensures ∙ c.if-fault-ne0.false)
-
-pub blocker_by-requires : goal.blocker_by-requires
-blocker_by-requires c =
-    let faultless = sym c.step_fault-fault.ensures ∙ c.if-fault-ne0.false in
-    blocker_ready _ _ c.requires _ faultless _ c.in-Err.ensures
 
 pub returns-in-Err : goal.returns-in-Err
 unfolding told
 returns-in-Err c =
-    let faultless = sym c.step_fault-fault.ensures ∙ c.if-fault-ne0.false in
-    let b = blocker_is _ _ _ _ c.in-Err.ensures _ c.blocker_by.ensures in
     let n = c.number.ensures in
-    stepped_broken _ _ _ faultless _ (n ∙ c.in-Err.ensures) (λ z. rule_some _ (sym n ∙ z)) _ b
+    stepped_declined _ _ _ _ (n ∙ c.in-Err.ensures) (λ z. fault_some _ (sym n ∙ z))
 
-pub take_step-requires : goal.take_step-requires
-take_step-requires c =
-    let faultless = sym c.step_fault-fault.ensures ∙ c.if-fault-ne0.false in
-    (c.requires, faultless, sym c.rule.ensures ∙ broken_none _ c.in_default.not-Err)
+pub blocker_by-requires : goal.blocker_by-requires
+blocker_by-requires c = blocker_ready _ _ c.requires _ (sym c.in_default.ensures) _ c.in-Err-rule.ensures
+
+pub returns-in-Err-rule : goal.returns-in-Err-rule
+unfolding told
+returns-in-Err-rule c =
+    let b = blocker_is _ _ _ _ c.in-Err-rule.ensures _ c.blocker_by.ensures in
+    let n = c.number-in-Err-rule.ensures in
+    stepped_broken _ _ _ (sym c.in_default.ensures) _ (n ∙ c.in-Err-rule.ensures) (λ z. rule_some _ (sym n ∙ z)) _ b
 
 pub returns : goal.returns
 unfolding told
-returns c =
-    let faultless = sym c.step_fault-fault.ensures ∙ c.if-fault-ne0.false in
-    stepped_legal _ _ _ faultless _ (sym c.rule.ensures ∙ broken_none _ c.in_default.not-Err) c.take_step.ensures
+returns c = stepped_legal _ _ _ (sym c.in_default.ensures) _ (sym c.in_default-rule.ensures) c.take_step.ensures

@@ -1,17 +1,9 @@
 use Rattle.std.proofs.Common.{arith}
-use Rattle.machine.proofs.fit.FitLaws.{fits_buffer_within}
 use Rattle.machine.proofs.lists.SumLaws.{sum_start, sum_next, sum_end}
-use Rattle.machine.proofs.work.threads_work.Goals as goal
+use Rattle.machine.proofs.fitted.Fitted.threads_work.Goals as goal
 
 pub loop-t-init : goal.loop-t-init
 loop-t-init c = sum_start _ _ _
-
-pub thread_work-total-requires : goal.thread_work-total-requires
-thread_work-total-requires c =
-    let f = c.requires in
-    let t = c.loop-t.t in
-    let within = fits_buffer_within _ _ f t in
-    (omega arith, f.few_issued t (omega arith), f.program.sized.few_instructions t, within (omega arith))
 
 pub overflow_add-total : goal.overflow_add-total
 overflow_add-total c =
