@@ -33,15 +33,15 @@ fn meet(v: &View, limit: u32, left: u32, memory: &mut [u32]) -> Met
     ensures { Meets result memory.old memory.new limit left
         (key_lanes v.now.c.now.numbers v.now.x.now) }
 {
-    let n = v.pool_end();
-    let b = table::bucket(limit, v.x, n);
-    if table::is_kept(memory, limit, limit - left, b, v.x, n) {
+    let key = &v.x[..v.pool_end()];
+    let b = table::bucket(limit, key);
+    if table::is_kept(memory, limit, limit - left, b, key) {
         return Met::Before;
     }
     if left == 0 {
         return Met::Full;
     }
-    table::keep(memory, limit, limit - left, b, v.x, n);
+    table::keep(memory, limit, limit - left, b, key);
     Met::New
 }
 
