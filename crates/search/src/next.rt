@@ -128,6 +128,40 @@ fn is_entry_barred(v: &View, t: Thread, base: usize, i: usize) -> bool
     is_pass_barred(v, base, i, tag)
 }
 
+// A step of each code; what says nothing in one is 0 there.
+fn issue_step(t: Thread) -> Step
+    ensures { result ≡ issue_step t.0 }
+{
+    Step {
+        thread: t,
+        code: ISSUE,
+        position: 0,
+        location: Location(0),
+    }
+}
+
+fn move_step(t: Thread, i: u8) -> Step
+    ensures { result ≡ move_step t.0 i }
+{
+    Step {
+        thread: t,
+        code: MOVE,
+        position: i,
+        location: Location(0),
+    }
+}
+
+fn persist_step(q: Line) -> Step
+    ensures { result ≡ persist_step q.0 }
+{
+    Step {
+        thread: Thread(0),
+        code: PERSIST,
+        position: 0,
+        location: Location(q.0),
+    }
+}
+
 // A step's rank in the order.
 #[tactic(auto, unfolding(machine::specs::Next::rank_of))]
 fn rank(k: Step) -> u8
@@ -160,15 +194,7 @@ fn offer_issues(v: &View, to: &mut Ranks)
 {
     for t in 0..(v.c.threads() as u8) {
         let barred = is_issue_barred(v, Thread(t));
-        to.offer(
-            barred,
-            Step {
-                thread: Thread(t),
-                code: ISSUE,
-                position: 0,
-                location: Location(0),
-            },
-        );
+        to.offer(barred, issue_step(Thread(t)));
     }
 }
 
@@ -185,15 +211,7 @@ fn offer_moves_of(v: &View, t: Thread, base: usize, to: &mut Ranks)
     let many = v.row_len(rows::buffer_row(t)) as u8;
     for i in 0..many {
         let barred = is_entry_barred(v, t, base, i as usize);
-        to.offer(
-            barred,
-            Step {
-                thread: t,
-                code: MOVE,
-                position: i,
-                location: Location(0),
-            },
-        );
+        to.offer(barred, move_step(t, i));
     }
 }
 
@@ -218,15 +236,7 @@ fn offer_persists(v: &View, to: &mut Ranks)
 {
     for q in 0..(v.c.lines() as u8) {
         let barred = v.row_len(v.c.queue_row(Line(q))) == 0;
-        to.offer(
-            barred,
-            Step {
-                thread: Thread(0),
-                code: PERSIST,
-                position: 0,
-                location: Location(q),
-            },
-        );
+        to.offer(barred, persist_step(Line(q)));
     }
 }
 
@@ -251,25 +261,11 @@ pub(crate) fn step_at(r: u8) -> Step
 {
     let n = r as usize;
     if n < RANKS {
-        return Step {
-            thread: Thread((n / INSTRUCTIONS) as u8),
-            code: ISSUE,
-            position: 0,
-            location: Location(0),
-        };
+        return issue_step(Thread((n / INSTRUCTIONS) as u8));
     }
     if n < 2 * RANKS {
-        return Step {
-            thread: Thread(((n - RANKS) / INSTRUCTIONS) as u8),
-            code: MOVE,
-            position: ((n - RANKS) % INSTRUCTIONS) as u8,
-            location: Location(0),
-        };
+        let t = Thread(((n - RANKS) / INSTRUCTIONS) as u8);
+        return move_step(t, ((n - RANKS) % INSTRUCTIONS) as u8);
     }
-    Step {
-        thread: Thread(0),
-        code: PERSIST,
-        position: 0,
-        location: Location((n - 2 * RANKS) as u8),
-    }
+    persist_step(Line((n - 2 * RANKS) as u8))
 }
