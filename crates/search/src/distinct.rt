@@ -20,8 +20,6 @@ use crate::walk::Walked;
 use crate::{ask, recall, start, table};
 use cases::case::{Ask, Program};
 use cases::reader;
-use cases::sizes::STEP_SIZE;
-use machine::{steps, work};
 
 // The answer, and how many distinct states there are, where all were gone through and none reaches; else 0.
 #[derive(Clone, Copy)]
@@ -77,8 +75,7 @@ fn ask_distinct(p: &Program, a: &Ask, run: &mut [u8], memory: &mut [u32], budget
         × (run.new ≡ shown_after (ptso p.now) (recall_for p.now a.now (length memory.old) budget) run.old)
         × (memory.new ≡ cleared_for p.now (length run.old) memory.old) }
 {
-    let s = steps::start_of(*p);
-    if run.len() < STEP_SIZE * work::work_in(*p, s) {
+    if ask::is_short(p, run.len()) {
         return Remembered {
             outcome: Outcome::Refused(31, 0),
             states: 0,
