@@ -29,14 +29,11 @@ pub struct Remembered {
 }
 
 // How many states are covered: the smaller of the budget and of what the memory has room for.
+#[tactic(auto, using(crate::proofs::distinct::LimitLaws::covers_min))]
 fn covers(words: usize, budget: u32) -> u32
     ensures { result ≡ covers_of words budget }
 {
-    let room = words / STATE;
-    if room < (budget as usize) {
-        return room as u32;
-    }
-    budget
+    (words / STATE).min(budget as usize) as u32
 }
 
 // How many were gone through, by what is left of the limit.

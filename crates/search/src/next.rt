@@ -7,17 +7,17 @@ ghost use Rattle.machine.specs.Rules.{is_barrier};
 ghost use Rattle.machine.specs.Next.{issue_step, move_step, persist_step, rank_of};
 ghost use Rattle.search.specs.Sizes.{most_lanes};
 ghost use Rattle.search.specs.Listing.{threads_in, lines_in};
-ghost use Rattle.search.specs.Rows.{row_len, row_start, FewEntries};
+ghost use Rattle.search.specs.Rows.{row_len, row_start};
 ghost use Rattle.search.specs.Barred.{bars_tag, bars_at, operation_barred, issue_barred, head_barred, pass_barred};
-ghost use Rattle.search.specs.Barred.{entry_barred, move_barred, persist_barred, next_with, offered, offered_from};
+ghost use Rattle.search.specs.Barred.{entry_barred, move_barred, persist_barred, offered, offered_from};
 ghost use Rattle.search.specs.Barred.{offered_moves, next_lanes, step_at};
 
 use crate::kinds::Kind;
 use crate::listing::Listing;
 use crate::operations::{COMPARE, EXCHANGE, MFENCE};
 use crate::rows::View;
-use crate::sizes::{COUNTS, LANES};
-use crate::{kinds, listing, rows};
+use crate::sizes::COUNTS;
+use crate::{listing, rows};
 use cases::case::{Line, Location, Step, Thread};
 use cases::operations::{ISSUE, MOVE, PERSIST};
 use cases::sizes::INSTRUCTIONS;
@@ -36,10 +36,10 @@ pub struct Ranks {
 fn is_bar(c: &Listing, tag: u32, q: Line) -> bool
     ensures { result ≡ bars_tag c.now.numbers q.0 tag }
 {
-    match kinds::kind_of(tag) {
+    match Kind::from(tag) {
         Kind::Sfence => true,
         Kind::FlushOpt(_) => false,
-        Kind::Flush(l) | Kind::Store(l) => c.line_of(l).0 == q.0,
+        Kind::Flush(l) | Kind::Store(l) => c.line_of(l) == q,
     }
 }
 
@@ -97,7 +97,7 @@ fn is_issue_barred(v: &View, t: Thread) -> bool
 fn is_head_barred(v: &View, t: Thread, tag: u32) -> bool
     ensures { result ≡ head_barred v.now.c.now.numbers v.now.x.now t.0 tag }
 {
-    match kinds::kind_of(tag) {
+    match Kind::from(tag) {
         Kind::Sfence => v.is_marked(t),
         Kind::Flush(l) => v.row_len(v.c.queue_row(v.c.line_of(l))) != 0,
         Kind::FlushOpt(_) | Kind::Store(_) => false,
@@ -110,7 +110,7 @@ fn is_pass_barred(v: &View, base: usize, i: usize, tag: u32) -> bool
     requires { base + 2 * i ≤ most_lanes }
     ensures { result ≡ pass_barred v.now.c.now.numbers v.now.x.now base i tag }
 {
-    match kinds::kind_of(tag) {
+    match Kind::from(tag) {
         Kind::FlushOpt(l) => is_barred(v, base, i, v.c.line_of(l)),
         Kind::Sfence | Kind::Flush(_) | Kind::Store(_) => true,
     }

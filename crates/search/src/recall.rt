@@ -2,7 +2,6 @@
 // meeting, and never gone below twice.
 ghost use Rattle.std.specs.Prelude.{◌≡◌, ◌-◌, ◌<◌, ◌≤◌, length};
 ghost use Rattle.search.specs.Seek.{walked_of, stored_of};
-ghost use Rattle.search.specs.Rows.{FewEntries};
 ghost use Rattle.search.specs.Held.{Held};
 ghost use Rattle.search.specs.Table.{keys_in, Chained};
 ghost use Rattle.search.specs.Recall.{met_by, key_lanes, new_from, sought_new, MetAfter, Meets};

@@ -16,7 +16,7 @@ use crate::operations::{
 };
 use crate::rows::{Row, View};
 use crate::sizes::{FLUSH_OPT_TAG, FLUSH_TAG, LANES, SFENCE_TAG};
-use crate::{kinds, listing, rows};
+use crate::{listing, rows};
 use cases::case::{Line, Location, Step, Thread};
 use cases::operations::{ISSUE, MOVE};
 
@@ -163,7 +163,7 @@ fn fetch(c: &Listing, x: &mut [u32; LANES], t: Thread, at: usize)
 }
 
 // The word goes to the end of the location's queue.
-#[tactic(auto, using(crate::proofs::taken::RowLenLaws::fetched_room, crate::proofs::rows::RowLoopLaws::queue_low), unfolding(crate::specs::Taken::exchanged_lanes))]
+#[tactic(auto, using(crate::proofs::taken::RowLenLaws::fetched_room, crate::proofs::listing::ListingLaws::queue_low), unfolding(crate::specs::Taken::exchanged_lanes))]
 #[inline(never)]
 fn exchange(c: &Listing, x: &mut [u32; LANES], t: Thread, at: usize)
     requires { CodeHere c.now.numbers x.old t.0 at }
@@ -210,7 +210,7 @@ fn perform(c: &Listing, x: &mut [u32; LANES], t: Thread, at: usize)
     }
 }
 
-#[tactic(auto, using(crate::proofs::rows::RowLoopLaws::code_low, crate::proofs::taken::RowLenLaws::code_here), unfolding(crate::specs::Taken::issue_lanes))]
+#[tactic(auto, using(crate::proofs::listing::ListingLaws::code_low, crate::proofs::taken::RowLenLaws::code_here), unfolding(crate::specs::Taken::issue_lanes))]
 fn issue(c: &Listing, x: &mut [u32; LANES], t: Thread)
     requires { RoomForOne c.now.numbers x.old × (t.0 < threads_in c.now.numbers)
         × (get_or x.old t.0 0 < count_in c.now.numbers t.0) }
@@ -229,7 +229,7 @@ fn move_tagged(c: &Listing, x: &mut [u32; LANES], t: Thread, at: usize, tag: u32
         × (at + 2 ≤ row_start c.now.numbers x.old (t.0 + 1)) }
     ensures { x.new ≡ moved_lanes c.now.numbers x.old t.0 at tag }
 {
-    match kinds::kind_of(tag) {
+    match Kind::from(tag) {
         Kind::Sfence | Kind::Flush(_) => leave(c, x, rows::buffer_row(t), at),
         Kind::FlushOpt(l) => carry_over(c, x, t, at, c.line_of(l), rows::mark_of(t)),
         Kind::Store(l) => carry_over(c, x, t, at, c.line_of(l), tag),
