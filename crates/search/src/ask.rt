@@ -70,7 +70,8 @@ pub(crate) fn is_short(p: &Program, room: usize) -> bool
     room < STEP_SIZE * work::work_in(*p, s)
 }
 
-// The question of a program that the machine can run: 31, then the walk.
+// The question of a program that the machine can run: 31, then the walk. Program and ask are lent apart, here and in
+// distinct.rt, as the definitions take them: a struct of both would be made twice, for three private functions.
 fn ask(p: &Program, a: &Ask, run: &mut [u8], budget: u32) -> Outcome
     requires { ProgramFits p.now × AskWithin p.now a.now }
     ensures { (result ≡ answer_for (ptso p.now) (reaches a.now) (length run.old) budget)

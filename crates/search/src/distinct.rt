@@ -21,7 +21,8 @@ use crate::{ask, recall, start, table};
 use cases::case::{Ask, Program};
 use cases::reader;
 
-// The answer, and how many distinct states there are, where all were gone through and none reaches; else 0.
+// The answer, and how many distinct states there are, where all were gone through and none reaches; else 0, and no
+// Option: the definition (`remember_of`) and the C interface (`garluveni_remember_counting`) have that number.
 #[derive(Clone, Copy)]
 pub struct Remembered {
     pub outcome: Outcome,

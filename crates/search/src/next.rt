@@ -24,7 +24,8 @@ use cases::sizes::INSTRUCTIONS;
 use machine::sizes::{CANDIDATES, RANKS};
 
 // The first `count` ranks are those of the legal next steps; the others are 0. A buffer with its length, since there is
-// no heap, and a list that is handed back by value has no other length.
+// no heap, and a list that is handed back by value has no other length. Ranks and not steps, as `next_lanes` has them: a
+// rank is one byte and a step four, and each frame of the walk holds the whole array.
 #[derive(Clone, Copy)]
 pub struct Ranks {
     pub count: u8,

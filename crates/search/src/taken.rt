@@ -1,4 +1,5 @@
-// A legal step taken over lanes: what changes in a state is changed in place.
+// A legal step taken over lanes: what changes in a state is changed in place. So listing and lanes are lent apart, with
+// `FewEntries` in the contracts, and are no `View`: between a step's writes, an entry in and its row counted, it is false.
 ghost use Rattle.std.specs.Prelude.{◌≡◌, ◌+◌, ◌*◌, ◌<◌, ◌≤◌, get_or};
 ghost use Rattle.cases.specs.Sizes.{all_code};
 ghost use Rattle.search.specs.Sizes.{most_lanes};
@@ -258,7 +259,8 @@ fn persist(c: &Listing, x: &mut [u32; LANES], q: Line)
     let tag = x[at];
     let word = x[at + 1];
     leave(c, x, r, at);
-    // a mark that is a location is a write's; a marker's is above them all
+    // a mark that is a location is a write's; a marker's is above them all: one number, as the machine's own state has it
+    // (`State.marks`), and the definitions of lanes (`slot_lanes`, `settled_lanes`)
     if tag < (c.locations() as u32) {
         x[c.word_at(Location(tag as u8))] = word;
     }
