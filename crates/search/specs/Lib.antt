@@ -2,12 +2,12 @@
 pub mod Sizes
 pub mod Walk
 pub mod Question
-pub mod Kinds
 pub mod Lanes
 pub mod Remember
 -- how the code does it: no contract of a public function needs these
 pub mod Seek
 pub mod Listing
+pub mod Kinds
 pub mod Rows
 pub mod Barred
 pub mod Taken

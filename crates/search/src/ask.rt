@@ -2,7 +2,7 @@
 ghost use Rattle.std.specs.Prelude.{◌≡◌, length};
 ghost use Rattle.cases.specs.Ranges.{ProgramFits};
 ghost use Rattle.machine.specs.Ptso.{ptso};
-ghost use Rattle.search.specs.Question.{reaches, outcome_no, outcome_place, answer_for, shown_for};
+ghost use Rattle.search.specs.Question.{reaches, outcome_no, outcome_place, short, answer_for, shown_for};
 ghost use Rattle.search.specs.Question.{question_of, shown_of};
 ghost use Rattle.search.specs.Seek.{walked_outcome};
 ghost use Rattle.search.specs.Held.{AskWithin};
@@ -60,15 +60,24 @@ pub(crate) fn told(w: Walked) -> Outcome
     }
 }
 
-// The question of a program that the machine can run: 31, then the walk.
+// Is a run's buffer too short for a program? Then the answer is 31.
+pub(crate) fn is_short(p: &Program, room: usize) -> bool
+    requires { ProgramFits p.now }
+    ensures { result ≡ short (ptso p.now) room }
+{
+    // the machine's functions take programs by value
+    let s = steps::start_of(*p);
+    room < STEP_SIZE * work::work_in(*p, s)
+}
+
+// The question of a program that the machine can run: 31, then the walk. Program and ask are lent apart, here and in
+// distinct.rt, as the definitions take them: a struct of both would be made twice, for three private functions.
 fn ask(p: &Program, a: &Ask, run: &mut [u8], budget: u32) -> Outcome
     requires { ProgramFits p.now × AskWithin p.now a.now }
     ensures { (result ≡ answer_for (ptso p.now) (reaches a.now) (length run.old) budget)
         × (run.new ≡ shown_for (ptso p.now) (reaches a.now) budget run.old) }
 {
-    // the machine's functions take programs by value
-    let s = steps::start_of(*p);
-    if run.len() < STEP_SIZE * work::work_in(*p, s) {
+    if is_short(p, run.len()) {
         return Outcome::Refused(31, 0);
     }
     let c = Listing::of(p);

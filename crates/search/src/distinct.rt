@@ -20,10 +20,9 @@ use crate::walk::Walked;
 use crate::{ask, recall, start, table};
 use cases::case::{Ask, Program};
 use cases::reader;
-use cases::sizes::STEP_SIZE;
-use machine::{steps, work};
 
-// The answer, and how many distinct states there are, where all were gone through and none reaches; else 0.
+// The answer, and how many distinct states there are, where all were gone through and none reaches; else 0, and no
+// Option: the definition (`remember_of`) and the C interface (`garluveni_remember_counting`) have that number.
 #[derive(Clone, Copy)]
 pub struct Remembered {
     pub outcome: Outcome,
@@ -31,14 +30,11 @@ pub struct Remembered {
 }
 
 // How many states are covered: the smaller of the budget and of what the memory has room for.
+#[tactic(auto, using(crate::proofs::distinct::LimitLaws::covers_min))]
 fn covers(words: usize, budget: u32) -> u32
     ensures { result ≡ covers_of words budget }
 {
-    let room = words / STATE;
-    if room < (budget as usize) {
-        return room as u32;
-    }
-    budget
+    (words / STATE).min(budget as usize) as u32
 }
 
 // How many were gone through, by what is left of the limit.
@@ -77,8 +73,7 @@ fn ask_distinct(p: &Program, a: &Ask, run: &mut [u8], memory: &mut [u32], budget
         × (run.new ≡ shown_after (ptso p.now) (recall_for p.now a.now (length memory.old) budget) run.old)
         × (memory.new ≡ cleared_for p.now (length run.old) memory.old) }
 {
-    let s = steps::start_of(*p);
-    if run.len() < STEP_SIZE * work::work_in(*p, s) {
+    if ask::is_short(p, run.len()) {
         return Remembered {
             outcome: Outcome::Refused(31, 0),
             states: 0,

@@ -1,5 +1,7 @@
 // A program as one list of numbers, its listing: made once for a question, lent from then on, and where each thing of it
-// stands, among its own numbers and among a state's lanes.
+// stands, among its own numbers and among a state's lanes. Numbers and not the program itself: a look reads one array,
+// of 32 bits as lanes are, at an index that is computed once, and widens no byte (the walk over lanes and listings is
+// measured in docs/BENCHMARKS.md, "With lanes"); `legal_is`, `step_lanes_lem` and `walk_lanes` speak of it too.
 ghost use Rattle.std.specs.Prelude.{◌≡◌, ◌+◌, ◌*◌, ◌<◌, ◌≤◌, length, get_or};
 ghost use Rattle.std.proofs.lemmas.List.Edits.{sets};
 ghost use Rattle.cases.specs.Sizes.{all_code, most_threads, most_instructions, most_registers};
@@ -71,6 +73,8 @@ impl Listing {
         Listing { numbers }
     }
 
+    // Sizes, since most sums here are of places; a loop over threads or lines makes a byte of one, once, for `Thread` or
+    // `Line`. As bytes they took two per cent more instructions.
     pub(crate) fn threads(&self) -> usize
         ensures { result ≡ threads_in self.now.numbers }
     {

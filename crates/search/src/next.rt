@@ -7,24 +7,25 @@ ghost use Rattle.machine.specs.Rules.{is_barrier};
 ghost use Rattle.machine.specs.Next.{issue_step, move_step, persist_step, rank_of};
 ghost use Rattle.search.specs.Sizes.{most_lanes};
 ghost use Rattle.search.specs.Listing.{threads_in, lines_in};
-ghost use Rattle.search.specs.Rows.{row_len, row_start, FewEntries};
+ghost use Rattle.search.specs.Rows.{row_len, row_start};
 ghost use Rattle.search.specs.Barred.{bars_tag, bars_at, operation_barred, issue_barred, head_barred, pass_barred};
-ghost use Rattle.search.specs.Barred.{entry_barred, move_barred, persist_barred, next_with, offered, offered_from};
+ghost use Rattle.search.specs.Barred.{entry_barred, move_barred, persist_barred, offered, offered_from};
 ghost use Rattle.search.specs.Barred.{offered_moves, next_lanes, step_at};
 
 use crate::kinds::Kind;
 use crate::listing::Listing;
 use crate::operations::{COMPARE, EXCHANGE, MFENCE};
 use crate::rows::View;
-use crate::sizes::{COUNTS, LANES};
-use crate::{kinds, listing, rows};
+use crate::sizes::COUNTS;
+use crate::{listing, rows};
 use cases::case::{Line, Location, Step, Thread};
 use cases::operations::{ISSUE, MOVE, PERSIST};
 use cases::sizes::INSTRUCTIONS;
 use machine::sizes::{CANDIDATES, RANKS};
 
 // The first `count` ranks are those of the legal next steps; the others are 0. A buffer with its length, since there is
-// no heap, and a list that is handed back by value has no other length.
+// no heap, and a list that is handed back by value has no other length. Ranks and not steps, as `next_lanes` has them: a
+// rank is one byte and a step four, and each frame of the walk holds the whole array.
 #[derive(Clone, Copy)]
 pub struct Ranks {
     pub count: u8,
@@ -36,10 +37,10 @@ pub struct Ranks {
 fn is_bar(c: &Listing, tag: u32, q: Line) -> bool
     ensures { result ≡ bars_tag c.now.numbers q.0 tag }
 {
-    match kinds::kind_of(tag) {
+    match Kind::from(tag) {
         Kind::Sfence => true,
         Kind::FlushOpt(_) => false,
-        Kind::Flush(l) | Kind::Store(l) => c.line_of(l).0 == q.0,
+        Kind::Flush(l) | Kind::Store(l) => c.line_of(l) == q,
     }
 }
 
@@ -97,7 +98,7 @@ fn is_issue_barred(v: &View, t: Thread) -> bool
 fn is_head_barred(v: &View, t: Thread, tag: u32) -> bool
     ensures { result ≡ head_barred v.now.c.now.numbers v.now.x.now t.0 tag }
 {
-    match kinds::kind_of(tag) {
+    match Kind::from(tag) {
         Kind::Sfence => v.is_marked(t),
         Kind::Flush(l) => v.row_len(v.c.queue_row(v.c.line_of(l))) != 0,
         Kind::FlushOpt(_) | Kind::Store(_) => false,
@@ -110,7 +111,7 @@ fn is_pass_barred(v: &View, base: usize, i: usize, tag: u32) -> bool
     requires { base + 2 * i ≤ most_lanes }
     ensures { result ≡ pass_barred v.now.c.now.numbers v.now.x.now base i tag }
 {
-    match kinds::kind_of(tag) {
+    match Kind::from(tag) {
         Kind::FlushOpt(l) => is_barred(v, base, i, v.c.line_of(l)),
         Kind::Sfence | Kind::Flush(_) | Kind::Store(_) => true,
     }
@@ -126,6 +127,40 @@ fn is_entry_barred(v: &View, t: Thread, base: usize, i: usize) -> bool
         return is_head_barred(v, t, tag);
     }
     is_pass_barred(v, base, i, tag)
+}
+
+// A step of each code; what says nothing in one is 0 there.
+fn issue_step(t: Thread) -> Step
+    ensures { result ≡ issue_step t.0 }
+{
+    Step {
+        thread: t,
+        code: ISSUE,
+        position: 0,
+        location: Location(0),
+    }
+}
+
+fn move_step(t: Thread, i: u8) -> Step
+    ensures { result ≡ move_step t.0 i }
+{
+    Step {
+        thread: t,
+        code: MOVE,
+        position: i,
+        location: Location(0),
+    }
+}
+
+fn persist_step(q: Line) -> Step
+    ensures { result ≡ persist_step q.0 }
+{
+    Step {
+        thread: Thread(0),
+        code: PERSIST,
+        position: 0,
+        location: Location(q.0),
+    }
 }
 
 // A step's rank in the order.
@@ -160,15 +195,7 @@ fn offer_issues(v: &View, to: &mut Ranks)
 {
     for t in 0..(v.c.threads() as u8) {
         let barred = is_issue_barred(v, Thread(t));
-        to.offer(
-            barred,
-            Step {
-                thread: Thread(t),
-                code: ISSUE,
-                position: 0,
-                location: Location(0),
-            },
-        );
+        to.offer(barred, issue_step(Thread(t)));
     }
 }
 
@@ -185,15 +212,7 @@ fn offer_moves_of(v: &View, t: Thread, base: usize, to: &mut Ranks)
     let many = v.row_len(rows::buffer_row(t)) as u8;
     for i in 0..many {
         let barred = is_entry_barred(v, t, base, i as usize);
-        to.offer(
-            barred,
-            Step {
-                thread: t,
-                code: MOVE,
-                position: i,
-                location: Location(0),
-            },
-        );
+        to.offer(barred, move_step(t, i));
     }
 }
 
@@ -218,15 +237,7 @@ fn offer_persists(v: &View, to: &mut Ranks)
 {
     for q in 0..(v.c.lines() as u8) {
         let barred = v.row_len(v.c.queue_row(Line(q))) == 0;
-        to.offer(
-            barred,
-            Step {
-                thread: Thread(0),
-                code: PERSIST,
-                position: 0,
-                location: Location(q),
-            },
-        );
+        to.offer(barred, persist_step(Line(q)));
     }
 }
 
@@ -251,25 +262,11 @@ pub(crate) fn step_at(r: u8) -> Step
 {
     let n = r as usize;
     if n < RANKS {
-        return Step {
-            thread: Thread((n / INSTRUCTIONS) as u8),
-            code: ISSUE,
-            position: 0,
-            location: Location(0),
-        };
+        return issue_step(Thread((n / INSTRUCTIONS) as u8));
     }
     if n < 2 * RANKS {
-        return Step {
-            thread: Thread(((n - RANKS) / INSTRUCTIONS) as u8),
-            code: MOVE,
-            position: ((n - RANKS) % INSTRUCTIONS) as u8,
-            location: Location(0),
-        };
+        let t = Thread(((n - RANKS) / INSTRUCTIONS) as u8);
+        return move_step(t, ((n - RANKS) % INSTRUCTIONS) as u8);
     }
-    Step {
-        thread: Thread(0),
-        code: PERSIST,
-        position: 0,
-        location: Location((n - 2 * RANKS) as u8),
-    }
+    persist_step(Line((n - 2 * RANKS) as u8))
 }

@@ -1,4 +1,5 @@
-// The operations as a listing has them, among its numbers of 32 bits.
+// The operations as a listing has them, among its numbers of 32 bits: no enum, since the definitions that the code
+// follows compare that number (`performed_lanes`, `entry_tag`, `entry_word`).
 use cases::operations;
 
 pub const STORE_WORD: u32 = operations::STORE_WORD as u32;

@@ -2,7 +2,6 @@
 // meeting, and never gone below twice.
 ghost use Rattle.std.specs.Prelude.{◌≡◌, ◌-◌, ◌<◌, ◌≤◌, length};
 ghost use Rattle.search.specs.Seek.{walked_of, stored_of};
-ghost use Rattle.search.specs.Rows.{FewEntries};
 ghost use Rattle.search.specs.Held.{Held};
 ghost use Rattle.search.specs.Table.{keys_in, Chained};
 ghost use Rattle.search.specs.Recall.{met_by, key_lanes, new_from, sought_new, MetAfter, Meets};
@@ -33,15 +32,15 @@ fn meet(v: &View, limit: u32, left: u32, memory: &mut [u32]) -> Met
     ensures { Meets result memory.old memory.new limit left
         (key_lanes v.now.c.now.numbers v.now.x.now) }
 {
-    let n = v.pool_end();
-    let b = table::bucket(limit, v.x, n);
-    if table::is_kept(memory, limit, limit - left, b, v.x, n) {
+    let key = &v.x[..v.pool_end()];
+    let b = table::bucket(limit, key);
+    if table::is_kept(memory, limit, limit - left, b, key) {
         return Met::Before;
     }
     if left == 0 {
         return Met::Full;
     }
-    table::keep(memory, limit, limit - left, b, v.x, n);
+    table::keep(memory, limit, limit - left, b, key);
     Met::New
 }
 

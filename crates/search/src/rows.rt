@@ -1,4 +1,5 @@
-// Where each thing stands among a state's lanes, and what a look through them finds. No function here changes any.
+// Rows of entries among a state's lanes: where they start and end, and what a look through them finds. Nothing here
+// changes a lane; where the other lanes stand is in listing.rt.
 ghost use Rattle.std.specs.Prelude.{◌≡◌, ◌+◌, ◌*◌, ◌<◌, ◌≤◌, false};
 ghost use Rattle.machine.specs.View.{mark_of};
 ghost use Rattle.search.specs.Sizes.{most_lanes};

@@ -1,4 +1,5 @@
-// A step of the run that is shown, as a kind 6 record.
+// A step of the run that is shown, as a kind 6 record. cases' `put_record` has the same eight bytes: it takes any record,
+// puts it at a buffer's front, and is not open to other crates.
 ghost use Rattle.std.specs.Prelude.{◌≡◌, ◌+◌, ◌≤◌, length};
 ghost use Rattle.std.proofs.lemmas.List.Edits.{sets};
 ghost use Rattle.cases.specs.declared.record.Record.TheVariants.{Take};

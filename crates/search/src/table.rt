@@ -1,13 +1,13 @@
 // Keys of states in lent words: heads of chains in front, one for each state that there is room for, then the
 // records, each with a link to an older one, the number of its lanes, and these. specs/Table.antt has the words.
-ghost use Rattle.std.specs.Prelude.{◌≡◌, ◌+◌, ◌%◌, ◌<◌, ◌≤◌, suc, ◌++◌, ◌∷◌, length, take, drop, get_or, replicate};
+ghost use Rattle.std.specs.Prelude.{◌≡◌, ◌+◌, ◌%◌, ◌<◌, ◌≤◌, suc, ◌++◌, ◌∷◌, length, drop, get_or, replicate};
 ghost use Rattle.std.proofs.lemmas.List.Edits.{sets};
 ghost use Rattle.machine.specs.View.{part};
 ghost use Rattle.search.specs.Sizes.{most_lanes, record_words};
 ghost use Rattle.search.specs.Remember.{eq_lanes, among};
 ghost use Rattle.search.specs.Table.{key_at, keys_in, half, folded, mixed, bucket_of, Chained};
 
-use crate::sizes::{LANES, RECORD};
+use crate::sizes::RECORD;
 
 const HALF: u64 = 4294967296;
 
@@ -28,18 +28,18 @@ fn mix(h: u64, lane: u32) -> u64
     (h % HALF + h / HALF + (lane as u64)) * MIXER
 }
 
-// The bucket of a key, its first n lanes. Four numbers take them in turn, since each mixing waits for the one before.
+// The bucket of a key. Four numbers take its lanes in turn, since each mixing waits for the one before.
 #[tactic(auto, using(crate::proofs::table::MixLaws::mixed_next, crate::proofs::table::MixLaws::mixed_end))]
-pub(crate) fn bucket(limit: u32, key: &[u32; LANES], n: usize) -> u32
-    requires { (n ≤ most_lanes) × (0 < limit) }
-    ensures { (result ≡ bucket_of limit (take n key.now)) × (result < limit) }
+pub(crate) fn bucket(limit: u32, key: &[u32]) -> u32
+    requires { 0 < limit }
+    ensures { (result ≡ bucket_of limit key.now) × (result < limit) }
 {
     let mut a: u64 = 0;
     let mut b: u64 = 1;
     let mut c: u64 = 2;
     let mut d: u64 = 3;
-    for i in 0..n {
-        let more = mix(a, key[i]);
+    for &lane in key {
+        let more = mix(a, lane);
         a = b;
         b = c;
         c = d;
@@ -48,46 +48,37 @@ pub(crate) fn bucket(limit: u32, key: &[u32; LANES], n: usize) -> u32
     fold(mix(mix(mix(a, fold(b)), fold(c)), fold(d))) % limit
 }
 
-// Do the n words from `at` on equal the first n of the key?
+// Do the words from `at` on equal the key?
 #[tactic(auto, using(crate::proofs::table::CompareLaws::same_lanes))]
-fn is_same(memory: &[u32], at: usize, key: &[u32; LANES], n: usize) -> bool
-    requires { (at + n ≤ length memory.now) × (n ≤ most_lanes) }
-    ensures { result ≡ eq_lanes (take n key.now) (part at n memory.now) }
+fn is_same(memory: &[u32], at: usize, key: &[u32]) -> bool
+    requires { at + length key.now ≤ length memory.now }
+    ensures { result ≡ eq_lanes key.now (part at (length key.now) memory.now) }
 {
-    key[..n] == memory[at..at + n]
+    key == &memory[at..at + key.len()]
 }
 
-// Does the record at `at` hold the first n lanes of the key, and no more?
+// Does the record at `at` hold the key?
 #[tactic(auto, using(crate::proofs::table::CompareLaws::record_other, crate::proofs::table::CompareLaws::record_same))]
-fn is_record(memory: &[u32], at: usize, key: &[u32; LANES], n: usize) -> bool
-    requires { (at + record_words ≤ length memory.now) × (get_or memory.now (at + 1) 0 ≤ most_lanes)
-        × (n ≤ most_lanes) }
-    ensures { result ≡ eq_lanes (take n key.now) (key_at memory.now at) }
+fn is_record(memory: &[u32], at: usize, key: &[u32]) -> bool
+    requires { (at + record_words ≤ length memory.now) × (get_or memory.now (at + 1) 0 ≤ most_lanes) }
+    ensures { result ≡ eq_lanes key.now (key_at memory.now at) }
 {
-    if memory[at + 1] != (n as u32) {
+    if (memory[at + 1] as usize) != key.len() {
         return false;
     }
-    is_same(memory, at + 2, key, n)
+    is_same(memory, at + 2, key)
 }
 
 // Is the key among those kept? b is its bucket.
-pub(crate) fn is_kept(
-    memory: &[u32],
-    limit: u32,
-    count: u32,
-    b: u32,
-    key: &[u32; LANES],
-    n: usize,
-) -> bool
-    requires { Chained memory.now limit count × (b < limit) × (b ≡ bucket_of limit (take n key.now))
-        × (n ≤ most_lanes) }
-    ensures { result ≡ among (take n key.now) (keys_in memory.now limit count) }
+pub(crate) fn is_kept(memory: &[u32], limit: u32, count: u32, b: u32, key: &[u32]) -> bool
+    requires { Chained memory.now limit count × (b < limit) × (b ≡ bucket_of limit key.now) }
+    ensures { result ≡ among key.now (keys_in memory.now limit count) }
 {
     let mut x = memory[b as usize];
     // a chain has no count to go by
     while x != 0 {
         let at = (limit as usize) + ((x - 1) as usize) * RECORD;
-        if is_record(memory, at, key, n) {
+        if is_record(memory, at, key) {
             return true;
         }
         x = memory[at];
@@ -95,28 +86,27 @@ pub(crate) fn is_kept(
     false
 }
 
-// The first n lanes of the key, from `at` on.
-#[tactic(auto, using(crate::proofs::table::CopyLaws::copied))]
-fn copy(memory: &mut [u32], at: usize, key: &[u32; LANES], n: usize)
-    requires { (at + n ≤ length memory.old) × (n ≤ most_lanes) }
-    ensures { memory.new ≡ sets memory.old at (take n key.now) }
+// The key, from `at` on.
+#[tactic(auto, using(crate::proofs::table::CopyLaws::written_over))]
+fn copy(memory: &mut [u32], at: usize, key: &[u32])
+    requires { at + length key.now ≤ length memory.old }
+    ensures { memory.new ≡ sets memory.old at key.now }
 {
-    memory[at..at + n].copy_from_slice(&key[..n]);
+    memory[at..at + key.len()].copy_from_slice(key);
 }
 
 // The key as one more record, in front of its bucket's chain.
 #[tactic(auto, using(crate::proofs::table::KeepLaws::kept_within, crate::proofs::table::KeepLaws::kept_length, crate::proofs::table::KeepLaws::kept))]
-pub(crate) fn keep(memory: &mut [u32], limit: u32, count: u32, b: u32, key: &[u32; LANES], n: usize)
+pub(crate) fn keep(memory: &mut [u32], limit: u32, count: u32, b: u32, key: &[u32])
     requires { Chained memory.old limit count × (count < limit) × (b < limit)
-        × (b ≡ bucket_of limit (take n key.now)) × (n ≤ most_lanes) }
+        × (b ≡ bucket_of limit key.now) × (length key.now ≤ most_lanes) }
     ensures { Chained memory.new limit (suc count)
-        × (keys_in memory.new limit (suc count)
-        ≡ take n key.now ∷ keys_in memory.old limit count) }
+        × (keys_in memory.new limit (suc count) ≡ key.now ∷ keys_in memory.old limit count) }
 {
     let at = (limit as usize) + (count as usize) * RECORD;
     memory[at] = memory[b as usize];
-    memory[at + 1] = n as u32;
-    copy(memory, at + 2, key, n);
+    memory[at + 1] = key.len() as u32;
+    copy(memory, at + 2, key);
     memory[b as usize] = count + 1;
 }
 

@@ -1,4 +1,5 @@
-// A legal step taken over lanes: what changes in a state is changed in place.
+// A legal step taken over lanes: what changes in a state is changed in place. So listing and lanes are lent apart, with
+// `FewEntries` in the contracts, and are no `View`: between a step's writes, an entry in and its row counted, it is false.
 ghost use Rattle.std.specs.Prelude.{◌≡◌, ◌+◌, ◌*◌, ◌<◌, ◌≤◌, get_or};
 ghost use Rattle.cases.specs.Sizes.{all_code};
 ghost use Rattle.search.specs.Sizes.{most_lanes};
@@ -16,7 +17,7 @@ use crate::operations::{
 };
 use crate::rows::{Row, View};
 use crate::sizes::{FLUSH_OPT_TAG, FLUSH_TAG, LANES, SFENCE_TAG};
-use crate::{kinds, listing, rows};
+use crate::{listing, rows};
 use cases::case::{Line, Location, Step, Thread};
 use cases::operations::{ISSUE, MOVE};
 
@@ -163,7 +164,7 @@ fn fetch(c: &Listing, x: &mut [u32; LANES], t: Thread, at: usize)
 }
 
 // The word goes to the end of the location's queue.
-#[tactic(auto, using(crate::proofs::taken::RowLenLaws::fetched_room, crate::proofs::rows::RowLoopLaws::queue_low), unfolding(crate::specs::Taken::exchanged_lanes))]
+#[tactic(auto, using(crate::proofs::taken::RowLenLaws::fetched_room, crate::proofs::listing::ListingLaws::queue_low), unfolding(crate::specs::Taken::exchanged_lanes))]
 #[inline(never)]
 fn exchange(c: &Listing, x: &mut [u32; LANES], t: Thread, at: usize)
     requires { CodeHere c.now.numbers x.old t.0 at }
@@ -210,7 +211,7 @@ fn perform(c: &Listing, x: &mut [u32; LANES], t: Thread, at: usize)
     }
 }
 
-#[tactic(auto, using(crate::proofs::rows::RowLoopLaws::code_low, crate::proofs::taken::RowLenLaws::code_here), unfolding(crate::specs::Taken::issue_lanes))]
+#[tactic(auto, using(crate::proofs::listing::ListingLaws::code_low, crate::proofs::taken::RowLenLaws::code_here), unfolding(crate::specs::Taken::issue_lanes))]
 fn issue(c: &Listing, x: &mut [u32; LANES], t: Thread)
     requires { RoomForOne c.now.numbers x.old × (t.0 < threads_in c.now.numbers)
         × (get_or x.old t.0 0 < count_in c.now.numbers t.0) }
@@ -229,7 +230,7 @@ fn move_tagged(c: &Listing, x: &mut [u32; LANES], t: Thread, at: usize, tag: u32
         × (at + 2 ≤ row_start c.now.numbers x.old (t.0 + 1)) }
     ensures { x.new ≡ moved_lanes c.now.numbers x.old t.0 at tag }
 {
-    match kinds::kind_of(tag) {
+    match Kind::from(tag) {
         Kind::Sfence | Kind::Flush(_) => leave(c, x, rows::buffer_row(t), at),
         Kind::FlushOpt(l) => carry_over(c, x, t, at, c.line_of(l), rows::mark_of(t)),
         Kind::Store(l) => carry_over(c, x, t, at, c.line_of(l), tag),
@@ -258,7 +259,8 @@ fn persist(c: &Listing, x: &mut [u32; LANES], q: Line)
     let tag = x[at];
     let word = x[at + 1];
     leave(c, x, r, at);
-    // a mark that is a location is a write's; a marker's is above them all
+    // a mark that is a location is a write's; a marker's is above them all: one number, as the machine's own state has it
+    // (`State.marks`), and the definitions of lanes (`slot_lanes`, `settled_lanes`)
     if tag < (c.locations() as u32) {
         x[c.word_at(Location(tag as u8))] = word;
     }

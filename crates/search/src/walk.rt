@@ -23,7 +23,8 @@ pub enum Walked {
     Stopped,
 }
 
-// The walk from a state that `depth` steps lead to. The run is written on the way up, and only if it reaches.
+// The walk from a state that `depth` steps lead to. The run is written on the way up, and only if it reaches. `recall` has
+// the same turn and stays apart: this one counts runs, that one keeps states, and no clause of their contracts is one.
 pub(crate) fn walk(
     c: &Listing,
     a: &Ask,

@@ -3,9 +3,10 @@
 use Prim.Native.Nat.{ℕ, ◌*◌, ◌<◌, ◌≤◌}
 use mathlib.Core.Path.{◌≡◌, refl, sym, ap, ◌∙◌}
 use mathlib.Core.Logic.{◌≢◌, ◌↔◌}
+use mathlib.Core.Bool.{true, false}
 use mathlib.Core.List.{List, ◌++◌}
 use lib.ListN.{length, drop}
-use borrow.Author.Tests.{lt-ltb, le-ltb}
+use borrow.Author.Tests.{ltb-false, le-ltb}
 use native.Mathlib.Omega.{arith}
 use Rattle.cases.specs.declared.case.Step.{Step}
 use Rattle.cases.specs.Sizes.{longest, step_size}
@@ -40,32 +41,35 @@ stored_sought (hit run) out room =
 stored_sought (done b) out room = refl
 stored_sought used_up out room = refl
 
+-- a buffer that is not too short
+pub roomy : {S K : Type 0} (m : Model S K) (room : ℕ) → short m room ≡ false → step_size * full_length m ≤ room
+unfolding short
+roomy m room h = ltb-false room (step_size * full_length m) h
+
 module _ {S : Type 0} (m : Model S Step) (out : List ℕ) where
   abbrev pub Answers : Decided Step → Outcome → List ℕ → Type 0
   Answers d o last = (o ≡ answer_by m (length out) d) × (last ≡ shown_after m d out)
 
   -- the buffer is too short
-  pub answer_short : (d : Decided Step) → length out < step_size * full_length m → Answers d (Refused 31 0) out
-  unfolding answer_by shown_after short
-  answer_short d h =
-      let t = lt-ltb (length out) (step_size * full_length m) h in
-      (sym (pick_true _ _ _ t), sym (pick_true _ _ _ t))
+  pub answer_short : (d : Decided Step) → short m (length out) ≡ true → Answers d (Refused 31 0) out
+  unfolding answer_by shown_after
+  answer_short d h = (sym (pick_true _ _ _ h), sym (pick_true _ _ _ h))
 
   -- it is not: w is the walk's answer, and x what it comes to, no longer than the full length
   pub answer_sought : (d : Decided Step) (x : Sought Step) → d ≡ comes_to x
-      → step_size * full_length m ≤ length out
+      → short m (length out) ≡ false
       → ((run : List Step) → x ≡ hit run → length run ≤ full_length m)
       → (w : Walked) (last : List ℕ) → (w ≡ walked_of 0 x) × (last ≡ stored_of 0 x out)
       → (o : Outcome) → o ≡ walked_outcome w
       → Answers d o last
-  unfolding answer_by shown_after short
+  unfolding answer_by shown_after
   answer_sought d x d_is h few w last left o o_is =
-      let t = le-ltb (length out) (step_size * full_length m) h in
+      let room = roomy m (length out) h in
       let told = o_is ∙ ap walked_outcome left.0 ∙ told_sought x ∙ ap told_of (sym d_is) in
       let stored = left.1
       ∙ stored_sought x out (λ run e. let f = few run e in omega arith)
       ∙ ap (λ y. shown_by y out) (sym d_is) in
-      (told ∙ sym (pick_false _ _ _ t), stored ∙ sym (pick_false _ _ _ t))
+      (told ∙ sym (pick_false _ _ _ h), stored ∙ sym (pick_false _ _ _ h))
 
 -- told_of, back
 told_reached : (d : Decided Step) (n : ℕ) → told_of d ≡ Reached n

@@ -1,9 +1,10 @@
 -- The question's code: 31, then what the walk leaves. Assumes nothing.
-use Prim.Native.Nat.{ℕ, suc, ◌*◌, ◌-◌, ◌<◌, ◌≤◌}
+use Prim.Native.Nat.{ℕ, suc, ◌*◌, ◌-◌, ◌≤◌}
 use mathlib.Core.Path.{◌≡◌, refl, sym, ap, subst, ◌∙◌}
 use mathlib.Core.Logic.{◌≢◌, inl}
-use mathlib.Core.Bool.{Bool}
+use mathlib.Core.Bool.{Bool, false}
 use mathlib.Core.List.{List, ◌∷◌}
+use lib.Dec.{ltb}
 use lib.ListN.{length}
 use borrow.Author.Tests.{eq-eqb, ne_eqb}
 use native.Mathlib.Omega.{arith}
@@ -29,7 +30,7 @@ use Rattle.search.specs.declared.walk.Walked.{Walked}
 use Rattle.search.specs.declared.ask.Outcome.{Outcome}
 use Rattle.search.specs.declared.ask.Outcome.TheVariants.{Refused}
 use Rattle.search.specs.Walk.{Visit, walk, walk_of, walk_from}
-use Rattle.search.specs.Question.{reaches, reached, FirstThat, ask_of, answer_for, question_of, shown_for}
+use Rattle.search.specs.Question.{reaches, reached, short, FirstThat, ask_of, answer_for, question_of, shown_for}
 use Rattle.search.specs.Question.{shown_of}
 use Rattle.search.specs.Seek.{Sought, hit, seek, walked_of, walked_outcome, stored_of}
 use Rattle.search.specs.Lanes.{lanes_of}
@@ -41,7 +42,7 @@ use Rattle.search.proofs.walk.WalkModelLaws.{walk_short}
 use Rattle.search.proofs.walk.WalkLanesLaws.{seek_lanes}
 use Rattle.search.proofs.seek.SeekLaws.{comes_to, seek_decides}
 use Rattle.search.proofs.seek.BudgetLaws.{budget_reached_is}
-use Rattle.search.proofs.ask.AnswerLaws.{Answers, answer_short, answer_sought}
+use Rattle.search.proofs.ask.AnswerLaws.{Answers, answer_sought}
 
 -- the first that reaches is on the list
 pub ask_first_on : {S K : Type 0} (test : S → Bool) (vs before : List (Visit S K)) (v : Visit S K)
@@ -58,6 +59,10 @@ module _ (p : Program) (fits : ProgramFits p) (s : State) (s_is : s ≡ start_of
   pub ask_start_few : work p s ≤ most_work
   unfolding full_length
   ask_start_few = rw s_is (full_length_most p fits)
+
+  pub ask_short : (room w : ℕ) → w ≡ work p s → ltb room (step_size * w) ≡ short (ptso p) room
+  unfolding short full_length
+  ask_short room w w_is = rw (w_is, s_is) refl
 
 -- a run that reaches is no longer than the full length
 pub reached_short : {S K : Type 0} (m : Model S K) {Fit : S → Type 0} {rank : K → ℕ} → Lawful m Fit rank
@@ -77,15 +82,10 @@ module _ (p : Program) (fits : ProgramFits p) (a : Ask) (b : ℕ) where
   unfolding ask_of walk_from
   sought_is x e = sym (seek_decides (reaches a) b (walk_of (ptso p) (start_of p))) ∙ ap comes_to e
 
-  abbrev sought_from : State → Sought Step
-  sought_from s = seek (reaches a) b (walk_of (ptso p) s)
+  abbrev sought_start : Sought Step
+  sought_start = seek (reaches a) b (walk_of (ptso p) (start_of p))
 
-  -- as the code has them: s is the start, w its work
-  module _ (s : State) (s_is : s ≡ start_of p) (w : ℕ) (w_is : w ≡ work p s) (out : List ℕ) where
-    full_is : full_length (ptso p) ≡ w
-    unfolding full_length
-    full_is = sym (w_is ∙ ap (work p) s_is)
-
+  module _ (out : List ℕ) where
     -- what is sought over the lanes x of the listing c, and what the walk leaves there
     abbrev sought_over : List ℕ → List ℕ → Sought Step
     sought_over c x =
@@ -97,10 +97,9 @@ module _ (p : Program) (fits : ProgramFits p) (a : Ask) (b : ℕ) where
     -- the walk may begin with the start's lanes, and what it leaves over lanes is what it leaves over states
     module _ (within : AskWithin p a) (c x : List ℕ) (c_is : c ≡ listing_of p)
         (x_is : x ≡ padded (lanes_of p (start_of p))) where
-      pub ask_held : step_size * w ≤ length out → Held c x 0 (length out)
+      pub ask_held : step_size * full_length (ptso p) ≤ length out → Held c x 0 (length out)
       unfolding full_length
       ask_held h =
-          let full = full_is in
           let deep = full_length_most p fits in
           let begun = start_together p fits in
           let most = instructions_most p fits in
@@ -115,41 +114,28 @@ module _ (p : Program) (fits : ProgramFits p) (a : Ask) (b : ℕ) where
             roomy = omega arith;
           }
 
-      same_sought : sought_over c x ≡ seek (reaches a) b (walk_of (ptso p) s)
+      same_sought : sought_over c x ≡ sought_start
       unfolding full_length
       same_sought =
           let begun = start_together p fits in
           let most = instructions_most p fits in
-          rw (c_is, x_is, s_is)
+          rw (c_is, x_is)
           (seek_lanes p fits a within (start_of p) (start_fits p fits) (omega arith) (full_length_most p fits) b)
 
       ask_walked : (r : Walked) (last : List ℕ) → LeavesOver c x r last
-          → (r ≡ walked_of 0 (seek (reaches a) b (walk_of (ptso p) s)))
-          × (last ≡ stored_of 0 (seek (reaches a) b (walk_of (ptso p) s)) out)
+          → (r ≡ walked_of 0 sought_start) × (last ≡ stored_of 0 sought_start out)
       ask_walked r last left =
           (left.0 ∙ ap (walked_of 0) same_sought, left.1 ∙ ap (λ y. stored_of 0 y out) same_sought)
 
-    -- the buffer is too short
-    pub ask_short : length out < step_size * w
-        → Answers (ptso p) out (ask_of (ptso p) (reaches a) b) (Refused 31 0) out
-    ask_short h =
-        let e = full_is in
-        answer_short (ptso p) out (ask_of (ptso p) (reaches a) b) (omega arith)
-
-    asked : (y : Sought Step) → sought_from s ≡ y → ask_of (ptso p) (reaches a) b ≡ comes_to y
-    asked y e = sought_is y (ap sought_from (sym s_is) ∙ e)
-
-    -- it is not: r is what the walk leaves, and what it comes to is told
-    pub ask_told : step_size * w ≤ length out → AskWithin p a
+    -- the buffer is not too short: r is what the walk leaves, and what it comes to is told
+    pub ask_told : short (ptso p) (length out) ≡ false → AskWithin p a
         → (c x : List ℕ) → c ≡ listing_of p → x ≡ padded (lanes_of p (start_of p))
         → (r : Walked) (last : List ℕ) → LeavesOver c x r last
         → (o : Outcome) → o ≡ walked_outcome r
         → Answers (ptso p) out (ask_of (ptso p) (reaches a) b) o last
     ask_told h within c x c_is x_is r last over =
-        let full = full_is in
-        answer_sought (ptso p) out (ask_of (ptso p) (reaches a) b) (sought_from s) (asked (sought_from s) refl)
-        (omega arith)
-        (λ run e. reached_short (ptso p) (ptso_lawful p fits) (reaches a) b run (asked (hit run) e))
+        answer_sought (ptso p) out (ask_of (ptso p) (reaches a) b) sought_start (sought_is sought_start refl) h
+        (λ run e. reached_short (ptso p) (ptso_lawful p fits) (reaches a) b run (sought_is (hit run) e))
         r last (ask_walked within c x c_is x_is r last over)
 
 -- the bytes s read as r, with the number n: reading is refused, or gives a case

@@ -1,15 +1,15 @@
 -- The limit L, and how much of it a walk uses up. Assumes nothing.
-use Prim.Native.Nat.{ℕ, suc, zero, ◌+◌, ◌*◌, ◌/◌, ◌≤◌, ◌<◌}
+use Prim.Native.Nat.{ℕ, suc, zero, ◌+◌, ◌*◌, ◌/◌, ◌≤◌, ◌<◌, min}
 use mathlib.Core.Path.{◌≡◌, refl, sym, ap, subst, ◌∙◌}
 use mathlib.Core.Logic.{◌⊎◌, inl, inr}
 use mathlib.Core.Bool.{Bool, true, false}
 use mathlib.Core.List.{List, [], ◌∷◌}
 use lib.ListN.{length}
 use lib.Dec.{ltb}
-use borrow.Author.Tests.{lt-ltb, le-ltb, ltb-true, ltb-false}
+use borrow.Author.Tests.{ltb-true, ltb-false}
 use native.Mathlib.Omega.{arith}
 use Rattle.cases.specs.declared.case.Step.{Step}
-use Rattle.cases.proofs.ChoiceLaws.{pick_true, pick_false, pick_cases}
+use Rattle.cases.proofs.ChoiceLaws.{pick_cases}
 use Rattle.search.specs.declared.walk.Walked.{Walked}
 use Rattle.search.specs.Sizes.{state_words}
 use Rattle.search.specs.Walk.{Visit}
@@ -18,15 +18,14 @@ use Rattle.search.specs.Remember.{covers_of, states_of}
 use Rattle.search.specs.Recall.{WithinLimit, states_walked}
 use Rattle.search.proofs.seek.SeekLaws.{comes_to}
 
--- the memory is what limits; the budget is
+-- the smaller of the two
 module _ (words b : ℕ) where
-  pub covers_room : words / state_words < b → words / state_words ≡ covers_of words b
+  pub covers_min : (n : ℕ) → n ≡ min (words / state_words) b → n ≡ covers_of words b
   unfolding covers_of
-  covers_room h = sym (pick_true _ _ _ (lt-ltb (words / state_words) b h))
-
-  pub covers_budget : b ≤ words / state_words → b ≡ covers_of words b
-  unfolding covers_of
-  covers_budget h = sym (pick_false _ _ _ (le-ltb (words / state_words) b h))
+  covers_min n e =
+      pick_cases (λ m. n ≡ m) (ltb (words / state_words) b) (words / state_words) b
+      (λ h. let l = ltb-true (words / state_words) b h in omega arith)
+      (λ h. let l = ltb-false (words / state_words) b h in omega arith)
 
   abbrev Least : ℕ → Type 0
   Least n = (n ≤ b) × (n * state_words ≤ words)

@@ -1,11 +1,11 @@
 -- The code of the question over distinct states: where it begins, what it comes to, what it leaves. Assumes nothing.
-use Prim.Native.Nat.{ℕ, ◌*◌, ◌-◌, ◌<◌, ◌≤◌}
+use Prim.Native.Nat.{ℕ, ◌*◌, ◌-◌, ◌≤◌}
 use mathlib.Core.Path.{◌≡◌, refl, sym, ap, subst, ◌∙◌}
 use mathlib.Core.Logic.{◌≢◌}
-use mathlib.Core.Bool.{Bool}
+use mathlib.Core.Bool.{Bool, true, false}
 use mathlib.Core.List.{List, [], ◌∷◌, ◌++◌}
 use lib.ListN.{length, drop, replicate}
-use borrow.Author.Tests.{lt-ltb, le-ltb, eq-eqb, ne_eqb}
+use borrow.Author.Tests.{eq-eqb, ne_eqb}
 use native.Mathlib.Omega.{arith}
 use Rattle.cases.specs.declared.case.Step.{Step}
 use Rattle.cases.specs.declared.case.Program.{Program}
@@ -15,9 +15,7 @@ use Rattle.cases.specs.Sizes.{step_size}
 use Rattle.cases.specs.Ranges.{ProgramFits}
 use Rattle.cases.specs.Reading.{number_of, offset_of, read_of}
 use Rattle.cases.proofs.ChoiceLaws.{pick_true, pick_false}
-use Rattle.machine.specs.declared.cells.State.{State}
 use Rattle.machine.specs.Rules.{start_of}
-use Rattle.machine.specs.Work.{work}
 use Rattle.machine.specs.Model.{Model, Lawful, full_length}
 use Rattle.machine.specs.Ptso.{ptso}
 use Rattle.machine.proofs.Promises.{ptso_lawful, start_fits, full_length_most, start_together, instructions_most}
@@ -104,7 +102,7 @@ module _ (p : Program) (fits : ProgramFits p) (a : Ask) where
       pub meet_held : (out : List ℕ) → step_size * full_length (ptso p) ≤ length out → Held c x 0 (length out)
       unfolding full_length
       meet_held out h =
-          ask_held p fits a limit (start_of p) refl (work p (start_of p)) refl out within c x c_is x_is h
+          ask_held p fits a limit out within c x c_is x_is h
 
       meet_sought : sought_new c a.wanted a.want a.passed 0 limit (keys_in last limit (limit - limit)) x
           ≡ sought_all limit
@@ -126,12 +124,7 @@ module _ (p : Program) (fits : ProgramFits p) (a : Ask) where
       meet_walked r out run e f =
           (e ∙ ap (walked_of 0) meet_sought, f ∙ ap (λ y. stored_of 0 y out) meet_sought)
 
-  -- as the code has them: s is the start, w its work, `words` the memory's length
-  module _ (s : State) (s_is : s ≡ start_of p) (w : ℕ) (w_is : w ≡ work p s) (b : ℕ) (out memory : List ℕ) where
-    full_is : full_length (ptso p) ≡ w
-    unfolding full_length
-    full_is = sym (w_is ∙ ap (work p) s_is)
-
+  module _ (b : ℕ) (out memory : List ℕ) where
     abbrev decides : Decided Step
     decides = recall_for p a (length memory) b
 
@@ -142,24 +135,19 @@ module _ (p : Program) (fits : ProgramFits p) (a : Ask) where
         × (last ≡ cleared_for p (length out) memory)
 
     -- the buffer is too short
-    pub remember_short : length out < step_size * w
+    pub remember_short : short (ptso p) (length out) ≡ true
         → Leaves (record { outcome = Refused 31 0; states = 0 }) out memory
-    unfolding remember_for cleared_for short
-    remember_short h =
-        let e = full_is in
-        let x = answer_short (ptso p) out decides (omega arith) in
-        let t = lt-ltb (length out) (step_size * full_length (ptso p)) (omega arith) in
+    unfolding remember_for cleared_for
+    remember_short t =
+        let x = answer_short (ptso p) out decides t in
         let y = sym (pick_true _ 0 (states_of decides (length (distinct_of (ptso p) (lanes_of p)))) t) in
         ((λ i. record { outcome = x.0 i; states = y i }), x.1, sym (pick_true _ _ _ t))
 
     -- it is not
-    pub remember_room : step_size * w ≤ length out → step_size * full_length (ptso p) ≤ length out
-    remember_room h = let e = full_is in omega arith
-
     pub remember_covers : (limit : ℕ) → limit ≡ covers_of (length memory) b → limit * state_words ≤ length memory
     remember_covers limit e = let l = covers_least (length memory) b in rw e l.1
 
-    pub remember_told : step_size * w ≤ length out → (limit : ℕ) → limit ≡ covers_of (length memory) b
+    pub remember_told : short (ptso p) (length out) ≡ false → (limit : ℕ) → limit ≡ covers_of (length memory) b
         → (walked : Walked) (run : List ℕ)
         → (walked ≡ walked_of 0 (sought_all limit)) × (run ≡ stored_of 0 (sought_all limit) out)
         → (o : Outcome) → o ≡ walked_outcome walked
@@ -167,14 +155,12 @@ module _ (p : Program) (fits : ProgramFits p) (a : Ask) where
         → (used last : List ℕ) → length used ≡ length memory
         → last ≡ replicate (length memory) 0 ++ drop (length memory) used
         → Leaves (record { outcome = o; states = n }) run last
-    unfolding remember_for cleared_for short recall_for recall_of
-    remember_told h limit limit_is walked run left o o_is n n_is used last long cleared =
-        let e = full_is in
-        let t = le-ltb (length out) (step_size * full_length (ptso p)) (omega arith) in
+    unfolding remember_for cleared_for recall_for recall_of
+    remember_told t limit limit_is walked run left o o_is n n_is used last long cleared =
         let d : decides ≡ comes_to (sought_all limit) =
         ap (recall_of (ptso p) (lanes_of p) (reaches a)) (sym limit_is)
         ∙ sym (seek_decides (reaches a) limit (distinct_of (ptso p) (lanes_of p))) in
-        let x = answer_sought (ptso p) out decides (sought_all limit) d (omega arith)
+        let x = answer_sought (ptso p) out decides (sought_all limit) d t
         (λ path f. recalled_short (ptso p) (ptso_lawful p fits) (lanes_of p) (reaches a)
         (covers_of (length memory) b) path (d ∙ ap comes_to f)) walked run left o o_is in
         let y = n_is

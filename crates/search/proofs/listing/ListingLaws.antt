@@ -19,7 +19,38 @@ use Rattle.search.specs.Sizes.{counts_at, lines_at, codes_at}
 use Rattle.search.specs.Lanes.{join_to}
 use Rattle.search.specs.Listing.{instruction_numbers, listing_of, threads_in, lines_in, locations_in, count_in}
 use Rattle.search.specs.Listing.{line_in, code_at, ListingFits}
+use Rattle.search.specs.Rows.{rows_in, queue_row}
+use Rattle.cases.proofs.ChoiceLaws.{pick_here, pick_next}
 use Rattle.search.proofs.lanes.JoinLaws.{length_wide, join_split, shifted}
+
+-- line_in: there is no such location; there is
+pub line_none : (c : List ℕ) (l : ℕ) → most_locations ≤ l → 0 ≡ line_in c l
+unfolding line_in
+line_none c l h = pick_here _ _ _ _ (le-leb _ _ h) refl
+
+pub line_some : (c : List ℕ) (l : ℕ) → l < most_locations → get_or c (lines_at + l) 0 ≡ line_in c l
+unfolding line_in
+line_some c l h = pick_next _ _ _ _ (lt-leb _ _ h) refl
+
+-- a line is below 256
+pub line_byte_lem : (c : List ℕ) → ListingFits c → (l : ℕ) → l < most_locations → get_or c (lines_at + l) 0 < 256
+line_byte_lem c g l h = let e = line_some c l h in let b = g.few_lines in let w = g.low_lines l in omega arith
+
+-- the row of a location's queue is one of the rows
+line_row : (c : List ℕ) → ListingFits c → (l : ℕ) → queue_row c (line_in c l) < rows_in c
+line_row c g l = let w = g.low_lines l in omega arith
+
+pub queue_low : (c : List ℕ) → ListingFits c → (l q r : ℕ) → q ≡ line_in c l → r ≡ queue_row c q → r < rows_in c
+queue_low c g l q r e f = let w = line_row c g l in omega arith
+
+-- an instruction that is left: its thread and its number are low
+pub code_low : (c : List ℕ) → ListingFits c → (t i : ℕ) → t < threads_in c → i < count_in c t
+    → (t < most_threads) × (i < most_instructions)
+code_low c g t i h k =
+    let w = g.few_threads in
+    let l : t < most_threads = omega arith in
+    let f = g.few_instructions t l in
+    (l, omega arith)
 
 -- instructions one behind the other: how many numbers; number j of instruction i
 module _ (code : List Instruction) where

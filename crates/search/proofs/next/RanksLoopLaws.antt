@@ -75,13 +75,13 @@ module _ {barred : ℕ → Bool} {step : ℕ → Step} {most i : ℕ} {n start :
   pub offered_low : i < most → start.count + most ≤ most_candidates → n.count < most_candidates
   offered_low h k = let w = o.turns.few in omega arith
 
-  pub offered_next : i < most → (next : Ranks) (b : Bool) → next ≡ offered b (step i) n → b ≡ barred i
-      → OfferedSoFar barred step most (i + 1) next start
+  pub offered_next : i < most → (next : Ranks) (b : Bool) (k : Step) → next ≡ offered b k n → k ≡ step i
+      → b ≡ barred i → OfferedSoFar barred step most (i + 1) next start
   unfolding offered_from
-  offered_next h next b f e =
-      let k : next.count ≤ n.count + 1 = rw f (count_offered b (step i) n) in
+  offered_next h next b k f s e =
+      let more : next.count ≤ n.count + 1 = rw f (count_offered b k n) in
       let w = o.turns.few in
-      record { turns = turns_next o.turns h next (omega arith) (λ m. rw (f, e)) }
+      record { turns = turns_next o.turns h next (omega arith) (λ m. rw (f, s, e)) }
 
   pub offered_end : most ≤ i
       → (n ≡ offered_from barred step 0 most start) × (n.count ≤ start.count + most)

@@ -1,4 +1,4 @@
--- Laws of lines and rows: where they stand, and for each look that is one loop a record of what it has found so
+-- Laws of rows: where they stand, and for each look that is one loop a record of what it has found so
 -- far, made where the loop begins (start), with a law for each point of the loop that uses it (next, here,
 -- end). Assumes nothing.
 use Prim.Native.Nat.{ℕ, suc, ◌+◌, ◌*◌, ◌-◌, ◌≤◌, ◌<◌}
@@ -7,47 +7,17 @@ use mathlib.Core.Logic.{◌≢◌}
 use mathlib.Core.List.{List}
 use native.Mathlib.Omega.{arith}
 use native.Mathlib.Numerals.{add-one}
-use borrow.Author.Tests.{eq-eqb, ne_eqb, le-leb, lt-leb}
+use borrow.Author.Tests.{eq-eqb, ne_eqb}
 use lib.Dec.{eqb}
 use lib.ListN.{get_or}
-use Rattle.cases.specs.Sizes.{most_threads, most_instructions, most_locations}
 use Rattle.cases.specs.Choice.{pick}
 use Rattle.cases.proofs.ChoiceLaws.{pick_here, pick_next}
 use Rattle.machine.specs.Fit.{sum_to}
-use Rattle.search.specs.Sizes.{most_lanes, lines_at}
-use Rattle.search.specs.Listing.{threads_in, count_in, line_in, ListingFits}
+use Rattle.search.specs.Sizes.{most_lanes}
+use Rattle.search.specs.Listing.{line_in, ListingFits}
 use Rattle.search.specs.Rows.{rows_in, queue_row, word_at, row_len, row_start, FewEntries, newest_lane}
 use Rattle.search.specs.Rows.{pool_at, queued_lane, loaded_lane}
 use Rattle.search.proofs.lanes.GeneralLaws.{sum_front}
-
--- line_in: there is no such location; there is
-pub line_none : (c : List ℕ) (l : ℕ) → most_locations ≤ l → 0 ≡ line_in c l
-unfolding line_in
-line_none c l h = pick_here _ _ _ _ (le-leb _ _ h) refl
-
-pub line_some : (c : List ℕ) (l : ℕ) → l < most_locations → get_or c (lines_at + l) 0 ≡ line_in c l
-unfolding line_in
-line_some c l h = pick_next _ _ _ _ (lt-leb _ _ h) refl
-
--- a line is below 256
-pub line_byte_lem : (c : List ℕ) → ListingFits c → (l : ℕ) → l < most_locations → get_or c (lines_at + l) 0 < 256
-line_byte_lem c g l h = let e = line_some c l h in let b = g.few_lines in let w = g.low_lines l in omega arith
-
--- the row of a location's queue is one of the rows
-line_row : (c : List ℕ) → ListingFits c → (l : ℕ) → queue_row c (line_in c l) < rows_in c
-line_row c g l = let w = g.low_lines l in omega arith
-
-pub queue_low : (c : List ℕ) → ListingFits c → (l q r : ℕ) → q ≡ line_in c l → r ≡ queue_row c q → r < rows_in c
-queue_low c g l q r e f = let w = line_row c g l in omega arith
-
--- an instruction that is left: its thread and its number are low
-pub code_low : (c : List ℕ) → ListingFits c → (t i : ℕ) → t < threads_in c → i < count_in c t
-    → (t < most_threads) × (i < most_instructions)
-code_low c g t i h k =
-    let w = g.few_threads in
-    let l : t < most_threads = omega arith in
-    let f = g.few_instructions t l in
-    (l, omega arith)
 
 -- row_start: the next row starts where one ends; every row ends within the lanes
 pub row_next : (c x : List ℕ) (r : ℕ) → row_start c x r + 2 * row_len c x r ≡ row_start c x (r + 1)
@@ -88,9 +58,6 @@ module _ {c x : List ℕ} {r n i : ℕ} (o : RowsSoFar c x r n i) where
 pub record NewestSoFar (x : List ℕ) (base tag other n i : ℕ) : Type 0 where
   pub far : i ≤ n
   pub rest : newest_lane x base tag other i ≡ newest_lane x base tag other n
-
-pub newest_start : (x : List ℕ) (base tag other n : ℕ) → NewestSoFar x base tag other n n
-newest_start x base tag other n = record { far = omega arith; rest = refl }
 
 module _ {x : List ℕ} {base tag other n i : ℕ} (o : NewestSoFar x base tag other n i) where
   module _ (h : 0 < i) where

@@ -1,10 +1,10 @@
 -- Laws of the run's records in the lent bytes: a step's record goes before those that stand behind it already.
 -- Assumes nothing.
-use Prim.Native.Nat.{ℕ, suc, ◌+◌, ◌*◌, ◌<◌, ◌≤◌}
+use Prim.Native.Nat.{ℕ, suc, ◌+◌, ◌*◌, ◌≤◌}
 use mathlib.Core.Path.{◌≡◌, refl, sym, ap, ◌∙◌}
 use mathlib.Core.List.{List, [], ◌∷◌}
 use lib.ListN.{length, set}
-use lib.Seq.{set_comm, sets, length-sets}
+use lib.Seq.{sets, length-sets}
 use borrow.Rule.Slice.PartMut.{put_mid}
 use native.Mathlib.Omega.{arith}
 use Rattle.cases.specs.declared.case.Step.{Step}
@@ -16,20 +16,15 @@ use Rattle.cases.specs.Seats.{steps_bytes}
 use Rattle.cases.proofs.ArrayLaws.{sets_append}
 use Rattle.cases.specs.Sizes.{step_size}
 use Rattle.search.proofs.table.CopyLaws.{written_over}
+use Rattle.search.proofs.taken.InPlaceLaws.{set_sets}
 use Rattle.search.specs.Seek.{Sought, hit, done, used_up, stored_of}
 
--- a byte before bytes that were put; bytes before them
-set_sets : (d : List ℕ) (i x n : ℕ) (bs : List ℕ) → i < n → set (sets d n bs) i x ≡ sets (set d i x) n bs
-set_sets d i x n [] h = refl
-set_sets d i x n (b ∷ bs) h =
-    set_sets (set d n b) i x (suc n) bs (omega arith)
-    ∙ ap (λ e. sets e (suc n) bs) (set_comm d n i b x (λ e. omega arith))
-
+-- bytes before bytes that were put
 sets_before : (d : List ℕ) (at n : ℕ) (a b : List ℕ) → at + length a ≤ n
     → sets (sets d n b) at a ≡ sets (sets d at a) n b
 sets_before d at n [] b h = refl
 sets_before d at n (x ∷ a) b h =
-    ap (λ e. sets e (suc at) a) (set_sets d at x n b (omega arith))
+    ap (λ e. sets e (suc at) a) (set_sets d n b at x (omega arith))
     ∙ sets_before (set d at x) (suc at) n a b (omega arith)
 
 pub record_length : (k : Step) → length (record_bytes (Take k)) ≡ 8

@@ -8,7 +8,6 @@ use native.Mathlib.Omega.{arith}
 use lib.Dec.{eqb}
 use lib.Pointwise.{pointwise}
 use lib.ListN.{length, get_or, take, drop}
-use lib.Seq.{length-take-le}
 use Rattle.cases.specs.Choice.{both}
 use Rattle.machine.specs.View.{part}
 use Rattle.machine.proofs.lists.PartLaws.{length_part}
@@ -25,27 +24,27 @@ pairs_lanes [] (y ∷ ys) = refl
 pairs_lanes (x ∷ xs) [] = refl
 pairs_lanes (x ∷ xs) (y ∷ ys) = ap (λ r. both (eqb x y) r) (pairs_lanes xs ys)
 
--- so are the first n lanes of a key, and as many words
+-- so are the lanes of a key, and as many words
 pub same_lanes : (m key : List ℕ) (at n : ℕ) (same : Bool)
-    → same ≡ pointwise eqb (take n key) (take (at + n - at) (drop at m))
-    → same ≡ eq_lanes (take n key) (part at n m)
+    → same ≡ pointwise eqb key (take (at + n - at) (drop at m))
+    → same ≡ eq_lanes key (part at n m)
 unfolding part
 same_lanes m key at n same e =
     let w : at + n - at ≡ n = omega arith in
-    e ∙ rw w (pairs_lanes (take n key) (take n (drop at m)))
+    e ∙ rw w (pairs_lanes key (take n (drop at m)))
 
 -- key_at: a record of another size; of this size
-module _ (m key : List ℕ) (at n : ℕ) where
-  pub record_other : at + record_words ≤ length m → get_or m (at + 1) 0 ≤ most_lanes → n ≤ length key
-      → get_or m (at + 1) 0 ≢ n
-      → false ≡ eq_lanes (take n key) (key_at m at)
+module _ (m key : List ℕ) (at : ℕ) where
+  pub record_other : at + record_words ≤ length m → get_or m (at + 1) 0 ≤ most_lanes
+      → get_or m (at + 1) 0 ≢ length key
+      → false ≡ eq_lanes key (key_at m at)
   unfolding key_at
-  record_other h k l e =
+  record_other h k e =
       let size : ℕ = get_or m (at + 1) 0 in
-      sym (differ_lanes (take n key) (part (at + 2) size m)
-      (λ q. e (sym (length_part (at + 2) size m (omega arith)) ∙ sym (ap length q) ∙ length-take-le n key l)))
+      sym (differ_lanes key (part (at + 2) size m)
+      (λ q. e (sym (length_part (at + 2) size m (omega arith)) ∙ sym (ap length q))))
 
-  pub record_same : get_or m (at + 1) 0 ≡ n
-      → eq_lanes (take n key) (part (at + 2) n m) ≡ eq_lanes (take n key) (key_at m at)
+  pub record_same : get_or m (at + 1) 0 ≡ length key
+      → eq_lanes key (part (at + 2) (length key) m) ≡ eq_lanes key (key_at m at)
   unfolding key_at
   record_same e = rw e refl

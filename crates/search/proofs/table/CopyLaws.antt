@@ -8,7 +8,7 @@ use native.Mathlib.Omega.{arith}
 use native.Mathlib.Nat.{add-zero}
 use native.Mathlib.Numerals.{add-one}
 use lib.ListN.{length, get_or, set, take, drop, length-set}
-use lib.Seq.{sets, sets-eq, length-sets, length-take-le, drop-drop, get_or-set_same, get_or-set_other}
+use lib.Seq.{sets, sets-eq, length-sets, drop-drop, get_or-set_same, get_or-set_other}
 use borrow.Rule.Slice.PartMut.{put_mid}
 use Rattle.search.specs.Sizes.{most_lanes, record_words}
 use Rattle.search.specs.Table.{place_of}
@@ -35,13 +35,6 @@ written_over m ys at many h e =
     rw (e, drop-drop (length ys) at m)
     (sym (sets-eq ys m at h ∙ append_assoc (take at m) ys (drop (at + length ys) m)))
 
--- the first n lanes of a key, copied over as many words
-pub copied : (m key ys : List ℕ) (at n many : ℕ) → at + n ≤ length m → n ≤ length key → many ≡ n → ys ≡ take n key
-    → put_mid at many m ys ≡ sets m at (take n key)
-copied m key ys at n many h l e f =
-    let long : length (take n key) ≡ n = length-take-le n key l in
-    rw f (written_over m (take n key) at many (rw long h) (e ∙ sym long))
-
 -- `last` is m with record `count` written behind the others, and the head of bucket b set to it
 pub record Written (m last : List ℕ) (limit count b : ℕ) (key : List ℕ) : Type 0 where
   pub long : length last ≡ length m
@@ -52,8 +45,8 @@ pub record Written (m last : List ℕ) (limit count b : ℕ) (key : List ℕ) : 
   pub others : (i : ℕ) → i ≢ b → i < place_of limit count → get_or last i 0 ≡ get_or m i 0
 
 -- link, size and lanes, then the head
-module _ (m key : List ℕ) (limit count b n : ℕ) (long : limit + limit * record_words ≤ length m)
-    (room : count < limit) (low : b < limit) (few : n ≤ most_lanes) (known : n ≤ length key) where
+module _ (m key : List ℕ) (limit count b : ℕ) (long : limit + limit * record_words ≤ length m)
+    (room : count < limit) (low : b < limit) (few : length key ≤ most_lanes) where
   abbrev at : ℕ
   at = place_of limit count
 
@@ -61,28 +54,27 @@ module _ (m key : List ℕ) (limit count b n : ℕ) (long : limit + limit * reco
   linked = set m at (get_or m b 0)
 
   abbrev sized : List ℕ
-  sized = set linked (at + 1) n
+  sized = set linked (at + 1) (length key)
 
   abbrev laned : List ℕ
-  laned = sets sized (at + 2) (take n key)
+  laned = sets sized (at + 2) key
 
   length_linked : length linked ≡ length m
   length_linked = length-set m at (get_or m b 0)
 
   length_sized : length sized ≡ length m
-  length_sized = length-set linked (at + 1) n ∙ length_linked
+  length_sized = length-set linked (at + 1) (length key) ∙ length_linked
 
   length_laned : length laned ≡ length m
-  length_laned = length-sets sized (at + 2) (take n key) ∙ length_sized
+  length_laned = length-sets sized (at + 2) key ∙ length_sized
 
   -- what stands before the lanes
   before_lanes : (i : ℕ) → i < at + 2 → i ≢ b → get_or (set laned b (count + 1)) i 0 ≡ get_or sized i 0
   before_lanes i h e =
-      get_or-set_other laned b i (count + 1) 0 e ∙ get_or_sets_before sized (at + 2) (take n key) i h
+      get_or-set_other laned b i (count + 1) 0 e ∙ get_or_sets_before sized (at + 2) key i h
 
-  pub written : Written m (set laned b (count + 1)) limit count b (take n key)
+  pub written : Written m (set laned b (count + 1)) limit count b key
   written =
-      let kept : length (take n key) ≡ n = length-take-le n key known in
       let wide : length linked ≡ length m = length_linked in
       let wider : length sized ≡ length m = length_sized in
       let widest : length laned ≡ length m = length_laned in
@@ -90,18 +82,17 @@ module _ (m key : List ℕ) (limit count b n : ℕ) (long : limit + limit * reco
         long = length-set laned b (count + 1) ∙ length_laned;
         link =
             before_lanes at (omega arith) (λ e. omega arith)
-            ∙ get_or-set_other linked (at + 1) at n 0 (λ e. omega arith)
+            ∙ get_or-set_other linked (at + 1) at (length key) 0 (λ e. omega arith)
             ∙ get_or-set_same m at (get_or m b 0) 0 (omega arith);
         size =
             before_lanes (at + 1) (omega arith) (λ e. omega arith)
-            ∙ get_or-set_same linked (at + 1) n 0 (omega arith)
-            ∙ sym kept;
+            ∙ get_or-set_same linked (at + 1) (length key) 0 (omega arith);
         lanes =
             λ i h. get_or-set_other laned b (at + 2 + i) (count + 1) 0 (λ e. omega arith)
-            ∙ get_or_sets_within (take n key) sized (at + 2) i (omega arith) h;
+            ∙ get_or_sets_within key sized (at + 2) i (omega arith) h;
         head = get_or-set_same laned b (count + 1) 0 (omega arith) ∙ add-one count;
         others =
             λ i e h. before_lanes i (omega arith) e
-            ∙ get_or-set_other linked (at + 1) i n 0 (λ q. omega arith)
+            ∙ get_or-set_other linked (at + 1) i (length key) 0 (λ q. omega arith)
             ∙ get_or-set_other m at i (get_or m b 0) 0 (λ q. omega arith);
       }

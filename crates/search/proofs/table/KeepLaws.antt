@@ -8,8 +8,8 @@ use native.Mathlib.Omega.{arith}
 use native.Mathlib.Nat.{eq-or-lt_of_le, le_of_suc-le-suc}
 use borrow.Author.Tests.{eqb-true, eqb-false}
 use lib.Dec.{eqb}
-use lib.ListN.{length, get_or, set, take, length-set}
-use lib.Seq.{ext_get_or, length-take-le, sets, length-sets}
+use lib.ListN.{length, get_or, set, length-set}
+use lib.Seq.{ext_get_or, sets, length-sets}
 use Rattle.machine.specs.View.{part}
 use Rattle.machine.proofs.lists.PartLaws.{length_part, get_or_part}
 use Rattle.search.specs.Sizes.{most_lanes}
@@ -189,16 +189,13 @@ module _ {m last : List ℕ} {limit count b : ℕ} {key : List ℕ} (c : Chained
           (1, subst (λ y. On last limit 1 (get_or last y 0) count) (e ∙ ap (bucket_of limit) (sym key_new)) on_new)
 
 -- the stores of `keep`, whose lanes are copied by `copy`
-module _ (m key : List ℕ) (limit count b n : ℕ) (c : Chained m limit count) (room : count < limit)
-    (low : b < limit) (e : b ≡ bucket_of limit (take n key)) (few : n ≤ most_lanes) (known : n ≤ length key) (copied : List ℕ)
+module _ (m key : List ℕ) (limit count b : ℕ) (c : Chained m limit count) (room : count < limit)
+    (low : b < limit) (e : b ≡ bucket_of limit key) (few : length key ≤ most_lanes) (copied : List ℕ)
     (k : copied
-    ≡ sets (set (set m (place_of limit count) (get_or m b 0)) (place_of limit count + 1) n)
-    (place_of limit count + 2) (take n key)) where
-  stored : Written m (set copied b (count + 1)) limit count b (take n key)
-  stored = rw k (written m key limit count b n c.long room low few known)
-
-  small : length (take n key) ≤ most_lanes
-  small = rw (length-take-le n key known) few
+    ≡ sets (set (set m (place_of limit count) (get_or m b 0)) (place_of limit count + 1) (length key))
+    (place_of limit count + 2) key) where
+  stored : Written m (set copied b (count + 1)) limit count b key
+  stored = rw k (written m key limit count b c.long room low few)
 
   pub kept_length : length (set copied b (count + 1)) ≡ length m
   kept_length = stored.long
@@ -209,5 +206,5 @@ module _ (m key : List ℕ) (limit count b n : ℕ) (c : Chained m limit count) 
       rw k (simp (length-sets, length-set) (omega arith))
 
   pub kept : Chained (set copied b (count + 1)) limit (suc count)
-      × (keys_in (set copied b (count + 1)) limit (suc count) ≡ take n key ∷ keys_in m limit count)
-  kept = (kept_chained c stored room low small e, kept_keys c stored room low small)
+      × (keys_in (set copied b (count + 1)) limit (suc count) ≡ key ∷ keys_in m limit count)
+  kept = (kept_chained c stored room low few e, kept_keys c stored room low few)

@@ -18,7 +18,7 @@ get_or_sets_before xs i [] j h = refl
 get_or_sets_before xs i (v ∷ vs) j h =
     get_or_sets_before (set xs i v) (suc i) vs j (omega arith) ∙ get_or-set_other xs i j v 0 (λ e. omega arith)
 
-set_sets : (xs : List ℕ) (i : ℕ) (vs : List ℕ) (j v : ℕ) → j < i
+pub set_sets : (xs : List ℕ) (i : ℕ) (vs : List ℕ) (j v : ℕ) → j < i
     → set (sets xs i vs) j v ≡ sets (set xs j v) i vs
 set_sets xs i [] j v h = refl
 set_sets xs i (w ∷ vs) j v h =

@@ -16,7 +16,8 @@ use Rattle.search.specs.Rows.{rows_in, row_len_at, register_at, pool_at, row_len
 use Rattle.search.specs.Rows.{FewEntries, RoomForOne}
 use Rattle.search.specs.Taken.{inserted, carried, counted, discounted, fetched_lanes, CodeHere}
 use Rattle.search.proofs.lanes.GeneralLaws.{sum_front}
-use Rattle.search.proofs.rows.RowLoopLaws.{code_low, row_low, row_next}
+use Rattle.search.proofs.listing.ListingLaws.{code_low}
+use Rattle.search.proofs.rows.RowLoopLaws.{row_low, row_next}
 use Rattle.search.proofs.taken.InPlaceLaws.{inserted_before, carried_before}
 
 -- a row starts no further than a later one; two rows' lengths

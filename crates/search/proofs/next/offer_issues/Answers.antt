@@ -4,5 +4,5 @@ use Rattle.search.proofs.next.offer_issues.Goals as goal
 
 pub loop-t-preserved : goal.loop-t-preserved
 loop-t-preserved c =
-    offered_next c.loop-t.invariant (omega arith) _ _ c.offer.ensures
+    offered_next c.loop-t.invariant (omega arith) _ _ _ c.offer.ensures c.issue_step.ensures
     c.is_issue_barred-barred.ensures

@@ -10,10 +10,10 @@ offer-requires c =
     let g = c.requires in
     let w = c.args.v.now.c.now.fits.few_threads in
     let m = i.0 in
-    (offered_low i.1 (omega arith) (omega arith), omega arith)
+    (offered_low i.1 (omega arith) (omega arith), rw c.move_step.ensures (omega arith))
 
 pub loop-i-preserved : goal.loop-i-preserved
 loop-i-preserved c =
     let i = c.loop-i.invariant in
     let m = move_made _ _ _ _ _ _ c.requires.1 c.is_entry_barred-barred.ensures in
-    (i.0, offered_next i.1 (omega arith) _ _ c.offer.ensures m)
+    (i.0, offered_next i.1 (omega arith) _ _ _ c.offer.ensures c.move_step.ensures m)

@@ -1,6 +1,6 @@
 -- `line_of` meets its contract. Assumes nothing.
 use Rattle.std.proofs.Common.{arith, rules}
-use Rattle.search.proofs.rows.RowLoopLaws.{line_none, line_some, line_byte_lem}
+use Rattle.search.proofs.listing.ListingLaws.{line_none, line_some, line_byte_lem}
 use Rattle.search.proofs.listing.Listing.line_of.Goals as goal
 
 pub returns-then-at-ge-LOCATIONS : goal.returns-then-at-ge-LOCATIONS
