@@ -1,12 +1,11 @@
 // A record of a case: opened from bytes, and laid out as bytes.
 ghost use Rattle.std.specs.Prelude.{◌≡◌, false, ◌∷◌, ◌+◌, ◌≤◌, length, IfOk};
-ghost use Rattle.cases.specs.declared.record.Record.TheVariants.{Declare, Instruct, Passed, Take};
+ghost use Rattle.cases.specs.declared.record.Record.TheVariants.{Declare, Instruct};
 ghost use Rattle.cases.specs.Sizes.{most_locations};
 ghost use Rattle.cases.specs.Bytes.{half, word_bytes, put_over};
 ghost use Rattle.cases.specs.Fault.{refusal_no};
 ghost use Rattle.cases.specs.Lines.{table};
 ghost use Rattle.cases.specs.Record.{
-  kind_of,
   payload_of,
   spare_of,
   mislong,
@@ -63,21 +62,6 @@ pub enum Record {
     Want(Write),
     Passed(Thread, u8),
     Take(Step),
-}
-
-impl Record {
-    pub(crate) fn kind(&self) -> u16
-        ensures { result ≡ kind_of self.now }
-    {
-        match self {
-            Record::Declare(_) => DECLARE,
-            Record::First(_) => FIRST,
-            Record::Instruct(_, _) => INSTRUCT,
-            Record::Want(_) => WANT,
-            Record::Passed(_, _) => PASSED,
-            Record::Take(_) => TAKE,
-        }
-    }
 }
 
 // How long the payload of a kind is at least; 0 where there is no such kind.
