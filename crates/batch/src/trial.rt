@@ -3,7 +3,7 @@ use crate::job::Job;
 use crate::print::ROOM;
 use crate::state::STATE_BYTES;
 use crate::{asked, change, print, state, stream};
-use cases::case::{Case, Location, Step, Thread};
+use cases::case::{Case, Step};
 use machine::blocker::Blocker;
 use machine::cells::State;
 use machine::runs::Judged;
@@ -87,14 +87,8 @@ fn take_step(rt: HostRuntime, c: Case) -> io::Result<bool> {
     if !stream::fills(rt, &mut raw[..STATE_BYTES])? {
         return Ok(false);
     }
-    let k = Step {
-        thread: Thread(fields[0]),
-        code: fields[1],
-        position: fields[2],
-        location: Location(fields[3]),
-    };
     let s = state::from_bytes(&raw);
-    let r = machine::step(c, s, k);
+    let r = machine::step(c, s, Step::from(fields));
     print_line(rt, &said_of_step(&r), c, s, &r.state)?;
     Ok(true)
 }

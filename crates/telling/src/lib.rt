@@ -6,7 +6,7 @@
 ghost use Rattle.std.specs.Prelude.{Some};
 ghost use Rattle.telling.specs.Text.{step_text, place_text};
 
-use cases::case::{Line, Location, Step, Thread};
+use cases::case::{Line, Step, Thread};
 use cases::operations::{ISSUE, MOVE, PERSIST};
 use cases::sizes::{STEP_SIZE, STEPS};
 use machine::blocker::Blocker;
@@ -57,20 +57,10 @@ impl fmt::Display for InTheWay {
     }
 }
 
-// The step of a record of eight bytes.
-fn step_in(record: &[u8; STEP_SIZE]) -> Step {
-    Step {
-        thread: Thread(record[4]),
-        code: record[5],
-        position: record[6],
-        location: Location(record[7]),
-    }
-}
-
 // The first steps of a run of records, no more than there are.
 fn say_run<P: Print>(to: &P, run: &[u8], count: usize) -> io::Result<()> {
-    for record in run.as_chunks().0.iter().take(count) {
-        println!(to; "{}", Taken(step_in(record)))?;
+    for r in run.as_chunks::<STEP_SIZE>().0.iter().take(count) {
+        println!(to; "{}", Taken(Step::from([r[4], r[5], r[6], r[7]])))?;
     }
     Ok(())
 }
