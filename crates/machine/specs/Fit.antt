@@ -137,7 +137,7 @@ pub record Fits (p : Program) (s : State) : Type 0 where
 
 -- What the machine's parts ask for of a state, as each needs it.
 -- an instruction as it is issued: its thread, location, register and line are ones that there may be, and its line's
--- queue and its thread's buffer have room for an entry
+-- queue and its thread's buffer have room for an entry; one record for all, though a load puts nothing there
 pub record Issuable (p : Program) (s : State) (t : ℕ) (x : Instruction) : Type 0 where
   pub low_thread : t < most_threads
   pub low_location : x.location.0 < most_locations

@@ -19,7 +19,8 @@ use cases::operations::{ISSUE, MOVE};
 use cases::sizes::{CODE, LOCATIONS, THREADS};
 
 // What is said of a step: legal, a rule broken and the first entry in the way, or the input refused. Both are 01's numbers:
-// `stepped_of` is over any `Model`, whose rule and fault are numbers, and so say `order_of_stepping`, `unchecked_stepping` of demands.
+// `stepped_of` is over any `Model`, whose rule and fault are numbers; `order_of_stepping`, `unchecked_stepping` of
+// demands say them too.
 #[derive(Clone, Copy)]
 pub enum Ruling {
     Allowed,
