@@ -1,3 +1,3 @@
 -- What the functions of src/moves.rt meet.
--- move, persist, settled, roomy: what an entry names, a move's rule, each effect
+-- move, flush, persist, settled, roomy: what an entry names, a move's rule, each effect
 pub mod MoveLaws

@@ -1,7 +1,7 @@
 -- The question (specs/Question).
 -- reaches, is_reaches: what it is to reach it
 pub mod ReachLaws
--- answer, Answers, Stores, Low: what is told and stored of what is decided
+-- answer, roomy, Answers, Stores, Low: what is told and stored of what is decided
 pub mod AnswerLaws
 -- ask, reached: the code
 pub mod AskLaws
