@@ -186,6 +186,8 @@ impl Ranks {
     }
 }
 
+// One shape three times, apart in the test and the step: over two closures each of the three would have to state of both
+// that they can be called and what they give, where now it calls two functions that say it.
 #[tactic(auto, using(crate::proofs::next::RanksLoopLaws::offers), unfolding(machine::specs::Next::rank_of))]
 fn offer_issues(v: &View, to: &mut Ranks)
     requires { to.old.count + threads_in v.now.c.now.numbers ≤ most_candidates }

@@ -60,7 +60,8 @@ fn discount(x: &mut [u32; LANES], at: usize)
     x[at] -= 1;
 }
 
-// An entry more at a row's end. A hint where the machine's code is faster for it, here and below.
+// An entry more at a row's end. The hint, as that on `carry_over`, by callgrind: without them the compiler splits
+// a step elsewhere, and a walk takes more instructions.
 #[tactic(auto, using(crate::proofs::taken::RowLenLaws::joined_within, crate::proofs::taken::RowLenLaws::joined_count), unfolding(crate::specs::Taken::row_joined))]
 #[inline(always)]
 fn join(c: &Listing, x: &mut [u32; LANES], r: Row, tag: u32, word: u32)
@@ -87,7 +88,8 @@ fn leave(c: &Listing, x: &mut [u32; LANES], r: Row, at: usize)
     discount(x, c.row_len_at(r));
 }
 
-// The entry at a lane of a buffer's row goes to the end of a line's queue, with another tag.
+// The entry at a lane of a buffer's row goes to the end of a line's queue, with another tag. Put into both
+// calls, as `join` is.
 #[tactic(auto, unfolding(crate::specs::Taken::row_carried))]
 #[inline(always)]
 fn carry_over(c: &Listing, x: &mut [u32; LANES], t: Thread, at: usize, q: Line, tag: u32)
@@ -165,7 +167,6 @@ fn fetch(c: &Listing, x: &mut [u32; LANES], t: Thread, at: usize)
 
 // The word goes to the end of the location's queue.
 #[tactic(auto, using(crate::proofs::taken::RowLenLaws::fetched_room, crate::proofs::listing::ListingLaws::queue_low), unfolding(crate::specs::Taken::exchanged_lanes))]
-#[inline(never)]
 fn exchange(c: &Listing, x: &mut [u32; LANES], t: Thread, at: usize)
     requires { CodeHere c.now.numbers x.old t.0 at }
     ensures { x.new ≡ exchanged_lanes c.now.numbers x.old t.0 at }
