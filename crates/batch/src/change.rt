@@ -1,5 +1,5 @@
 // A case in memory with one of its fields changed, whatever that makes of it; docs/FRAMES.md numbers the
-// fields.
+// fields. Numbers and no enum: a frame may have any, and one that no field has changes nothing.
 use cases::case::{Ask, Case, Instruction, Location, Program, Register, Run, Step, Thread};
 use cases::sizes::{CODE, LOCATIONS, STEPS, THREADS};
 

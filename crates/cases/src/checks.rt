@@ -76,7 +76,8 @@ fn is_outside(x: u16, most: u16) -> bool
     x < 1 || most < x
 }
 
-// A field that is used, and has a number that there is not.
+// A field that is used, and has a number that there is not. Two words and no Option, here and below: the field has its
+// number whether it is used or not, and `beyond` and `left_over` of specs/Checks.antt, of which 5 and 8 are made, take both.
 #[tactic(auto, using(crate::proofs::ChoiceLaws::choices), unfolding(crate::specs::Checks::beyond))]
 fn is_beyond(used: bool, x: u8, limit: u8) -> bool
     ensures { result ≡ beyond used x limit }

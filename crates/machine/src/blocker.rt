@@ -14,7 +14,8 @@ use crate::look::Place;
 use crate::rule::Rule;
 use cases::case::{Line, Step, Thread};
 
-// Where it stands: a thread's buffer or a line's queue, and the position there.
+// Where it stands: a thread's buffer or a line's queue, and the position there. Three kinds and no Option of two: the
+// numbers 1, 2 and 0 of `blocker_which` tell them, and `judge_illegal` and `InTheWay` of specs/InTheWay.antt go by all three.
 #[derive(Clone, Copy)]
 pub enum Blocker {
     InBuffer(Thread, u8),

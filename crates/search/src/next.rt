@@ -173,7 +173,7 @@ fn rank(k: Step) -> u8
 }
 
 impl Ranks {
-    // A step more, where it is not barred.
+    // A step more, where it is not barred: the test once, and not in each of three loops.
     #[tactic(auto, using(cases::proofs::ChoiceLaws::choices), unfolding(crate::specs::Barred::offered, crate::specs::Barred::pushed))]
     fn offer(&mut self, barred: bool, k: Step)
         requires { (self.old.count < most_candidates) × (rank_of k < 256) }

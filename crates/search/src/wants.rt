@@ -9,7 +9,7 @@ ghost use Rattle.search.specs.Taken.{misses_lane, reaches_lanes};
 use crate::rows::View;
 use cases::case::{Ask, Location};
 
-// Does a location hold another word than is wanted there?
+// Does a location hold another word than is wanted there? The flag beside the word is `Ask`'s, which says why.
 #[tactic(auto, using(cases::proofs::ChoiceLaws::choices), unfolding(crate::specs::Question::misses))]
 fn misses(wanted: bool, want: u32, word: u32) -> bool
     ensures { result ≡ question.misses wanted want word }
