@@ -60,8 +60,8 @@ fn discount(x: &mut [u32; LANES], at: usize)
     x[at] -= 1;
 }
 
-// An entry more at a row's end. The hint, as that on `carry_over`, by callgrind: without them the compiler splits
-// a step elsewhere, and a walk takes more instructions.
+// An entry more at a row's end. The hint, as those on `carry_over` and `exchange`, by callgrind: without the three the
+// compiler splits a step elsewhere, and a walk takes more instructions.
 #[tactic(auto, using(crate::proofs::taken::RowLenLaws::joined_within, crate::proofs::taken::RowLenLaws::joined_count), unfolding(crate::specs::Taken::row_joined))]
 #[inline(always)]
 fn join(c: &Listing, x: &mut [u32; LANES], r: Row, tag: u32, word: u32)
@@ -165,8 +165,10 @@ fn fetch(c: &Listing, x: &mut [u32; LANES], t: Thread, at: usize)
     x[r] = word;
 }
 
-// The word goes to the end of the location's queue.
+// The word goes to the end of the location's queue. Kept a call: it is an issue's longest
+// way, and would else stand in the walk's own code.
 #[tactic(auto, using(crate::proofs::taken::RowLenLaws::fetched_room, crate::proofs::listing::ListingLaws::queue_low), unfolding(crate::specs::Taken::exchanged_lanes))]
+#[inline(never)]
 fn exchange(c: &Listing, x: &mut [u32; LANES], t: Thread, at: usize)
     requires { CodeHere c.now.numbers x.old t.0 at }
     ensures { x.new ≡ exchanged_lanes c.now.numbers x.old t.0 at }
