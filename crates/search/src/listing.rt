@@ -30,8 +30,8 @@ fn put_numbers(c: &mut [u32; LISTING], at: usize, numbers: &[u8])
     requires { at + length numbers.now ≤ all_listing }
     ensures { c.new ≡ sets c.old at numbers.now }
 {
-    for i in 0..numbers.len() {
-        c[at + i] = numbers[i] as u32;
+    for (i, n) in numbers.iter().enumerate() {
+        c[at + i] = *n as u32;
     }
 }
 
@@ -40,8 +40,7 @@ fn put_numbers(c: &mut [u32; LISTING], at: usize, numbers: &[u8])
 fn put_code(c: &mut [u32; LISTING], code: &[Instruction; CODE])
     ensures { c.new ≡ sets c.old codes_at (join_to all_code (instruction_numbers code.now)) }
 {
-    for i in 0..CODE {
-        let x = code[i];
+    for (i, x) in code.iter().enumerate() {
         let at = CODES + 4 * i;
         c[at] = x.operation as u32;
         c[at + 1] = x.location.0 as u32;

@@ -16,6 +16,7 @@ pub(crate) fn start_lanes(p: &Program, c: &Listing) -> [u32; LANES]
     ensures { result ≡ padded (lanes_of p.now (start_of p.now)) }
 {
     let mut x = [0u32; LANES];
+    // by number: the place of a location's word goes by it
     for l in 0..p.locations {
         x[c.word_at(Location(l))] = p.first[l as usize];
     }

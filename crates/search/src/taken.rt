@@ -60,10 +60,8 @@ fn discount(x: &mut [u32; LANES], at: usize)
     x[at] -= 1;
 }
 
-// An entry more at a row's end. The hint, as those on `carry_over` and `exchange`, by callgrind: without the three the
-// compiler splits a step elsewhere, and a walk takes more instructions.
+// An entry more at a row's end.
 #[tactic(auto, using(crate::proofs::taken::RowLenLaws::joined_within, crate::proofs::taken::RowLenLaws::joined_count), unfolding(crate::specs::Taken::row_joined))]
-#[inline(always)]
 fn join(c: &Listing, x: &mut [u32; LANES], r: Row, tag: u32, word: u32)
     requires { RoomForOne c.now.numbers x.old × (r.0 < rows_in c.now.numbers) }
     ensures { x.new ≡ row_joined c.now.numbers x.old r.0 tag word }
@@ -88,10 +86,8 @@ fn leave(c: &Listing, x: &mut [u32; LANES], r: Row, at: usize)
     discount(x, c.row_len_at(r));
 }
 
-// The entry at a lane of a buffer's row goes to the end of a line's queue, with another tag. Put into both
-// calls, as `join` is.
+// The entry at a lane of a buffer's row goes to the end of a line's queue, with another tag.
 #[tactic(auto, unfolding(crate::specs::Taken::row_carried))]
-#[inline(always)]
 fn carry_over(c: &Listing, x: &mut [u32; LANES], t: Thread, at: usize, q: Line, tag: u32)
     requires { FewEntries c.now.numbers x.old × (t.0 < threads_in c.now.numbers)
         × (q.0 < lines_in c.now.numbers) × (0 < row_len c.now.numbers x.old t.0) × (pool_at c.now.numbers ≤ at)
@@ -165,10 +161,8 @@ fn fetch(c: &Listing, x: &mut [u32; LANES], t: Thread, at: usize)
     x[r] = word;
 }
 
-// The word goes to the end of the location's queue. Kept a call: it is an issue's longest
-// way, and would else stand in the walk's own code.
+// The word goes to the end of the location's queue.
 #[tactic(auto, using(crate::proofs::taken::RowLenLaws::fetched_room, crate::proofs::listing::ListingLaws::queue_low), unfolding(crate::specs::Taken::exchanged_lanes))]
-#[inline(never)]
 fn exchange(c: &Listing, x: &mut [u32; LANES], t: Thread, at: usize)
     requires { CodeHere c.now.numbers x.old t.0 at }
     ensures { x.new ≡ exchanged_lanes c.now.numbers x.old t.0 at }
