@@ -26,6 +26,7 @@ const FROM_PASSED: usize = 2 * LOCATIONS;
 
 const ALL_OF_ASK: usize = FROM_PASSED + THREADS;
 
+// One byte of a word: `to_le_bytes` would make four.
 fn low(value: u32) -> u8 {
     (value % 256) as u8
 }

@@ -29,6 +29,7 @@ const HEAD: usize = 16;
 // A frame of the machine begins with this number and its job; the other frames begin with a length.
 const MACHINE: u32 = 2147483648;
 
+// A number of a frame's head.
 fn number_at(head: &[u8; HEAD], at: usize) -> u32
     requires { at + 4 ≤ 16 }
 {

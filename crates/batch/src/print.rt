@@ -11,6 +11,7 @@ pub const ROOM: usize = 8192;
 // Two digits for each.
 const TEXT: usize = 2 * ROOM;
 
+// By hand: a format for each byte would write each by a call of its own.
 fn glyph(digit: u8) -> u8
     requires { digit < 16 }
 {

@@ -77,6 +77,8 @@ fn put_entry(raw: &mut [u8; ROOM], at: usize, e: Entry)
     put_word(raw, at + 2, word);
 }
 
+// Words and entries apart, here and below: of another size and another form, and a trait for both would be longer than
+// what it saves.
 fn read_words(raw: &[u8; ROOM], at: usize, into: &mut [u32])
     requires { at + 4 * length into.old ≤ state_bytes }
 {

@@ -197,7 +197,8 @@ fn is_set_by(r: Register, x: Instruction) -> bool
     sets_register(x.operation) && x.register == r
 }
 
-// One of the n instructions from there on sets the register.
+// One of the n instructions from there on sets the register. A place and a count and no slice: so none is out of bounds,
+// and nobody has to show it.
 fn is_set_within(code: &[Instruction], at: usize, n: usize, r: Register) -> bool
     ensures { result ≡ list_any (set_by r.0) (take n (drop at code.now)) }
 {
@@ -250,7 +251,8 @@ fn is_step_left(k: Step) -> bool
         || is_left_over(code == PERSIST, k.location.0 as u32)
 }
 
-// 5 and 8 of a step, as for a kind 6 record, by number; `check_step` says them as a fault.
+// 5 and 8 of a step, as for a kind 6 record, by number, since that is its promise (docs/SIGNATURES.md); `check_step` says
+// them as a fault.
 #[tactic(auto, using(crate::proofs::ChoiceLaws::choices), unfolding(crate::specs::Checks::step_fault))]
 pub fn step_fault(p: Program, k: Step) -> u8
     ensures { result ≡ step_fault (limits_of p) k }

@@ -5,7 +5,8 @@ ghost use Rattle.cases.specs.Lines.{listed_of, own_lines, new_after, unordered, 
 
 use crate::sizes::LOCATIONS;
 
-// The version of a file whose locations have a line each.
+// The version of a file whose locations have a line each. A number and no enum: a file may hold any, which 5 refuses
+// (`header_out` of specs/Checks.antt).
 pub const OWN_VERSION: u16 = 1;
 
 // The version of a file that says each location's line.

@@ -12,7 +12,8 @@ use machine::blocker::Blocker;
 use machine::{blocker, runs};
 use search::ask;
 
-// Packing only: what is packed is proved in the layers below.
+// Packing only, by the sums of the C interface, as `packed_of` and `place_packed` of specs/Host.antt say them: what is
+// packed is proved in the layers below.
 fn packed(number: u8, place: usize) -> u32
     requires { place < 2 ^ 24 }
     ensures { result ≡ packed_of number place }

@@ -92,7 +92,8 @@ fn entry_of(s: &State, t: Thread, x: Instruction) -> Entry
     }
 }
 
-// The register takes the newest store of the own buffer, else the newest write in the line's queue, else the
+// What changes a state takes it by value, as document 01 says; so what it needs is a record, `Issuable`, and no ghost
+// field. The register takes the newest store of the own buffer, else the newest write in the line's queue, else the
 // persistent word.
 #[tactic(auto, unfolding(crate::specs::Rules::loaded, crate::specs::View::with_register, crate::specs::Look::load_of, crate::specs::Look::queued_word))]
 fn load(p: &Program, s: State, t: Thread, x: Instruction) -> State
@@ -108,7 +109,7 @@ fn load(p: &Program, s: State, t: Thread, x: Instruction) -> State
     u
 }
 
-// The register takes the newest write in the line's queue, else the persistent word.
+// The register takes the newest write in the line's queue, else the persistent word: `load` without its buffer.
 #[tactic(auto, unfolding(crate::specs::Rules::fetched, crate::specs::View::with_register, crate::specs::Look::queued_word))]
 fn fetch(p: &Program, s: State, t: Thread, x: Instruction) -> State
     requires { Issuable p.now s t.0 x }

@@ -85,7 +85,8 @@ fn bar_in(p: &Program, entries: &[Waiting], q: Line) -> Option<usize>
 }
 
 impl<'a> Fitted<'a> {
-    // The first marker of a thread, by queue and then by position. The labels are the loops' names in the proofs.
+    // The first marker of a thread, by queue and then by position. The labels are the loops' names in the
+    // proofs. Loops and no chain: document 01 names them ("goes through every queue and stops at the first one found").
     pub(crate) fn marker(&self, t: Thread) -> Option<Place>
         requires { t.0 < most_threads }
         ensures { result ≡ marker_of self.now.s.now.marks self.now.s.now.lengths t.0 }

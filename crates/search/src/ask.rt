@@ -16,7 +16,7 @@ use cases::sizes::STEP_SIZE;
 use machine::{steps, work};
 
 // Reached with the number of steps of the run that is shown; refused with the number and the offset. The definitions of
-// specs/Question.antt, and theorems of other crates, are about these four.
+// specs/Question.antt, and theorems of other crates, are about these four; a refusal is a number there, as in `question_of`.
 #[derive(Clone, Copy)]
 pub enum Outcome {
     Reached(usize),

@@ -73,7 +73,7 @@ impl Listing {
     }
 
     // Sizes, since most sums here are of places; a loop over threads or lines makes a byte of one, once, for `Thread` or
-    // `Line`. As bytes they took two per cent more instructions.
+    // `Line`.
     pub(crate) fn threads(&self) -> usize
         ensures { result ≡ threads_in self.now.numbers }
     {

@@ -77,6 +77,7 @@ pub(crate) fn recall(
     }
     let next = next::next_steps(&v);
     let mut rest = left - 1;
+    // by number: as the walk
     for i in 0..next.count {
         let k = next::step_at(next.ranks[i as usize]);
         let mut u = *x;

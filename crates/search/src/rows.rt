@@ -31,7 +31,7 @@ pub(crate) fn buffer_row(t: Thread) -> Row
 }
 
 // Of n entries from base on, the word of the newest with that tag, else the word given: the first one found from
-// their end.
+// their end. By number, here and below: an entry is two lanes, and base and n are what `newest_lane` and its like take.
 #[tactic(auto, using(crate::proofs::rows::RowLoopLaws::newest))]
 fn newest(x: &[u32; LANES], base: usize, tag: u32, other: u32, n: usize) -> u32
     requires { base + 2 * n ≤ most_lanes }
@@ -77,7 +77,7 @@ impl<'a> View<'a> {
         self.x[self.c.row_len_at(r)] as usize
     }
 
-    // Where a row starts; behind the last row, where that one ends.
+    // Where a row starts; behind the last row, where that one ends. By number: a row's length stands by its own.
     pub(crate) fn row_start(&self, r: Row) -> usize
         requires { r.0 ≤ rows_in self.now.c.now.numbers }
         ensures { result ≡ row_start self.now.c.now.numbers self.now.x.now r.0 }

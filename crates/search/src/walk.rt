@@ -50,6 +50,7 @@ pub(crate) fn walk(
     }
     let next = next::next_steps(&v);
     let mut left = budget - 1;
+    // by number: the invariant is over what stands at it, as `next_lanes` has it
     for i in 0..next.count {
         let k = next::step_at(next.ranks[i as usize]);
         let mut u = *x;

@@ -57,7 +57,7 @@ impl fmt::Display for InTheWay {
     }
 }
 
-// The first steps of a run of records, no more than there are.
+// The first steps of a run of records, no more than there are: the count is the answer's, and the buffer may be longer.
 fn say_run<P: Print>(to: &P, run: &[u8], count: usize) -> io::Result<()> {
     for r in run.as_chunks::<STEP_SIZE>().0.iter().take(count) {
         println!(to; "{}", Taken(Step::from([r[4], r[5], r[6], r[7]])))?;
