@@ -64,7 +64,9 @@ impl State {
     // The marks in a line's queue, oldest first.
     pub(crate) fn queued(&self, q: Line) -> &[u8]
         requires { (q.0 < most_locations) × (queue_len self.now q.0 ≤ room) }
-        ensures { result.now ≡ marks_in self.now.marks self.now.lengths q.0 }
+        ensures is { result.now ≡ marks_in self.now.marks self.now.lengths q.0 }
+        ensures many { length result.now ≡ queue_len self.now q.0 }
+        ensures few { length result.now ≤ room }
     {
         let base = (q.0 as usize) * ROOM;
         let n = self.lengths[q.0 as usize] as usize;

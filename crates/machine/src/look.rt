@@ -1,5 +1,5 @@
 // What a look through the state finds. No function here changes a state.
-ghost use Rattle.std.specs.Prelude.{◌≡◌, ◌<◌, ◌≤◌, take, position};
+ghost use Rattle.std.specs.Prelude.{ℕ, ◌≡◌, ◌≢◌, ◌<◌, ◌≤◌, MatchOption, length, get_or, take, position};
 ghost use Rattle.cases.specs.Sizes.{most_threads, most_instructions, most_locations};
 ghost use Rattle.machine.specs.Sizes.{room};
 ghost use Rattle.machine.specs.View.{line_of, queue, queue_len, buffer, buffer_len};
@@ -30,32 +30,38 @@ pub(crate) fn line_of(p: &Program, l: Location) -> Line
     Line(p.line[at])
 }
 
-// The newest write of a location in a line's queue, else the word given: the first one found from its end. By index: words
-// and marks are two arrays.
+// The position of a location's last write among these marks.
+fn last_write(marks: &[u8], l: Location) -> Option<usize>
+    ensures { MatchOption result ((k : ℕ) → k < length marks.now → get_or marks.now k 0 ≢ l.0)
+        (λ i. (i < length marks.now) × (get_or marks.now i 0 ≡ l.0)
+        × ((k : ℕ) → i < k → k < length marks.now → get_or marks.now k 0 ≢ l.0)) }
+{
+    marks.iter().rposition(|m| *m == l.0)
+}
+
+// The newest write of a location in a line's queue, else the word given: the first one found from its end. By
+// `rposition`: a `for` over `rev()` compiles to a loop half as long again.
 pub(crate) fn newest_write(s: &State, q: Line, l: Location, other: u32) -> u32
     requires { (q.0 < most_locations) × (queue_len s.now q.0 ≤ room) }
     ensures { result ≡ newest_write l.0 (queue s.now q.0) other }
 {
     let base = (q.0 as usize) * ROOM;
-    let n = s.lengths[q.0 as usize] as usize;
-    for i in (0..n).rev() {
-        let at = base + i;
-        if s.marks[at] == l.0 {
-            return s.held[at];
-        }
+    match last_write(s.queued(q), l) {
+        Some(i) => s.held[base + i],
+        None => other,
     }
-    other
 }
 
 // The newest store to a location in a thread's buffer, else the word given: the first one found from its end. By index: of
-// a slice's `rev()` the invariant would need what its iterator has left, in place of a position.
+// a slice's `rev()` the invariant would need what its iterator has left, in place of a position. The entry is lent: copied
+// before it is looked at, a store elsewhere costs an instruction more.
 pub(crate) fn newest_store(s: &State, t: Thread, l: Location, other: u32) -> u32
     requires { (t.0 < most_threads) × (buffer_len s.now t.0 ≤ most_instructions) }
     ensures { result ≡ newest_store l.0 (buffer s.now t.0) other }
 {
     let b = s.buffer(t);
     for j in (0..b.len()).rev() {
-        if let Entry::Store(x) = b[j].entry {
+        if let Entry::Store(x) = &b[j].entry {
             if x.location == l {
                 return x.word;
             }

@@ -15,6 +15,7 @@ use Rattle.machine.specs.declared.cells.Entry.{Entry}
 use Rattle.machine.specs.declared.cells.Entry.TheVariants.{Store, Flush, FlushOpt, Sfence}
 use Rattle.machine.specs.View.{Slot, part, slots, blank_waiting}
 use Rattle.machine.specs.Look.{word_or, newest_write, stored_or, newest_store}
+use Rattle.machine.proofs.lists.PartLaws.{length_part, get_or_part}
 use Rattle.machine.proofs.view.SlotLaws.{slots_end, slots_next}
 
 -- The newest of a list, looked for from its end: `all xs w` is what the list makes of the word w, entry after entry
@@ -89,6 +90,42 @@ module _ (l : ℕ) (held marks : List ℕ) (base n : ℕ) (h : base + n ≤ leng
       unfolding word_or
       newest_here e =
           silent_here (word_or l) (newest_write l) (newest_more l) o newest_before _ (λ w. pick_true _ _ _ (eq-eqb _ _ e))
+
+    -- the same from position i on at once, of the marks alone; k slots stand there
+    newest_silent : (k i : ℕ) → i + k ≡ n → ((m : ℕ) → i ≤ m → m < n → get_or marks (base + m) 0 ≢ l)
+        → NewestSoFar l held marks base n i
+    newest_silent zero i e none = let f : i ≡ n = omega arith in rw f newest_start
+    newest_silent (suc k) i e none =
+        let there : suc i - 1 ≡ i = omega arith in
+        let far = newest_silent k (suc i) (omega arith) (λ m a b. none m (omega arith) b) in
+        rw there at (newest_next far (omega arith) (rw there (none i (omega arith) (omega arith))))
+
+    -- the last of the marks that is the location's is the newest write's; there is none, and the word stays
+    module _ {ms : List ℕ} (e : ms ≡ part base n marks) where
+      many_marks : length ms ≡ n
+      many_marks = rw e (length_part base n marks k)
+
+      mark_at : (m : ℕ) → m < n → get_or ms m 0 ≡ get_or marks (base + m) 0
+      mark_at m a = rw e (get_or_part base n m marks 0 a)
+
+      pub newest_last : {i : ℕ} → (i < length ms) × (get_or ms i 0 ≡ l)
+          × ((m : ℕ) → i < m → m < length ms → get_or ms m 0 ≢ l)
+          → (other : ℕ)
+          → get_or held (base + i) 0 ≡ newest_write l (slots (part base n held) (part base n marks)) other
+      newest_last {i} o other =
+          let low : i < n = omega (arith, many_marks, o.0) in
+          let there : suc i - 1 ≡ i = omega arith in
+          let far =
+          newest_silent (n - suc i) (suc i) (omega (arith, low))
+          (λ m a b. rw (← mark_at m b) (o.2 m (omega arith) (omega (arith, many_marks)))) in
+          rw there at (newest_here far (omega arith) (rw (there, ← mark_at i low) o.1) other)
+
+      pub newest_none : ((m : ℕ) → m < length ms → get_or ms m 0 ≢ l) → (other : ℕ)
+          → other ≡ newest_write l (slots (part base n held) (part base n marks)) other
+      newest_none none other =
+          silent_end
+          (newest_silent n 0 (omega arith) (λ m a b. rw (← mark_at m b) (none m (omega (arith, many_marks)))))
+          (omega arith) other
 
 -- newest_store: of the entries b
 abbrev pub StoreSoFar : ℕ → List Waiting → ℕ → Type 0

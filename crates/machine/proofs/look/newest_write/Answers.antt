@@ -1,22 +1,13 @@
+-- `newest_write` meets its contract. Assumes nothing.
 use Rattle.std.proofs.Common.{arith}
 use Rattle.machine.specs.View.{marks_in, queue_in}
-use Rattle.machine.proofs.look.LookLoopLaws.{newest_start, newest_next, newest_here, silent_end}
+use Rattle.machine.proofs.look.LookLoopLaws.{newest_last, newest_none}
 use Rattle.machine.proofs.look.newest_write.Goals as goal
 
-pub loop-i-init : goal.loop-i-init
-loop-i-init c = newest_start _ _ _ _ _ (omega arith) (omega arith)
-
-pub returns-then-s-at : goal.returns-then-s-at
+pub returns-in-Some : goal.returns-in-Some
 unfolding queue_in marks_in
-returns-then-s-at c =
-    let o = c.loop-i in
-    newest_here _ _ _ _ _ (omega arith) (omega arith) o.invariant (omega arith) c.if-s-at.true _
+returns-in-Some c = newest_last _ _ _ _ _ (omega arith) (omega arith) c.queued.ensures.is c.in-Some.ensures _
 
-pub loop-i-preserved : goal.loop-i-preserved
-loop-i-preserved c =
-    let o = c.loop-i in
-    newest_next _ _ _ _ _ (omega arith) (omega arith) o.invariant (omega arith) c.if-s-at.false
-
-pub returns : goal.returns
+pub returns-in-None : goal.returns-in-None
 unfolding queue_in marks_in
-returns c = silent_end c.loop-i.invariant (omega arith) _
+returns-in-None c = newest_none _ _ _ _ _ (omega arith) (omega arith) c.queued.ensures.is c.in-None.ensures _

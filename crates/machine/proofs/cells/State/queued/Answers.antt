@@ -4,6 +4,6 @@ use Rattle.machine.specs.View.{marks_in}
 use Rattle.machine.proofs.lists.PartLaws.{part_is}
 use Rattle.machine.proofs.cells.State.queued.Goals as goal
 
-pub returns : goal.returns
+pub returns-clause-is : goal.returns-clause-is
 unfolding marks_in
-returns c = part_is _ _ _ _ (omega arith)
+returns-clause-is c = part_is _ _ _ _ (omega arith)
