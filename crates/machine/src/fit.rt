@@ -11,6 +11,7 @@ use crate::cells::{Entry, State, Waiting};
 use crate::look;
 use crate::sizes::{MARKER, ROOM};
 use cases::case::{Line, Location, Program, Thread};
+use cases::checks;
 use cases::sizes::{INSTRUCTIONS, LOCATIONS, THREADS};
 
 // Does an entry name a location that the program lacks?
@@ -112,13 +113,13 @@ fn all_unissued(p: &Program, s: &State) -> usize
 }
 
 // Is there something in a queue that doesn't fit? What may still come into it is given, and no bound is asked of it.
-#[tactic(auto, using(cases::proofs::ChoiceLaws::choices, crate::proofs::lists::AnyLaws::any_of_is), unfolding(crate::specs::Fit::queue_misfits, cases::specs::Checks::lines_of))]
+#[tactic(auto, using(cases::proofs::ChoiceLaws::choices, crate::proofs::lists::AnyLaws::any_of_is), unfolding(crate::specs::Fit::queue_misfits))]
 fn queue_misfits(p: &Program, s: &State, q: Line, coming: usize) -> bool
     requires { (q.0 < most_locations) × (coming ≡ due p.now s.now) }
     ensures { result ≡ queue_misfits p.now s.now q.0 }
 {
     let n = s.lengths[q.0 as usize];
-    if p.lines <= q.0 && 0 < n {
+    if checks::lines_of(*p) <= q.0 && 0 < n {
         return true;
     }
     if ROOM < (n as usize).saturating_add(coming) {
