@@ -25,7 +25,7 @@ use Rattle.machine.specs.declared.runs.Verdict.{Verdict}
 use Rattle.machine.specs.declared.runs.Verdict.TheVariants.{Legal, Illegal, Refused}
 use Rattle.machine.specs.declared.runs.Judged.{Judged}
 use Rattle.machine.specs.declared.work.Unweighed.{Unweighed}
-use Rattle.machine.specs.declared.work.Unweighed.TheVariants.{Unreadable, Misfit}
+use Rattle.machine.specs.declared.work.Unweighed.TheVariants.{Unreadable, Misfit, Other}
 use Rattle.machine.specs.Model.{Model, full_length}
 use Rattle.machine.specs.Rules.{start_of}
 use Rattle.machine.specs.Ptso.{ptso}
@@ -73,6 +73,7 @@ Weighed = Result ℕ Unweighed
 abbrev pub unweighed_no : Unweighed → ℕ
 unweighed_no Unreadable = 32
 unweighed_no Misfit = 33
+unweighed_no (Other n) = n
 
 abbrev pub weighed_no : Weighed → ℕ
 weighed_no (Ok n) = 0

@@ -14,11 +14,13 @@ use cases::case::{Case, Instruction, Program, Thread};
 use cases::operations::{COMPARE, EXCHANGE, FLUSH, FLUSH_OPT, SFENCE, STORE_REGISTER, STORE_WORD};
 use cases::sizes::{INSTRUCTIONS, THREADS};
 
-// Why the work is not told: the case is none that can be read, or the state doesn't fit it.
+// Why the work is not told: the case is none that can be read, or the state doesn't fit it. Or another number: no function
+// here answers it, and whoever has one can still ask for its number.
 #[derive(Clone, Copy, PartialEq, Eq)]
 pub enum Unweighed {
-    Unreadable = 32,
-    Misfit = 33,
+    Unreadable,
+    Misfit,
+    Other(u8),
 }
 
 impl Unweighed {
@@ -26,7 +28,11 @@ impl Unweighed {
     pub(crate) fn number(self) -> u8
         ensures { result ≡ unweighed_no self }
     {
-        self as u8
+        match self {
+            Unweighed::Unreadable => 32,
+            Unweighed::Misfit => 33,
+            Unweighed::Other(n) => n,
+        }
     }
 }
 
