@@ -5,5 +5,7 @@ pub mod FitLaws
 pub mod StartLaws
 -- Spare: room for one more; taken, counted, register, await, enqueue; unissued, marks
 pub mod SpareLaws
+-- thread_misfits: the chain of tests
+pub mod MisfitLaws
 -- fits_is, is_fits: the test and the facts; readable
 pub mod FitTestLaws

@@ -3,7 +3,7 @@
 pub mod PartLaws
 -- put, part_put, shift, length_without: a list put into another, one left out; get_or behind it
 pub mod PutLaws
--- any, none_any: a test is true of one number, or of one on a list; AskedSoFar
+-- any, none_any: a test is true of one number, or of one on a list; AskedSoFar, AnySoFar
 pub mod AnyLaws
 -- all, none_all: what holds of each on a list
 pub mod AllLaws

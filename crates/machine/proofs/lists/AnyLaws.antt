@@ -1,5 +1,5 @@
--- Laws of `any_from` and `any_of`: what is said of each number, the loops that ask one after the other, and the
--- library's test. Assumes nothing.
+-- Laws of `any_from` and `any_of`: what is said of each number, the loops that ask one after the other, of numbers and
+-- of a part of an array, and the library's test. Assumes nothing.
 use Prim.Native.Nat.{ℕ, zero, suc, ◌+◌, ◌-◌, ◌≤◌, ◌<◌}
 use mathlib.Core.Path.{◌≡◌, refl}
 use mathlib.Core.Logic.{◌⊎◌, inl, inr}
@@ -8,9 +8,12 @@ use mathlib.Core.List.{List, [], ◌∷◌}
 use native.Mathlib.Omega.{arith}
 use native.Mathlib.Nat.{eq-or-lt_of_le}
 use native.Mathlib.Numerals.{add-one}
+use lib.ListN.{length, drop, get_or}
 use Rattle.cases.specs.Choice.{either}
 use Rattle.cases.proofs.ChoiceLaws.{either_false}
+use Rattle.machine.specs.View.{part}
 use Rattle.machine.specs.Fit.{any_from, any_of}
+use Rattle.machine.proofs.lists.PartLaws.{part_next, part_end}
 use Rattle.std.specs.List.{list_any, range_with_len}
 
 -- a test that is true of none of the n numbers from i on is false of each, and back
@@ -57,6 +60,35 @@ module _ {f : ℕ → Bool} {n i : ℕ} (o : AskedSoFar f n i) where
   pub any_end : n ≤ i → false ≡ any_from 0 n f
   unfolding any_from
   any_end h = let e : n - i ≡ 0 = omega arith in rw e at o.rest
+
+-- a loop has asked the first i of the n from base on: those still to ask say what all say
+pub record AnySoFar {A : Type 0} (f : A → Bool) (xs : List A) (base n i : ℕ) : Type 0 where
+  pub within : base + n ≤ length xs
+  pub left : any_of f (drop i (part base n xs)) ≡ any_of f (part base n xs)
+
+pub any_of_start : {A : Type 0} (f : A → Bool) (xs : List A) (base n : ℕ) → base + n ≤ length xs
+    → AnySoFar f xs base n 0
+any_of_start f xs base n h = record { within = h; left = refl }
+
+-- one of which it is false; one of which it is true; all are asked
+module _ {A : Type 0} {f : A → Bool} {xs : List A} {base n i : ℕ} (o : AnySoFar f xs base n i) where
+  module _ (blank : A) (h : i < n) where
+    any_of_at : either (f (get_or xs (base + i) blank)) (any_of f (drop (i + 1) (part base n xs)))
+        ≡ any_of f (part base n xs)
+    unfolding any_of
+    any_of_at = rw (part_next base n i xs blank h o.within) at o.left
+
+    pub any_of_next : f (get_or xs (base + i) blank) ≡ false → AnySoFar f xs base n (i + 1)
+    unfolding either
+    any_of_next e = record { within = o.within; left = rw e at any_of_at }
+
+    pub any_of_here : f (get_or xs (base + i) blank) ≡ true → true ≡ any_of f (part base n xs)
+    unfolding either
+    any_of_here e = rw e at any_of_at
+
+  pub any_of_end : n ≤ i → false ≡ any_of f (part base n xs)
+  unfolding any_of
+  any_of_end h = rw (part_end base n i xs h) at o.left
 
 -- the library's test of the n numbers from i on is `any_from`, that of a list `any_of`
 pub any_from_is : (f : ℕ → Bool) (i n : ℕ) → list_any f (range_with_len i n) ≡ any_from i n f

@@ -10,7 +10,7 @@ use lib.Seq.{sets, sets-eq, take_at, drop_at, drop-drop, take-set-le, drop-set-l
 use lib.Seq.{paste, length-take-le}
 use Rattle.cases.proofs.ArrayLaws.{sets_append}
 use Rattle.machine.specs.View.{part, put, shift, close_gap, without}
-use Rattle.machine.proofs.lists.PartLaws.{length_part, drop_part, take_part, part_front}
+use Rattle.machine.proofs.lists.PartLaws.{length_part, drop_part, take_part, part_more, part_front}
 
 module _ {ℓ} {A : Type ℓ} where
   -- sets: what stands there already; what it leaves alone
@@ -125,6 +125,30 @@ module _ {ℓ} {A : Type ℓ} where
       → part b k (put blank base n q xs) ≡ part b k xs
   part_put_other blank base n q xs b k m h r (inl w) = part_put_before blank base n q xs b k w
   part_put_other blank base n q xs b k m h r (inr w) = part_put_after blank base n q xs b k m h r w
+
+  -- shift: nothing moved yet; a turn of the loop that moves one more
+  pub shift_none : (from : ℕ) (xs : List A) → shift from (from + 1) xs ≡ xs
+  unfolding shift part
+  shift_none from xs = let z : (from + 1) - (from + 1) ≡ 0 = omega arith in rw z
+
+  pub shift_next : (from i : ℕ) (xs : List A) (d : A) → from < i → i < length xs
+      → set (shift from i xs) (i - 1) (get_or (shift from i xs) i d) ≡ shift from (i + 1) xs
+  unfolding shift
+  shift_next from i xs d h k =
+      let n : ℕ = i - (from + 1) in
+      let e : (i + 1) - (from + 1) ≡ suc n = omega arith in
+      let l : length (part (from + 1) n xs) ≡ n = length_part (from + 1) n xs (omega arith) in
+      let w : from + n ≡ i - 1 = omega arith in
+      let v : (from + 1) + n ≡ i = omega arith in
+      rw (
+        get_or_sets_after xs from (part (from + 1) n xs) i d (rw l (omega arith)),
+        e,
+        part_more (from + 1) n xs d (omega arith),
+        sets_append xs from (part (from + 1) n xs),
+        l,
+        w,
+        v,
+      )
 
   -- shift: what the library's `copy_within` leaves
   pub shift_is : (from end : ℕ) (xs : List A) → from < end → end ≤ length xs

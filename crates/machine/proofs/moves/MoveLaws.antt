@@ -16,7 +16,7 @@ use Rattle.cases.specs.declared.case.Write.{Write}
 use Rattle.cases.specs.declared.case.Program.{Program}
 use Rattle.cases.specs.Sizes.{most_instructions, most_locations}
 use Rattle.cases.proofs.ChoiceLaws.{pick_true, pick_cases, pick_here, pick_next, refuse_here, refuse_next}
-use borrow.Author.Tests.{eq-eqb, ne_eqb, lt-leb, lt-ltb}
+use borrow.Author.Tests.{eq-eqb, ne_eqb, lt-leb, lt-ltb, le-ltb}
 use Rattle.machine.specs.declared.cells.State.{State}
 use Rattle.machine.specs.declared.cells.Waiting.{Waiting}
 use Rattle.machine.specs.declared.cells.Entry.{Entry}
@@ -55,13 +55,16 @@ pub move_flush_low : (p : Program) → ProgramFits p → {e : Entry} → Named m
     → q < most_locations
 move_flush_low p g h l is q goes = rw goes (line_low p g l.0 (flush_named h l is))
 
--- effect_rule of a flush where something is queued
-pub move_flush_held : (p : Program) (x : Parts) (t : ℕ) (l : Location) (e : Entry) → e ≡ Flush l → (q : ℕ)
-    → q ≡ line_of p l.0
-    → 0 < get_or x.lengths q 0
-    → 27 ≡ effect_rule p x t e
-unfolding effect_rule
-move_flush_held p x t l e is q goes h = rw (is, ← goes) (refuse_here _ 27 0 (lt-ltb _ _ h))
+-- effect_rule of a flush: something is queued; nothing is
+module _ (p : Program) (x : Parts) (t : ℕ) (l : Location) (e : Entry) (is : e ≡ Flush l) (q : ℕ)
+    (goes : q ≡ line_of p l.0) where
+  pub move_flush_held : 0 < get_or x.lengths q 0 → 27 ≡ effect_rule p x t e
+  unfolding effect_rule
+  move_flush_held h = rw (is, ← goes) (refuse_here _ 27 0 (lt-ltb _ _ h))
+
+  pub move_flush_free : get_or x.lengths q 0 ≤ 0 → 0 ≡ effect_rule p x t e
+  unfolding effect_rule
+  move_flush_free h = rw (is, ← goes) (refuse_next _ 0 27 0 (le-ltb _ _ h) refl)
 
 -- Roomy: there is room for an entry in the queue of a location; taking an entry out of a buffer leaves it
 pub roomy_is : (p : Program) → ProgramFits p → (s : State) → Roomy s → (l : ℕ) → l < most_locations → (q : ℕ)

@@ -102,11 +102,11 @@ module _ {p : Program} {ks : List Step} {s₀ s : State} {i : ℕ} (o : JudgedSo
 whole_refused : (n m at : ℕ) → Whole n ≡ Refused m at → ⊥
 whole_refused n m at e = let z : ◌≡◌ {A = ℕ} 0 1 = cc in omega arith
 
--- what reading hands out whole is a case that the judge can run; what it refuses stops it
+-- what reading hands out with 0 is a case that the judge can run; what it refuses stops it
 module _ (s : List ℕ) (r : Reading) (e : r ≡ read_of s) where
-  pub read_case : (n : ℕ) → r.answer ≡ Whole n → Ranged r.case
-  read_case n h =
-      let z : number_of (read_of s).answer ≡ 0 = ap (λ (x : Reading). number_of x.answer) (sym e) ∙ ap number_of h in
+  pub read_case : (n : ℕ) → n ≡ number_of r.answer → n ≡ 0 → Ranged r.case
+  read_case n a h =
+      let z : number_of (read_of s).answer ≡ 0 = ap (λ (x : Reading). number_of x.answer) (sym e) ∙ sym a ∙ h in
       subst (λ (x : Reading). Ranged x.case) (sym e) (read_ranged s z)
 
   read_number : (n at : ℕ) → r.answer ≡ Refused n at → n ≢ 0

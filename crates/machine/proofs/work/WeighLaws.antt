@@ -1,11 +1,12 @@
--- Laws of `weigh`; what an instruction, an entry and a list of them weigh at most. Assumes nothing.
+-- Laws of `weigh`, and the loops that weigh; what an instruction, an entry and a list of them weigh at most. Assumes
+-- nothing.
 use Prim.Native.Nat.{ℕ, zero, suc, ◌+◌, ◌*◌, ◌≤◌, ◌<◌}
 use mathlib.Core.Path.{◌≡◌, refl, ◌∙◌}
 use mathlib.Core.List.{List, [], ◌∷◌, ◌++◌}
 use native.Mathlib.Omega.{arith}
 use native.Mathlib.Nat.{mul-le-mul_right}
 use native.Mathlib.Numerals.{add-one}
-use lib.ListN.{length, get_or}
+use lib.ListN.{length, get_or, drop}
 use Rattle.std.specs.List.{sum_by}
 use Rattle.std.proofs.lemmas.List.Sums.{sum_by-cons}
 use Rattle.cases.specs.declared.case.Program.{Program}
@@ -13,8 +14,9 @@ use Rattle.machine.specs.declared.cells.State.{State}
 use Rattle.machine.specs.declared.cells.Waiting.{Waiting}
 use Rattle.machine.specs.declared.cells.Entry.{Entry}
 use Rattle.machine.specs.declared.cells.Entry.TheVariants.{Store, Flush, FlushOpt, Sfence}
-use Rattle.machine.specs.View.{without, buffer}
+use Rattle.machine.specs.View.{part, without, buffer}
 use Rattle.machine.specs.Work.{weigh, unissued_weight, waiting_weight, code_weight, entry_weight, unissued_code, thread_work}
+use Rattle.machine.proofs.lists.PartLaws.{part_next, part_end}
 use Rattle.cases.proofs.ChoiceLaws.{pick_cases}
 
 -- one and the rest; two lists joined; one taken out; each at most `most`
@@ -65,6 +67,47 @@ entry_most w = go w.entry
     go (Flush l) = omega arith
     go (FlushOpt l) = omega arith
     go Sfence = omega arith
+
+-- a loop has weighed the first i of the n from base on, each at most `most`: with those still to weigh it is
+-- all
+pub record WeighedSoFar {A : Type 0} (f : A → ℕ) (xs : List A) (base n most weight i : ℕ) : Type 0 where
+  pub within : base + n ≤ length xs
+  pub far : i ≤ n
+  pub light : weight ≤ i * most
+  pub rest : weight + weigh f (drop i (part base n xs)) ≡ weigh f (part base n xs)
+
+pub weigh_start : {A : Type 0} (f : A → ℕ) (xs : List A) (base n most : ℕ) → base + n ≤ length xs
+    → WeighedSoFar f xs base n most 0 0
+weigh_start f xs base n most h =
+    record { within = h; far = omega arith; light = omega arith; rest = omega arith }
+
+-- one more is weighed; all are
+module _ {A : Type 0} {f : A → ℕ} {xs : List A} {base n most weight i : ℕ}
+    (o : WeighedSoFar f xs base n most weight i) where
+  weigh_at : (blank : A) → i < n
+      → weight + (f (get_or xs (base + i) blank) + weigh f (drop (i + 1) (part base n xs)))
+      ≡ weigh f (part base n xs)
+  unfolding weigh
+  weigh_at blank h = rw (part_next base n i xs blank h o.within) at o.rest
+
+  pub weigh_next : (blank : A) (r : ℕ) → i < n → (r ≡ f (get_or xs (base + i) blank)) × (r ≤ most)
+      → WeighedSoFar f xs base n most (weight + r) (i + 1)
+  weigh_next blank r h e =
+      let w = o.light in
+      let m = e.1 in
+      let a = e.0 in
+      let q = weigh_at blank h in
+      record { within = o.within; far = omega arith; light = omega arith; rest = omega arith }
+
+  pub weigh_end : n ≤ i → (few : ℕ) → n ≤ few
+      → (weight ≡ weigh f (part base n xs)) × (weight ≤ few * most)
+  unfolding weigh
+  weigh_end h few k =
+      let w = o.light in
+      let a = o.far in
+      let m = mul-le-mul_right {m = i} {n = few} most (omega arith) in
+      let e = rw (part_end base n i xs h) at o.rest in
+      (omega arith, omega arith)
 
 -- the library's sum of weights, and what it is at most
 module _ {A : Type 0} (f : A → ℕ) where
