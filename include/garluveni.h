@@ -16,8 +16,9 @@
  *
  * Of 'bytes' and 'steps' no alignment is asked, and nothing of the caller's is kept after the return. The functions
  * have no state of their own, so threads may call them at once, each with a 'steps' and a 'memory' of its own. They
- * allocate nothing, do no input or output, and always end; a question's time grows with its budget, that of a walk
- * that remembers with the memory that it is lent too.
+ * allocate nothing, do no input or output, call nothing of yours or of the C library but memcpy and memset, and
+ * always end; a question's time grows with its budget, that of a walk that remembers with the memory that it is lent
+ * too.
  */
 #ifndef GARLUVENI_H
 #define GARLUVENI_H

@@ -3,7 +3,7 @@
 pub mod ReachLaws
 -- answer, roomy, Answers, Stores, Low: what is told and stored of what is decided
 pub mod AnswerLaws
--- ask, reached: the code
+-- ask, reached, short: the code
 pub mod AskLaws
 -- question: what is answered; walk, shown, only, steps
 pub mod QuestionLaws

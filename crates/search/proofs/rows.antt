@@ -1,5 +1,5 @@
 -- Where things stand among lanes, and looks (specs/Rows): the code.
 -- row: where rows stand; RowsSoFar, NewestSoFar, rows, newest, queued, loaded: the loops; a ruleset
 pub mod RowLoopLaws
--- MarkSoFar, mark, MarkedSoFar, marked: the loops that look for a marker; a ruleset
+-- MarkedRowsSoFar, MarkedEntriesSoFar, marked: the two loops of the look for a marker; a ruleset
 pub mod MarkedLoopLaws

@@ -3,7 +3,7 @@
 pub mod CompareLaws
 -- among, head, seek; Seeking: the way along a chain
 pub mod ChainLaws
--- written, copied; Written: what the stores leave
+-- written, copied; CopiedSoFar, Written: what the stores leave; a ruleset
 pub mod CopyLaws
 -- kept: a record written behind the others
 pub mod KeepLaws

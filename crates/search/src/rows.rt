@@ -1,11 +1,11 @@
 // Rows of entries among a state's lanes: where they start and end, and what a look through them finds. Nothing here
 // changes a lane; where the other lanes stand is in listing.rt.
-ghost use Rattle.std.specs.Prelude.{◌≡◌, ◌+◌, ◌*◌, ◌<◌, ◌≤◌, false};
+ghost use Rattle.std.specs.Prelude.{◌≡◌, ◌+◌, ◌*◌, ◌<◌, ◌≤◌};
 ghost use Rattle.machine.specs.View.{mark_of};
 ghost use Rattle.search.specs.Sizes.{most_lanes};
 ghost use Rattle.search.specs.Listing.{threads_in, locations_in};
 ghost use Rattle.search.specs.Rows.{rows_in, row_len, row_start};
-ghost use Rattle.search.specs.Rows.{pool_end, FewEntries, newest_lane, queued_lane, loaded_lane, marked_among, marked_lanes};
+ghost use Rattle.search.specs.Rows.{pool_end, FewEntries, newest_lane, queued_lane, loaded_lane, marked_lanes};
 
 use crate::listing::Listing;
 use crate::sizes::LANES;
@@ -51,20 +51,6 @@ pub(crate) fn mark_of(t: Thread) -> u32
     ensures { result ≡ mark_of t.0 }
 {
     (t.0 as u32) + (MARKER as u32)
-}
-
-// Does one of n entries from base on have that tag?
-#[tactic(auto, using(crate::proofs::rows::MarkedLoopLaws::mark))]
-fn has_mark(x: &[u32; LANES], base: usize, n: usize, mark: u32) -> bool
-    requires { base + 2 * n ≤ most_lanes }
-    ensures { result ≡ marked_among x.now mark base n false }
-{
-    for i in 0..n {
-        if x[base + 2 * i] == mark {
-            return true;
-        }
-    }
-    false
 }
 
 impl<'a> View<'a> {
@@ -122,17 +108,20 @@ impl<'a> View<'a> {
         newest(self.x, base, l.0 as u32, self.queued(l), n)
     }
 
-    // Does some queue hold a marker of the thread?
+    // Does some queue hold a marker of the thread? The labels are the loops' names in the proofs. Loops and no chain:
+    // document 01 names them ("goes through every queue and stops at the first one found").
     #[tactic(auto, using(crate::proofs::rows::MarkedLoopLaws::marks))]
     pub(crate) fn is_marked(&self, t: Thread) -> bool
         ensures { result ≡ marked_lanes self.now.c.now.numbers self.now.x.now t.0 }
     {
         let mark = mark_of(t);
         let mut base = self.row_start(self.c.queue_row(Line(0)));
-        for q in 0..(self.c.lines() as u8) {
+        'queues: for q in 0..(self.c.lines() as u8) {
             let n = self.row_len(self.c.queue_row(Line(q)));
-            if has_mark(self.x, base, n, mark) {
-                return true;
+            'entries: for i in 0..n {
+                if self.x[base + 2 * i] == mark {
+                    return true;
+                }
             }
             base += 2 * n;
         }

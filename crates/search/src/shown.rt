@@ -9,7 +9,7 @@ ghost use Rattle.cases.specs.Sizes.{step_size};
 use cases::case::Step;
 use cases::sizes::STEP_SIZE;
 
-#[tactic(auto, using(crate::proofs::shown::StoreLaws::put_record))]
+#[tactic(auto, using(crate::proofs::shown::StoreLaws::record_over))]
 pub(crate) fn put_step(out: &mut [u8], at: usize, k: Step)
     requires { at + step_size ≤ length out.old }
     ensures { out.new ≡ sets out.old at (record_bytes (Take k)) }

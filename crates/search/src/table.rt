@@ -86,13 +86,15 @@ pub(crate) fn is_kept(memory: &[u32], limit: u32, count: u32, b: u32, key: &[u32
     false
 }
 
-// The key, from `at` on.
-#[tactic(auto, using(crate::proofs::table::CopyLaws::written_over))]
+// The key, from `at` on. A loop, since `copy_from_slice` is C's `memmove` here: a host brings `memcpy` and `memset` alone.
+#[tactic(auto, using(crate::proofs::table::CopyLaws::copies))]
 fn copy(memory: &mut [u32], at: usize, key: &[u32])
     requires { at + length key.now ≤ length memory.old }
     ensures { memory.new ≡ sets memory.old at key.now }
 {
-    memory[at..at + key.len()].copy_from_slice(key);
+    for (i, lane) in key.iter().enumerate() {
+        memory[at + i] = *lane;
+    }
 }
 
 // The key as one more record, in front of its bucket's chain.

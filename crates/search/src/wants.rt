@@ -32,7 +32,7 @@ fn is_missed(v: &View, a: &Ask) -> bool
     false
 }
 
-// Has some thread issued fewer instructions than asked for? A loop, here and in `is_missed`, `is_barred` and `has_mark`:
+// Has some thread issued fewer instructions than asked for? A loop, here and in `is_missed` and `is_barred`:
 // tried as `(0..threads).any(..)`, the check did not find what it answers over a count that a call gave.
 #[tactic(auto, using(crate::proofs::wants::WantLoopLaws::lacked))]
 fn is_lacking(v: &View, a: &Ask) -> bool

@@ -1,12 +1,12 @@
 -- The question's code: 31, then what the walk leaves. Assumes nothing.
-use Prim.Native.Nat.{ℕ, suc, ◌*◌, ◌-◌, ◌≤◌}
+use Prim.Native.Nat.{ℕ, suc, ◌*◌, ◌-◌, ◌<◌, ◌≤◌}
 use mathlib.Core.Path.{◌≡◌, refl, sym, ap, subst, ◌∙◌}
 use mathlib.Core.Logic.{◌≢◌, inl}
 use mathlib.Core.Bool.{Bool, false}
 use mathlib.Core.List.{List, ◌∷◌}
 use lib.Dec.{ltb}
 use lib.ListN.{length}
-use borrow.Author.Tests.{eq-eqb, ne_eqb}
+use borrow.Author.Tests.{eq-eqb, ne_eqb, lt-ltb}
 use native.Mathlib.Omega.{arith}
 use Rattle.cases.specs.declared.case.Step.{Step}
 use Rattle.cases.specs.declared.case.Program.{Program}
@@ -42,7 +42,7 @@ use Rattle.search.proofs.walk.WalkModelLaws.{walk_short}
 use Rattle.search.proofs.walk.WalkLanesLaws.{seek_lanes}
 use Rattle.search.proofs.seek.SeekLaws.{comes_to, seek_decides}
 use Rattle.search.proofs.seek.BudgetLaws.{budget_reached_is}
-use Rattle.search.proofs.ask.AnswerLaws.{Answers, answer_sought}
+use Rattle.search.proofs.ask.AnswerLaws.{Answers, answer_short, answer_sought}
 
 -- the first that reaches is on the list
 pub ask_first_on : {S K : Type 0} (test : S → Bool) (vs before : List (Visit S K)) (v : Visit S K)
@@ -60,9 +60,10 @@ module _ (p : Program) (fits : ProgramFits p) (s : State) (s_is : s ≡ start_of
   unfolding full_length
   ask_start_few = rw s_is (full_length_most p fits)
 
-  pub ask_short : (room w : ℕ) → w ≡ work p s → ltb room (step_size * w) ≡ short (ptso p) room
+  -- what the code tests is the definition's test
+  pub short_made : (room w : ℕ) → w ≡ work p s → ltb room (step_size * w) ≡ short (ptso p) room
   unfolding short full_length
-  ask_short room w w_is = rw (w_is, s_is) refl
+  short_made room w w_is = rw (w_is, s_is) refl
 
 -- a run that reaches is no longer than the full length
 pub reached_short : {S K : Type 0} (m : Model S K) {Fit : S → Type 0} {rank : K → ℕ} → Lawful m Fit rank
@@ -84,6 +85,13 @@ module _ (p : Program) (fits : ProgramFits p) (a : Ask) (b : ℕ) where
 
   abbrev sought_start : Sought Step
   sought_start = seek (reaches a) b (walk_of (ptso p) (start_of p))
+
+  -- the buffer is too short; s is the start, w its work
+  pub ask_short : (s : State) → s ≡ start_of p → (w : ℕ) → w ≡ work p s → (out : List ℕ) → length out < step_size * w
+      → Answers (ptso p) out (ask_of (ptso p) (reaches a) b) (Refused 31 0) out
+  ask_short s s_is w w_is out h =
+      answer_short (ptso p) out (ask_of (ptso p) (reaches a) b)
+      (sym (short_made p fits s s_is (length out) w w_is) ∙ lt-ltb (length out) (step_size * w) h)
 
   module _ (out : List ℕ) where
     -- what is sought over the lanes x of the listing c, and what the walk leaves there

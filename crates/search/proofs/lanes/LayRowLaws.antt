@@ -11,7 +11,7 @@ use mathlib.Core.List.{List, [], ◌∷◌, ◌++◌, append_assoc}
 use native.Mathlib.Nat.{add_assoc}
 use native.Mathlib.Numerals.{add-one}
 use native.Mathlib.Omega.{arith}
-use lib.ListN.{length, get_or, take, drop, replicate, length-append, length-take, length-drop}
+use lib.ListN.{length, get_or, take, drop, replicate, length-append, length-take, length-drop, length-replicate}
 use Rattle.cases.specs.Sizes.{all_code}
 use Rattle.machine.specs.Fit.{sum_to}
 use Rattle.search.specs.Sizes.{most_lanes}
@@ -117,6 +117,11 @@ module _ (c : List ℕ) (fits : ListingFits c) (v : Seen) (even : Even c v)
   -- the lanes in use and those behind are all
   lay_spare : length (lay c v) + spare c v ≡ most_lanes
   lay_spare = rw (lay_length c v even) (omega arith)
+
+  pub padded_long : length (padded (lay c v)) ≡ most_lanes
+  padded_long =
+      ap length (padded_by (lay c v) (spare c v) lay_spare)
+      ∙ simp (length-append, length-replicate) lay_spare
 
   -- row_joined: an entry moved in at the end of row r; and counted
   inserted_row : (r tag word : ℕ) → r < rows_in c → sum_to (rows_in c) v.long < all_code

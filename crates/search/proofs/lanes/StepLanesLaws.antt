@@ -4,6 +4,7 @@ use Prim.Native.Nat.{ℕ, ◌≤◌, ◌<◌}
 use mathlib.Core.Path.{◌≡◌, refl}
 use mathlib.Core.Logic.{◌⊎◌, inl, inr}
 use mathlib.Core.List.{List}
+use lib.ListN.{length}
 use native.Mathlib.Omega.{arith}
 use Rattle.cases.specs.declared.case.Step.{Step}
 use Rattle.cases.specs.declared.case.Program.{Program}
@@ -17,12 +18,14 @@ use Rattle.machine.specs.Fit.{together, Fits}
 use Rattle.machine.specs.Next.{issue_step, move_step, persist_step}
 use Rattle.machine.proofs.Promises.{step_fits, buffer_long, step_together}
 use Rattle.machine.proofs.Effects.{step_kinds, issue_left, move_within}
+use Rattle.search.specs.Sizes.{most_lanes}
 use Rattle.search.specs.Listing.{threads_in, listing_of}
 use Rattle.search.specs.Rows.{rows_in, FewEntries}
 use Rattle.search.specs.Taken.{step_lanes, Takes}
-use Rattle.search.proofs.listing.ListingLaws.{listing_threads, listing_lines, listing_count}
+use Rattle.search.proofs.listing.ListingLaws.{listing_fits, listing_threads, listing_lines, listing_count}
 use Rattle.search.proofs.lanes.LayLaws.{see_issued, see_sum}
-use Rattle.search.proofs.lanes.StateLaws.{seen_of, few_of}
+use Rattle.search.proofs.lanes.StateLaws.{seen_of, even_of, few_of}
+use Rattle.search.proofs.lanes.LayRowLaws.{padded_long}
 use Rattle.search.proofs.lanes.LookLanesLaws.{laid_of, see_buffer_long, see_queue_long}
 use Rattle.search.proofs.lanes.IssueLanesLaws.{issue_room, issue_lanes_lem}
 use Rattle.search.proofs.lanes.MoveLanesLaws.{move_lanes_lem}
@@ -46,6 +49,9 @@ module _ (p : Program) (s : State) (fit : Fits p s) (few : together p s ≤ all_
   -- so have its lanes
   pub few_lanes : FewEntries (listing_of p) (laid_of p s)
   few_lanes = rw (see_sum c (seen_of p s) (rows_in c) (omega arith)) (few_of p s fit few)
+
+  pub lanes_long : length (laid_of p s) ≡ most_lanes
+  lanes_long = padded_long c (listing_fits p fit.program) (seen_of p s) (even_of p s fit) (few_of p s fit few)
 
   -- a step: it leads to no more entries; to the lanes of its state
   pub step_few : (k : Step) → step_fault (limits_of p) k ≡ 0 → rule_of p s k ≡ 0 → together p (next_of p s k) ≤ all_code

@@ -6,12 +6,12 @@ use mathlib.Core.Bool.{Bool, true, false}
 use mathlib.Core.List.{List}
 use native.Mathlib.Omega.{arith}
 use native.Mathlib.Numerals.{add-one}
-use lib.ListN.{replicate}
+use lib.ListN.{set, replicate}
 use Rattle.cases.specs.declared.case.Step.{Step}
 use Rattle.cases.specs.Choice.{pick}
 use Rattle.machine.specs.Sizes.{most_candidates}
 use Rattle.machine.specs.Fit.{sum_to}
-use Rattle.machine.specs.Next.{issue_step, move_step, persist_step}
+use Rattle.machine.specs.Next.{issue_step, move_step, persist_step, rank_of}
 use Rattle.search.specs.declared.next.Ranks.{Ranks}
 use Rattle.search.specs.Listing.{threads_in, lines_in, ListingFits}
 use Rattle.search.specs.Rows.{rows_in, row_len, row_start, FewEntries}
@@ -21,7 +21,17 @@ use Rattle.search.proofs.lanes.GeneralLaws.{sum_front}
 use Rattle.machine.proofs.lists.AnyLaws.{any_here, any_next, any_end}
 use Rattle.search.proofs.rows.RowLoopLaws.{row_room, row_next}
 
--- offered: the list is longer by one at most
+-- offered: the step is barred; it is not; the list is longer by one at most
+module _ (barred : Bool) (k : Step) (count : ℕ) (ranks : List ℕ) where
+  pub offered_none : barred ≡ true → next_with count ranks ≡ offered barred k (next_with count ranks)
+  unfolding offered pick
+  offered_none e = rw e
+
+  pub offered_some : (rank : ℕ) → barred ≡ false → rank ≡ rank_of k
+      → next_with (count + 1) (set ranks count rank) ≡ offered barred k (next_with count ranks)
+  unfolding offered pushed pick
+  offered_some rank e d = rw (e, d)
+
 count_offered : (barred : Bool) (k : Step) (n : Ranks) → (offered barred k n).count ≤ n.count + 1
 unfolding offered pushed pick
 count_offered true k n = omega arith
@@ -68,6 +78,10 @@ itself i = i
 
 pub record OfferedSoFar (barred : ℕ → Bool) (step : ℕ → Step) (most i : ℕ) (n start : Ranks) : Type 0 where
   pub turns : TurnsSoFar (offered_from barred step) itself most i n start
+
+pub offered_start : (barred : ℕ → Bool) (step : ℕ → Step) (most : ℕ) (start : Ranks)
+    → OfferedSoFar barred step most 0 start start
+offered_start barred step most start = record { turns = turns_start _ _ most start }
 
 module _ {barred : ℕ → Bool} {step : ℕ → Step} {most i : ℕ} {n start : Ranks}
     (o : OfferedSoFar barred step most i n start) where

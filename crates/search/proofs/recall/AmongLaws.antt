@@ -28,6 +28,9 @@ unfolding eq_lanes
 equal_lanes [] = refl
 equal_lanes (a ∷ x) = rw (eq-eqb a a refl, equal_lanes x) (unfold both in refl)
 
+pub lanes_differ : (x y : List ℕ) → eq_lanes x y ≡ false → x ≢ y
+lanes_differ x y h e = never_both (subst (λ z. eq_lanes x z ≡ true) e (equal_lanes x)) h
+
 pub differ_lanes : (x y : List ℕ) → x ≢ y → eq_lanes x y ≡ false
 differ_lanes x y h = go (eq_lanes x y) refl
   where

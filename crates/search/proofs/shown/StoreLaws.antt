@@ -31,12 +31,33 @@ pub record_length : (k : Step) → length (record_bytes (Take k)) ≡ 8
 unfolding record_bytes payload_bytes half_bytes
 record_length k = refl
 
--- the record of a step, its eight bytes written over
-pub put_record : (d : List ℕ) (at many : ℕ) (k : Step) → at + step_size ≤ length d → many ≡ step_size
+-- eight bytes, one behind the other; a step's record put so, or written over
+pub put_eight : (d : List ℕ) (at x y z w k l m n : ℕ)
+    → set (set (set (set (set (set (set (set d at x) (at + 1) y) (at + 2) z) (at + 3) w) (at + 4) k) (at + 5) l)
+    (at + 6) m) (at + 7) n
+    ≡ sets d at (x ∷ y ∷ z ∷ w ∷ k ∷ l ∷ m ∷ n ∷ [])
+put_eight d at x y z w k l m n =
+    let a : at + 1 ≡ suc at = omega arith in
+    let b : at + 2 ≡ suc (suc at) = omega arith in
+    let c : at + 3 ≡ suc (suc (suc at)) = omega arith in
+    let e : at + 4 ≡ suc (suc (suc (suc at))) = omega arith in
+    let f : at + 5 ≡ suc (suc (suc (suc (suc at)))) = omega arith in
+    let g : at + 6 ≡ suc (suc (suc (suc (suc (suc at))))) = omega arith in
+    let h : at + 7 ≡ suc (suc (suc (suc (suc (suc (suc at)))))) = omega arith in
+    rw (a, b, c, e, f, g, h)
+
+pub put_record : (d : List ℕ) (at : ℕ) (k : Step)
+    → set (set (set (set (set (set (set (set d at 4) (at + 1) 0) (at + 2) 6) (at + 3) 0)
+    (at + 4) k.thread.0) (at + 5) k.code) (at + 6) k.position) (at + 7) k.location.0
+    ≡ sets d at (record_bytes (Take k))
+unfolding record_bytes payload_of payload_bytes half_bytes pick
+put_record d at k = put_eight d at 4 0 6 0 k.thread.0 k.code k.position k.location.0
+
+pub record_over : (d : List ℕ) (at many : ℕ) (k : Step) → at + step_size ≤ length d → many ≡ step_size
     → put_mid at many d (4 ∷ 0 ∷ 6 ∷ 0 ∷ k.thread.0 ∷ k.code ∷ k.position ∷ k.location.0 ∷ [])
     ≡ sets d at (record_bytes (Take k))
 unfolding record_bytes payload_of payload_bytes half_bytes pick
-put_record d at many k h e =
+record_over d at many k h e =
     written_over d (4 ∷ 0 ∷ 6 ∷ 0 ∷ k.thread.0 ∷ k.code ∷ k.position ∷ k.location.0 ∷ []) at many h e
 
 -- the record of a step before the records of the steps behind it

@@ -1,20 +1,28 @@
--- Laws of the stores into the lent words: a part written over, a key copied, and what the stores of a record and of its
--- bucket's head leave. Assumes nothing.
+-- Laws of the stores into the lent words: a part written over, a key copied lane by lane, and what the stores of a
+-- record and of its bucket's head leave. Assumes nothing.
 use Prim.Native.Nat.{ℕ, zero, suc, ◌+◌, ◌*◌, ◌≤◌, ◌<◌}
-use mathlib.Core.Path.{◌≡◌, sym, ap, ◌∙◌}
+use mathlib.Core.Path.{◌≡◌, refl, sym, ap, ◌∙◌}
 use mathlib.Core.Logic.{◌≢◌}
 use mathlib.Core.List.{List, [], ◌∷◌, append_assoc}
 use native.Mathlib.Omega.{arith}
 use native.Mathlib.Nat.{add-zero}
 use native.Mathlib.Numerals.{add-one}
 use lib.ListN.{length, get_or, set, take, drop, length-set}
-use lib.Seq.{sets, sets-eq, length-sets, drop-drop, get_or-set_same, get_or-set_other}
+use lib.Seq.{sets, sets-eq, length-sets, drop-drop, length-take-le, get_or-set_same, get_or-set_other}
+use lib.Seq.{take-suc, take_all}
 use borrow.Rule.Slice.PartMut.{put_mid}
+use Rattle.cases.proofs.ArrayLaws.{sets_append}
 use Rattle.search.specs.Sizes.{most_lanes, record_words}
 use Rattle.search.specs.Table.{place_of}
 use Rattle.search.proofs.taken.InPlaceLaws.{get_or_sets_before}
 
--- sets: the values, where they stand
+-- sets: one more of a front; the values, where they stand
+sets_next : (m key : List ℕ) (at i : ℕ) → i < length key
+    → set (sets m at (take i key)) (at + i) (get_or key i 0) ≡ sets m at (take (i + 1) key)
+sets_next m key at i h =
+    sym (rw (add-one i, take-suc key i 0 h)
+    (sets_append m at (take i key) (get_or key i 0 ∷ []) ∙ rw (length-take-le i key (omega arith))))
+
 get_or_sets_within : (vs m : List ℕ) (at i : ℕ) → at + length vs ≤ length m → i < length vs
     → get_or (sets m at vs) (at + i) 0 ≡ get_or vs i 0
 get_or_sets_within [] m at i h k = absurd (omega arith)
@@ -34,6 +42,33 @@ pub written_over : (m ys : List ℕ) (at many : ℕ) → at + length ys ≤ leng
 written_over m ys at many h e =
     rw (e, drop-drop (length ys) at m)
     (sym (sets-eq ys m at h ∙ append_assoc (take at m) ys (drop (at + length ys) m)))
+
+-- a loop has copied the first i lanes of a key
+pub record CopiedSoFar (before key : List ℕ) (at : ℕ) (m : List ℕ) (i : ℕ) : Type 0 where
+  pub within : at + length key ≤ length before
+  pub far : i ≤ length key
+  pub long : length m ≡ length before
+  pub holds : m ≡ sets before at (take i key)
+
+-- nothing is copied yet
+pub copied_start : (before key : List ℕ) (at : ℕ) → at + length key ≤ length before
+    → CopiedSoFar before key at before 0
+copied_start before key at h = record { within = h; far = omega arith; long = refl; holds = refl }
+
+-- one more; all
+module _ {before key : List ℕ} {at : ℕ} {m : List ℕ} {i : ℕ} (o : CopiedSoFar before key at m i) where
+  pub copied_next : i < length key → CopiedSoFar before key at (set m (at + i) (get_or key i 0)) (i + 1)
+  copied_next h =
+      record {
+        within = o.within;
+        far = omega arith;
+        long = length-set m (at + i) (get_or key i 0) ∙ o.long;
+        holds =
+            ap (λ y. set y (at + i) (get_or key i 0)) o.holds ∙ sets_next before key at i h;
+      }
+
+  pub copied_end : length key ≤ i → m ≡ sets before at key
+  copied_end h = o.holds ∙ ap (sets before at) (take_all _ key h)
 
 -- `last` is m with record `count` written behind the others, and the head of bucket b set to it
 pub record Written (m last : List ℕ) (limit count b : ℕ) (key : List ℕ) : Type 0 where
@@ -96,3 +131,6 @@ module _ (m key : List ℕ) (limit count b : ℕ) (long : limit + limit * record
             ∙ get_or-set_other linked (at + 1) i (length key) 0 (λ q. omega arith)
             ∙ get_or-set_other m at i (get_or m b 0) 0 (λ q. omega arith);
       }
+
+-- what the loop of `copy` needs
+pub ruleset copies = (copied_start, copied_end)

@@ -5,6 +5,7 @@ use mathlib.Core.Path.{◌≡◌, sym, ap, subst, ◌∙◌}
 use mathlib.Core.Logic.{◌≢◌}
 use mathlib.Core.Bool.{Bool, false}
 use mathlib.Core.List.{List}
+use lib.ListN.{length}
 use native.Mathlib.Omega.{arith}
 use Rattle.cases.specs.declared.case.Step.{Step}
 use Rattle.cases.specs.Sizes.{step_size}
@@ -16,14 +17,17 @@ use Rattle.machine.specs.Model.{Listed, legal_steps}
 use Rattle.machine.specs.Ptso.{ptso}
 use Rattle.machine.proofs.Promises.{ptso_lawful, step_fits, step_lowers}
 use Rattle.search.specs.declared.next.Ranks.{Ranks}
+use Rattle.search.specs.Sizes.{most_lanes}
+use Rattle.search.specs.Listing.{ListingFits}
 use Rattle.search.specs.Rows.{FewEntries}
 use Rattle.search.specs.Barred.{legal_lanes, next_lanes}
 use Rattle.search.specs.Taken.{padded, step_lanes, lanes_machine, reaches_lanes, Takes}
 use Rattle.search.specs.Held.{Held}
+use Rattle.search.proofs.listing.ListingLaws.{listing_fits}
 use Rattle.search.proofs.lanes.StateLaws.{lay_of}
 use Rattle.search.proofs.lanes.LookLanesLaws.{laid_of}
 use Rattle.search.proofs.lanes.NextLanesLaws.{legal_is, legal_listed}
-use Rattle.search.proofs.lanes.StepLanesLaws.{few_lanes, step_lanes_lem, step_takes, step_few}
+use Rattle.search.proofs.lanes.StepLanesLaws.{few_lanes, lanes_long, step_lanes_lem, step_takes, step_few}
 use Rattle.search.proofs.next.RanksLaws.{next_pushed, ranks_lists}
 use Rattle.search.proofs.walk.WalkLoopLaws.{Lists, Walking, walking_start}
 
@@ -37,8 +41,14 @@ module _ {c x : List ℕ} {depth room : ℕ} (h : Held c x depth room) where
   laid_is : x ≡ laid_of h.program h.state
   laid_is = h.laid ∙ ap padded (sym (lay_of h.program h.state))
 
+  pub held_fits : ListingFits c
+  held_fits = rw h.listed (listing_fits h.program h.fits.program)
+
   pub held_few : FewEntries c x
   held_few = rw (h.listed, laid_is) (few_lanes h.program h.state h.fits h.few)
+
+  pub held_long : length x ≡ most_lanes
+  held_long = ap length laid_is ∙ lanes_long h.program h.state h.fits h.few
 
   -- their next steps are the state's
   legal_held : legal_lanes c x ≡ legal_steps (ptso h.program) h.state

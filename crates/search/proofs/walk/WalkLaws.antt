@@ -88,8 +88,14 @@ module _ {S K : Type 0} (m : Machine S K) where
       let rest = starting_same f g s ks (λ j l. h j (inr l)) in
       λ i. map (under k) (here i) ++ rest i
 
-  -- of a machine that can be walked: a run has no more steps than it uses up of the work
+  -- of a machine that can be walked: a run stays among the states that fit, and has no more steps than it uses
+  -- up of the work
   module _ {Fit : S → Type 0} {left : S → ℕ} {rank : K → ℕ} (laws : Walkable m Fit left rank) where
+    pub runs_fit : (s : S) (ks : List K) (u : S) → Fit s → Runs m s ks u → Fit u
+    unfolding Runs
+    runs_fit s [] u f r = subst Fit r f
+    runs_fit s (k ∷ ks) u f r = runs_fit (m.after s k) ks u (laws.keeps s f k r.0) r.1
+
     pub runs_work : (s : S) (ks : List K) (u : S) → Fit s → Runs m s ks u → left u + length ks ≤ left s
     unfolding Runs
     runs_work s [] u f r = let e = ap left r in omega arith

@@ -1,6 +1,6 @@
 -- `is_short` meets its contract. Assumes nothing.
 use Rattle.std.proofs.Common.{rules}
-use Rattle.search.proofs.ask.AskLaws.{ask_start_fits, ask_start_few, ask_short}
+use Rattle.search.proofs.ask.AskLaws.{ask_start_fits, ask_start_few, short_made}
 use Rattle.search.proofs.ask.is_short.Goals as goal
 
 pub work_in-requires : goal.work_in-requires
@@ -13,4 +13,4 @@ overflow_mul-result c =
     search rules
 
 pub returns : goal.returns
-returns c = ask_short _ c.requires _ c.start_of-s.ensures _ _ c.work_in.ensures
+returns c = short_made _ c.requires _ c.start_of-s.ensures _ _ c.work_in.ensures

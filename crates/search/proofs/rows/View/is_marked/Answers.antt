@@ -1,8 +1,13 @@
 use Rattle.std.proofs.Common.{arith}
-use Rattle.search.proofs.rows.MarkedLoopLaws.{marked_next}
+use Rattle.search.proofs.rows.MarkedLoopLaws.{marked_entries_start, marked_entries_next, marked_rows_next}
 use Rattle.search.proofs.rows.View.is_marked.Goals as goal
 
-pub loop-q-preserved : goal.loop-q-preserved
-loop-q-preserved c =
-    marked_next c.loop-q.invariant (omega arith) _ _ c.queue_row-in-loop-q.ensures c.row_len-n.ensures _ c.has_mark.ensures
-    c.if-has_mark.false
+pub entries-init : goal.entries-init
+entries-init c =
+    marked_entries_start c.queues.invariant (omega arith) _ _ c.queue_row-in-queues.ensures c.row_len-n.ensures
+
+pub entries-preserved : goal.entries-preserved
+entries-preserved c = marked_entries_next c.entries.invariant (omega arith) c.if-self-base.false
+
+pub queues-preserved : goal.queues-preserved
+queues-preserved c = marked_rows_next c.entries.invariant (omega arith)
