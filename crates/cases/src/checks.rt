@@ -239,7 +239,7 @@ pub fn lines_of(p: Program) -> u8
     p.lines
 }
 
-#[tactic(auto, using(crate::proofs::ChoiceLaws::choices), unfolding(crate::specs::Checks::step_out, crate::specs::Checks::lines_of))]
+#[tactic(auto, using(crate::proofs::ChoiceLaws::choices), unfolding(crate::specs::Checks::step_out))]
 fn is_step_out(p: &Program, k: Step) -> bool
     ensures { result ≡ step_out (limits_of p.now) k }
 {
@@ -247,7 +247,7 @@ fn is_step_out(p: &Program, k: Step) -> bool
     LAST_CODE < code
         || is_beyond(code <= MOVE, k.thread.0, p.threads)
         || is_beyond(code == MOVE, k.position, INSTRUCTIONS as u8)
-        || is_beyond(code == PERSIST, k.location.0, p.lines)
+        || is_beyond(code == PERSIST, k.location.0, lines_of(*p))
 }
 
 #[tactic(auto, using(crate::proofs::ChoiceLaws::choices), unfolding(crate::specs::Checks::step_left))]
