@@ -1,14 +1,14 @@
--- Laws of `pick`, `both`, `either`, `refuse` and `first_no`.
+-- Laws of `pick`, `both`, `either` and `refuse`.
 --   choices    a set for `search`: where the code answers out of a chain of checks, `search choices` finds the
 --              tests that led there among the branches taken and what the callees ensured
 -- Assumes nothing.
-use Prim.Native.Nat.{ℕ, zero, suc, ◌≤◌}
+use Prim.Native.Nat.{ℕ, suc, ◌≤◌}
 use mathlib.Core.Path.{◌≡◌, refl, sym, ◌∙◌}
 use mathlib.Core.Logic.{◌⊎◌, inl, inr, ◌≢◌}
 use mathlib.Core.Bool.{Bool, true, false, not}
 use borrow.Author.Tests.{lt-ltb, le-ltb, le-leb, lt-leb, eq-eqb, ne_eqb, not-true, not-false}
 use native.Mathlib.Omega.{arith}
-use Rattle.cases.specs.Choice.{pick, both, either, refuse, first_no}
+use Rattle.cases.specs.Choice.{pick, both, either, refuse}
 
 -- pick: the test is true; it is false
 pub pick_true {ℓ} : {A : Type ℓ} (t : Bool) (x y : A) → t ≡ true → pick t x y ≡ x
@@ -43,21 +43,6 @@ pub refuse_none : (t : Bool) (n rest : ℕ) → refuse t (suc n) rest ≡ 0 → 
 unfolding refuse
 refuse_none true n rest h = absurd (omega arith)
 refuse_none false n rest h = (refl, h)
-
--- the first number that is one: there is none; it is the first; it is a later one
-pub first_none : (n rest : ℕ) → first_no n rest ≡ 0 → (n ≡ 0) × (rest ≡ 0)
-unfolding first_no
-first_none zero rest h = (refl, h)
-first_none (suc n) rest h = absurd (omega arith)
-
-pub first_here : (n rest : ℕ) → n ≢ 0 → n ≡ first_no n rest
-unfolding first_no
-first_here zero rest h = absurd (h refl)
-first_here (suc n) rest h = refl
-
-pub first_later : (n rest : ℕ) → n ≡ 0 → rest ≡ first_no n rest
-unfolding first_no
-first_later n rest h = rw h
 
 -- For `choices`: what the code answers is what the definition says; the test decides here, or what comes next
 pub pick_here : {A : Type 0} (t : Bool) (r x y : A) → t ≡ true → r ≡ x → r ≡ pick t x y

@@ -1,10 +1,9 @@
 -- How definitions choose.
 --   pick t a b        a where the test t is true, else b
 --   both, either      of two tests
---   first_no n rest   the number n where it is one, else what the later checks say
 --   refuse t n rest   the number n where the fault t is there, else what the later checks say
 -- Assumes nothing.
-use Rattle.std.specs.Prelude.{ℕ, zero, suc, Bool, true, false}
+use Rattle.std.specs.Prelude.{ℕ, Bool, true, false}
 
 unfoldable pub pick {ℓ} : {A : Type ℓ} → Bool → A → A → A
 pick true a b = a
@@ -21,7 +20,3 @@ either false b = b
 unfoldable pub refuse : Bool → ℕ → ℕ → ℕ
 refuse true n rest = n
 refuse false n rest = rest
-
-unfoldable pub first_no : ℕ → ℕ → ℕ
-first_no zero rest = rest
-first_no (suc n) rest = suc n

@@ -1,8 +1,6 @@
 -- Document 01, "Records of a case" and "Refusal numbers": reading. "Records are checked from the left; the
 -- first faulty one decides."
 --   number_of, offset_of   the number that an answer stands for, and its offset
---   turn_no d s            0 where s starts with a whole record that has no fault behind the draft d, else the
---                          number of the refusal
 --   read_from n d at s     what reading s answers, which lies at offset `at` behind the draft d; fewer than n
 --                          records are left
 --   read_of s              what reading s answers
@@ -14,7 +12,7 @@ use Rattle.cases.specs.declared.draft.Draft.{Draft}
 use Rattle.cases.specs.declared.reader.Answer.{Answer}
 use Rattle.cases.specs.declared.reader.Answer.TheVariants.{Whole, Refused}
 use Rattle.cases.specs.declared.reader.Reading.{Reading}
-use Rattle.cases.specs.Choice.{pick, first_no}
+use Rattle.cases.specs.Choice.{pick}
 use Rattle.cases.specs.Bytes.{half}
 use Rattle.cases.specs.Record.{record_of, open_no, size_of}
 use Rattle.cases.specs.Checks.{fault_of}
@@ -36,10 +34,6 @@ refused_of n at = record { answer = Refused n at; case = empty_case }
 -- the input ends here: refusal 1 where no record came, since one must start there
 unfoldable pub ended_of : Draft → ℕ → Reading
 ended_of d at = pick (eqb d.kind 0) (refused_of 1 at) (record { answer = Whole at; case = d.case })
-
--- the record opens first, and then its faults are looked for
-unfoldable pub turn_no : Draft → List ℕ → ℕ
-turn_no d s = first_no (open_no s) (fault_of d (record_of (half s 2) s))
 
 -- a record takes 4 bytes at least, so the length of s and one more is enough for n
 unfoldable pub read_from : ℕ → Draft → ℕ → List ℕ → Reading

@@ -15,7 +15,7 @@ use Rattle.cases.specs.declared.case.Ask.{Ask}
 use Rattle.cases.specs.declared.case.Run.{Run}
 use Rattle.cases.specs.declared.case.Case.{Case}
 use Rattle.cases.specs.declared.writer.Unwritten.{Unwritten}
-use Rattle.cases.specs.declared.writer.Unwritten.TheVariants.{Unreadable, Short}
+use Rattle.cases.specs.declared.writer.Unwritten.TheVariants.{Unreadable, Short, Other}
 use Rattle.cases.specs.Choice.{pick, both}
 use Rattle.cases.specs.Reading.{number_of, read_of}
 use Rattle.cases.specs.Seats.{encode_of}
@@ -24,6 +24,7 @@ use Rattle.cases.specs.Seats.{encode_of}
 abbrev pub unwritten_no : Unwritten → ℕ
 unwritten_no Unreadable = 32
 unwritten_no Short = 31
+unwritten_no (Other m) = m
 
 -- "writing 0 and the length"
 abbrev pub wrote_no : Result ℕ Unwritten → ℕ

@@ -10,6 +10,7 @@ ghost use Rattle.cases.specs.Fault.{refusal_no};
 ghost use Rattle.cases.specs.Lines.{unordered};
 ghost use Rattle.cases.specs.Record.{line_bytes};
 ghost use Rattle.cases.specs.Checks.{
+  kind_rank,
   misplaced,
   disordered,
   outside,
@@ -48,15 +49,23 @@ use crate::operations::{
 use crate::record::{DECLARE, FIRST, Header, INSTRUCT, NO_KIND, PASSED, Record, TAKE, WANT};
 use crate::sizes::{INSTRUCTIONS, LOCATIONS, REGISTERS, STEPS, THREADS};
 
+// Where a kind stands in the order of kinds: of two kinds that alone is compared.
+#[tactic(auto, unfolding(crate::specs::Checks::kind_rank))]
+fn kind_rank(kind: u16) -> u16
+    ensures { result ≡ kind_rank kind }
+{
+    kind
+}
+
 // The program comes first and once, and kinds never go down.
-#[tactic(auto, using(crate::proofs::ChoiceLaws::choices), unfolding(crate::specs::Checks::misplaced, crate::specs::Checks::kind_rank))]
+#[tactic(auto, using(crate::proofs::ChoiceLaws::choices), unfolding(crate::specs::Checks::misplaced))]
 fn is_misplaced(before: u16, kind: u16) -> bool
     ensures { result ≡ misplaced before kind }
 {
     if before == NO_KIND {
         kind != DECLARE
     } else {
-        kind == DECLARE || kind < before
+        kind == DECLARE || kind_rank(kind) < kind_rank(before)
     }
 }
 
@@ -230,7 +239,7 @@ pub fn lines_of(p: Program) -> u8
     p.lines
 }
 
-#[tactic(auto, using(crate::proofs::ChoiceLaws::choices), unfolding(crate::specs::Checks::step_out, crate::specs::Checks::lines_of))]
+#[tactic(auto, using(crate::proofs::ChoiceLaws::choices), unfolding(crate::specs::Checks::step_out))]
 fn is_step_out(p: &Program, k: Step) -> bool
     ensures { result ≡ step_out (limits_of p.now) k }
 {
@@ -238,7 +247,7 @@ fn is_step_out(p: &Program, k: Step) -> bool
     LAST_CODE < code
         || is_beyond(code <= MOVE, k.thread.0, p.threads)
         || is_beyond(code == MOVE, k.position, INSTRUCTIONS as u8)
-        || is_beyond(code == PERSIST, k.location.0, p.lines)
+        || is_beyond(code == PERSIST, k.location.0, lines_of(*p))
 }
 
 #[tactic(auto, using(crate::proofs::ChoiceLaws::choices), unfolding(crate::specs::Checks::step_left))]

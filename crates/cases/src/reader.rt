@@ -1,17 +1,16 @@
 // Reading: any bytes are a case, or are refused at the first faulty record.
 ghost use Rattle.std.specs.Prelude.{◌≡◌, ◌≤◌, IfOk};
 ghost use Rattle.cases.specs.Sizes.{most_threads, most_locations};
-ghost use Rattle.cases.specs.Bytes.{half};
 ghost use Rattle.cases.specs.Fault.{fault_no, refusal_no};
-ghost use Rattle.cases.specs.Record.{record_of, size_of};
+ghost use Rattle.cases.specs.Checks.{fault_of};
 ghost use Rattle.cases.specs.Draft.{add_of};
-ghost use Rattle.cases.specs.Reading.{number_of, offset_of, refused_of, turn_no, read_of, unread_of, unread_at};
+ghost use Rattle.cases.specs.Reading.{number_of, offset_of, refused_of, read_of, unread_of, unread_at};
 
 use crate::case::Case;
 use crate::checks::fault;
 use crate::draft::{Draft, add, blank_draft, empty_case};
 use crate::fault::Fault;
-use crate::record::{NO_KIND, open_record, size};
+use crate::record::{NO_KIND, Record, open_record, opened_number, size};
 
 // Whole: 0, and the input's length. Refused: the number, and the offset of the faulty record. An enum of its own, and a
 // number in it, since the theorems speak of both: `success_whole` and `read_after_write` of proofs/Promises.antt say
@@ -56,18 +55,27 @@ fn refused(fault: Fault, at: usize) -> Reading
     }
 }
 
-// Takes the record that the bytes start with into the draft, and says how long it is.
-fn take_record(draft: &mut Draft, s: &[u8]) -> Result<usize, Fault>
+// The same of what did not open: `let .. else` takes out no fault.
+#[tactic(auto, unfolding(crate::specs::Reading::refused_of))]
+fn unopened(opened: Result<Record, Fault>, at: usize) -> Reading
+    ensures { result ≡ refused_of (refusal_no opened) at }
+{
+    Reading {
+        answer: Answer::Refused(opened_number(opened), at),
+        case: empty_case(),
+    }
+}
+
+// Takes a record that opened into the draft, unless it is faulty.
+fn take_record(draft: &mut Draft, r: Record) -> Result<(), Fault>
     requires { (draft.old.case.program.threads ≤ most_threads)
         × (draft.old.case.program.locations ≤ most_locations) }
-    ensures number { refusal_no result ≡ turn_no draft.old s.now }
-    ensures taken { IfOk result (λ n. (n ≡ size_of s.now)
-        × (draft.new ≡ add_of draft.old (record_of (half s.now 2) s.now))) }
+    ensures number { refusal_no result ≡ fault_of draft.old r }
+    ensures taken { IfOk result (λ _. draft.new ≡ add_of draft.old r) }
 {
-    let record = open_record(s)?;
-    fault(draft, record)?;
-    add(draft, record);
-    Ok(size(s))
+    fault(draft, r)?;
+    add(draft, r);
+    Ok(())
 }
 
 // Reads a case. A refusal hands out only the fixed empty one. The loop is no `for`: how far the next record is, only
@@ -78,10 +86,15 @@ pub fn read(bytes: &[u8]) -> Reading
     let mut draft = blank_draft();
     let mut at = 0;
     while at < bytes.len() {
-        match take_record(&mut draft, &bytes[at..]) {
-            Ok(n) => at = at + n,
-            Err(fault) => return refused(fault, at),
+        let rest = &bytes[at..];
+        let opened = open_record(rest);
+        let Ok(record) = opened else {
+            return unopened(opened, at);
+        };
+        if let Err(fault) = take_record(&mut draft, record) {
+            return refused(fault, at);
         }
+        at = at + size(rest);
     }
     if draft.kind == NO_KIND {
         return refused(Fault::Cut, at);

@@ -199,6 +199,16 @@ pub(crate) fn open_record(s: &[u8]) -> Result<Record, Fault>
     Ok(decode(s, kind))
 }
 
+// The number of what did not open; 0 where a record did.
+pub(crate) fn opened_number(opened: Result<Record, Fault>) -> u8
+    ensures { result ≡ refusal_no opened }
+{
+    match opened {
+        Ok(_) => 0,
+        Err(fault) => fault.number(),
+    }
+}
+
 // Puts bytes at the front, and says how many. A record's are its payload's length and its kind, two bytes each, and its
 // payload.
 fn put(out: &mut [u8], bytes: &[u8]) -> usize

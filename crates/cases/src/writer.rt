@@ -10,18 +10,24 @@ use crate::reader::{Answer, read};
 use crate::seats::encode;
 use crate::sizes::LONGEST;
 
-// Why nothing is written, each with its number: no byte string reads as the case; the lent bytes are shorter than its file.
+// Why nothing is written: no byte string reads as the case, 32; the lent bytes are shorter than its file, 31. Another number
+// no function here answers: whoever has one can still ask what an answer with it stands for.
 #[derive(Clone, Copy, PartialEq, Eq)]
 pub enum Unwritten {
-    Unreadable = 32,
-    Short = 31,
+    Unreadable,
+    Short,
+    Other(u8),
 }
 
 impl Unwritten {
     fn number(self) -> u8
         ensures { result ≡ unwritten_no self }
     {
-        self as u8
+        match self {
+            Unwritten::Unreadable => 32,
+            Unwritten::Short => 31,
+            Unwritten::Other(m) => m,
+        }
     }
 }
 

@@ -1,5 +1,5 @@
 -- Laws of `set_before` and `unset`: which registers a thread's instructions set. Assumes nothing.
-use Prim.Native.Nat.{ℕ, zero, suc, ◌*◌, ◌<◌, ◌≤◌}
+use Prim.Native.Nat.{ℕ, zero, suc, ◌+◌, ◌*◌, ◌<◌, ◌≤◌}
 use mathlib.Core.Path.{◌≡◌, refl, ap, ◌∙◌}
 use mathlib.Core.List.{List}
 use mathlib.Core.Bool.{Bool, true, false, ◌||◌}
@@ -15,9 +15,10 @@ use borrow.Author.Tests.{ltb-true, ltb-false, not-false}
 use Rattle.cases.specs.declared.case.Program.{Program}
 use Rattle.cases.specs.declared.case.Thread.{Thread}
 use Rattle.cases.specs.declared.case.Instruction.{Instruction}
-use Rattle.cases.specs.Sizes.{most_instructions}
+use Rattle.cases.specs.Sizes.{most_threads, most_instructions, all_code}
 use Rattle.cases.specs.Choice.{both, either}
 use Rattle.cases.specs.Checks.{no_instruction, sets_register, count_at, instruction_at, needs_register, set_by, set_before, unset}
+use Rattle.cases.proofs.ArrayLaws.{within}
 
 -- one of n elements passes the test: the last does, or one before it; where there is no last, none passes behind the list
 or_either : (a b : Bool) → (a || b) ≡ either b a
@@ -63,6 +64,14 @@ pub set_found : (p : Program) (t r n : ℕ) (b : Bool) → b ≡ list_any (set_b
     → n ≡ count_at p t
     → b ≡ set_before p t r (count_at p t)
 set_found p t r n b h e = rw (← e) (h ∙ set_any p t r n)
+
+-- an instruction below its thread's count stands in the code
+pub set_there : (p : Program) (t i : ℕ) → length p.counts ≡ most_threads → count_at p t ≤ most_instructions
+    → i < count_at p t
+    → t * most_instructions + i < all_code
+set_there p t i counts few h =
+    let low = within p.counts t 0 (λ z. omega arith) in
+    omega arith
 
 -- the same instructions set the same registers
 pub set_same : (p q : Program) (t r n : ℕ) → ((i : ℕ) → i < n → instruction_at q t i ≡ instruction_at p t i)

@@ -42,16 +42,20 @@ module _ (f : ℕ → ℕ) where
   table_behind (suc n) l h =
       get_or-set_other (table f n) n l (f n) 0 (λ e. omega arith) ∙ table_behind n l (omega arith)
 
-  -- a loop that makes it, over the first n elements of an array of zeros: nothing yet; one more; all
+  -- a loop that makes it: one more
+  pub table_next : (line : List ℕ) (l x : ℕ) → line ≡ table f l → x ≡ f l → set line l x ≡ table f (l + 1)
+  unfolding table
+  table_next line l x e h = rw (e, h, add-one l)
+
+  -- a loop over the first n elements of an array of zeros: nothing yet; one more; all
   pub table_start : (n : ℕ) → take n zeros ++ drop n zeros ≡ table f 0
   unfolding table
   table_start n = take-append-drop n zeros
 
-  pub table_next : (items rest : List ℕ) (l x : ℕ) → items ++ rest ≡ table f l → l < length items → x ≡ f l
+  pub table_front_next : (items rest : List ℕ) (l x : ℕ) → items ++ rest ≡ table f l → l < length items → x ≡ f l
       → set items l x ++ rest ≡ table f (l + 1)
-  unfolding table
-  table_next items rest l x e low h =
-      sym (set-append_left items rest l x low) ∙ rw (e, h, add-one l)
+  table_front_next items rest l x e low h =
+      sym (set-append_left items rest l x low) ∙ table_next (items ++ rest) l x e h
 
   pub table_all : (items rest : List ℕ) (l n : ℕ) → items ++ rest ≡ table f l → l ≤ length items → n ≤ most_locations
       → length items ≡ length (take n zeros)

@@ -16,25 +16,11 @@ use Rattle.cases.specs.Sizes.{most_threads, most_locations}
 use Rattle.cases.specs.Record.{open_no, size_of}
 use Rattle.cases.specs.Checks.{fault_of}
 use Rattle.cases.specs.Draft.{empty_case, blank_draft, add_of}
-use Rattle.cases.specs.Reading.{refused_of, turn_no, ended_of, read_from, read_of}
-use Rattle.cases.proofs.ChoiceLaws.{pick_true, pick_false, first_none, first_here, first_later}
+use Rattle.cases.specs.Reading.{refused_of, ended_of, read_from, read_of}
+use Rattle.cases.proofs.ChoiceLaws.{pick_true, pick_false}
 use Rattle.cases.proofs.record.OpenLaws.{open_whole}
 use Rattle.cases.proofs.draft.DraftLaws.{draft_sizes}
 use Rattle.cases.proofs.reader.ReadLaws.{as_record, read_cases}
-
--- turn_no: the record opens and has no fault; it doesn't open; it opens as r
-pub turn_none : (d : Draft) (t : List ℕ) → turn_no d t ≡ 0 → (open_no t ≡ 0) × (fault_of d (as_record t) ≡ 0)
-unfolding turn_no
-turn_none d t h = first_none _ _ h
-
-pub turn_unopened : (d : Draft) (t : List ℕ) (m : ℕ) → m ≡ open_no t → m ≢ 0 → m ≡ turn_no d t
-unfolding turn_no
-turn_unopened d t m e some = e ∙ first_here _ _ (λ z. some (e ∙ z))
-
-pub turn_opened : (d : Draft) (t : List ℕ) → 0 ≡ open_no t → (r : Record) → r ≡ as_record t
-    → fault_of d r ≡ turn_no d t
-unfolding turn_no
-turn_opened d t e r is = ap (fault_of d) is ∙ first_later _ _ (sym e)
 
 -- What the reader's loop keeps: what is read from `at` on, behind the draft d, is what is read of the whole
 -- input s
@@ -45,6 +31,10 @@ pub record ReadSoFar (s : List ℕ) (d : Draft) (at : ℕ) : Type 0 where
   pub left : ℕ
   pub enough : length s < at + left
   pub same : read_from left d at (drop at s) ≡ read_of s
+
+-- the same refusal: by that number, at that offset
+pub refused_same : {n m at to : ℕ} → n ≡ m → at ≡ to → refused_of n at ≡ refused_of m to
+refused_same e f = rw (e, f) refl
 
 -- nothing is read yet
 pub read_loop_start : (s : List ℕ) (d : Draft) → d ≡ blank_draft → ReadSoFar s d 0
@@ -96,22 +86,32 @@ module _ {s : List ℕ} {d : Draft} {at : ℕ} (so : ReadSoFar s d at) where
     some : length (drop at s) ≢ 0
     some z = omega (arith, length-drop at s)
 
-    -- the record doesn't open, or has a fault
-    pub read_loop_refused : (m : ℕ) → m ≡ turn_no d rest → m ≢ 0 → refused_of m at ≡ read_of s
-    read_loop_refused m e known =
-        let w : m ≡ turn_no d (drop at s) = rw rest_is at e in
+    -- the record doesn't open
+    pub read_loop_faulty : (m : ℕ) → m ≡ open_no rest → m ≢ 0 → refused_of m at ≡ read_of s
+    read_loop_faulty m e h =
+        let o : open_no (drop at s) ≡ m = sym (rw rest_is at e) in
         turn (refused_of m at) (λ k. read_cases (λ (x : Reading). x ≡ refused_of m at) k d at (drop at s)
         (λ z. absurd (some z))
-        (λ i z q. ap (λ (j : ℕ). refused_of j at) (turn_unopened d (drop at s) (suc i) (sym q) (λ z. omega arith) ∙ sym w))
-        (λ i z q f. ap (λ (j : ℕ). refused_of j at) (sym f ∙ turn_opened d (drop at s) (sym q) _ refl ∙ sym w))
-        (λ z q f. absurd (known (w ∙ sym (turn_opened d (drop at s) (sym q) _ refl) ∙ f))))
+        (λ i z q. ap (λ (j : ℕ). refused_of j at) (sym q ∙ o))
+        (λ i z q f. absurd (h (sym o ∙ q)))
+        (λ z q f. absurd (h (sym o ∙ q))))
 
-    -- the record opens, and has no fault
-    module _ (clean : turn_no d rest ≡ 0) where
-      opens : (open_no (drop at s) ≡ 0) × (fault_of d (as_record (drop at s)) ≡ 0)
-      opens = turn_none d (drop at s) (rw rest_is at clean)
+    -- the record opens as r
+    module _ (r : Record) (e : open_no rest ≡ 0) (is : r ≡ as_record rest) where
+      opens : (open_no (drop at s) ≡ 0) × (r ≡ as_record (drop at s))
+      opens = (rw rest_is at e, is ∙ ap as_record rest_is)
 
-      -- it ends within the input, and has at least a head
+      -- the record has a fault
+      pub read_loop_fault : (m : ℕ) → m ≡ fault_of d r → m ≢ 0 → refused_of m at ≡ read_of s
+      read_loop_fault m f h =
+          let g : m ≡ fault_of d (as_record (drop at s)) = f ∙ ap (fault_of d) opens.1 in
+          turn (refused_of m at) (λ k. read_cases (λ (x : Reading). x ≡ refused_of m at) k d at (drop at s)
+          (λ z. absurd (some z))
+          (λ i z q. absurd (omega (arith, opens.0)))
+          (λ i z q f. ap (λ (j : ℕ). refused_of j at) (sym f ∙ sym g))
+          (λ z q f. absurd (h (g ∙ f))))
+
+      -- the record ends within the input, and has at least a head
       pub read_loop_within : (n : ℕ) → n ≡ size_of rest → (1 ≤ n) × (at + n ≤ length s)
       read_loop_within n z =
           let w = open_whole (drop at s) opens.0 in
@@ -119,26 +119,25 @@ module _ {s : List ℕ} {d : Draft} {at : ℕ} (so : ReadSoFar s d at) where
           (omega (arith, w.head), omega (arith, w.within, length-drop at s))
 
       -- reading goes on behind it
-      pub read_loop_next : (n : ℕ) → n ≡ size_of rest
-          → (after : Draft) → after ≡ add_of d (as_record rest)
+      pub read_loop_next : fault_of d r ≡ 0
+          → (n : ℕ) → n ≡ size_of rest
+          → (after : Draft) → after ≡ add_of d r
           → ReadSoFar s after (at + n)
-      read_loop_next n z after a =
+      read_loop_next f n z after a =
           let m : n ≡ size_of (drop at s) = z ∙ ap size_of rest_is in
           let w = read_loop_within n z in
-          let sizes = draft_sizes d so.few so.near (as_record (drop at s)) opens.1 in
-          rw (a, rest_is) (go w m sizes so.left so.enough so.same)
+          let sizes = draft_sizes d so.few so.near r f in
+          rw a (go w m sizes so.left so.enough so.same)
         where
-          next : Draft
-          next = add_of d (as_record (drop at s))
-
           on : ℕ → ℕ → Reading
-          on n k = read_from k next (at + n) (drop (at + n) s)
+          on n k = read_from k (add_of d r) (at + n) (drop (at + n) s)
 
           go : (1 ≤ n) × (at + n ≤ length s) → n ≡ size_of (drop at s)
-              → (next.case.program.threads ≤ most_threads) × (next.case.program.locations ≤ most_locations)
+              → ((add_of d r).case.program.threads ≤ most_threads)
+              × ((add_of d r).case.program.locations ≤ most_locations)
               → (k : ℕ) → length s < at + k
               → read_from k d at (drop at s) ≡ read_of s
-              → ReadSoFar s next (at + n)
+              → ReadSoFar s (add_of d r) (at + n)
           go w m sizes zero h i = absurd (omega arith)
           go w m sizes (suc k) h i =
               record {
@@ -151,7 +150,7 @@ module _ {s : List ℕ} {d : Draft} {at : ℕ} (so : ReadSoFar s d at) where
                     read_cases (λ (x : Reading). x ≡ read_of s → on n k ≡ read_of s) k d at (drop at s)
                     (λ z. absurd (some z))
                     (λ j z q. absurd (omega (arith, opens.0)))
-                    (λ j z q g. absurd (omega (arith, opens.1)))
-                    (λ z q g. λ y. rw (m, ← drop-drop (size_of (drop at s)) at s) y)
+                    (λ j z q g. absurd (omega (arith, ap (fault_of d) opens.1)))
+                    (λ z q g. λ y. rw (m, opens.1, ← drop-drop (size_of (drop at s)) at s) y)
                     i;
               }

@@ -1,17 +1,25 @@
--- Laws of a record that is put into lent bytes: bytes put at once, and the program's record, its line bytes behind
--- its other bytes. Assumes nothing.
+-- Laws of a record that is put into lent bytes: bytes put one by one, or at once, and the program's record, its line
+-- bytes behind its other bytes. Assumes nothing.
 use Prim.Native.Nat.{ℕ, ◌+◌, ◌-◌, ◌/◌, ◌%◌, ◌<◌, ◌≤◌, min}
 use mathlib.Core.Path.{◌≡◌, sym, ap, ◌∙◌}
 use mathlib.Core.List.{List, [], ◌∷◌, ◌++◌, append-nil}
 use Rattle.std.proofs.Common.{append_assoc}
-use lib.ListN.{length, take, drop, length-take, length-drop, drop_of_length-le, take-append-drop}
-use lib.Seq.{take_at, take_all, drop-drop, sets, sets-eq}
+use lib.ListN.{length, get_or, set, take, drop, length-take, length-drop, drop_of_length-le, take-append-drop}
+use lib.Seq.{take_at, take_all, drop-drop, sets, sets-eq, paste, paste-suc}
+use native.Mathlib.Numerals.{add-one}
 use native.Mathlib.Omega.{arith}
 use Rattle.cases.specs.declared.record.Header.{Header}
 use Rattle.cases.specs.declared.record.Record.TheVariants.{Declare}
 use Rattle.cases.specs.Sizes.{most_locations}
 use Rattle.cases.specs.Bytes.{half_bytes}
 use Rattle.cases.specs.Record.{line_bytes, payload_bytes, record_bytes}
+
+-- a turn of a loop that puts the bytes b into d, one by one
+pub put_next : (d b out : List ℕ) (at i : ℕ) → out ≡ paste d at b i
+    → at + i < length d
+    → i < length b
+    → set out (at + i) (get_or b i 0) ≡ paste d at b (i + 1)
+put_next d b out at i put h k = rw (put, add-one i) (paste-suc d at b i 0 h k)
 
 -- bytes put at once
 pub put_whole : (d b : List ℕ) (at : ℕ) → at + length b ≤ length d
