@@ -93,8 +93,22 @@ fn take_step(rt: HostRuntime, c: Case) -> io::Result<bool> {
     Ok(true)
 }
 
+fn judge_bytes(rt: HostRuntime, bytes: &[u8]) -> io::Result<()> {
+    print_run(rt, cases::read(bytes).case, machine::judge_bytes(bytes))
+}
+
+fn judge_case(rt: HostRuntime, c: Case) -> io::Result<()> {
+    print_run(rt, c, machine::judge(c))
+}
+
+fn start_case(rt: HostRuntime, c: Case) -> io::Result<()> {
+    let r = machine::start(c);
+    print_line(rt, &said_of_step(&r), c, r.state, &r.state)
+}
+
 // Answers for the bytes of a frame; false where the stream ends in the frame. A question's last two numbers are the room
-// that it is lent and its budget, a case's in memory the field that is changed and its value.
+// that it is lent and its budget, a case's in memory the field that is changed and its value. What a job needs stands in a
+// function of its own: whatever stands here is made at each frame, a question's too.
 pub(crate) fn answer(
     rt: HostRuntime,
     job: Job,
@@ -104,16 +118,9 @@ pub(crate) fn answer(
 ) -> io::Result<bool> {
     let changed = || change::changed(cases::read(input).case, third, fourth);
     match job {
-        Job::JudgeBytes => print_run(rt, cases::read(input).case, machine::judge_bytes(input))?,
-        Job::JudgeCase => {
-            let c = changed();
-            print_run(rt, c, machine::judge(c))?;
-        }
-        Job::Start => {
-            let c = changed();
-            let r = machine::start(c);
-            print_line(rt, &said_of_step(&r), c, r.state, &r.state)?;
-        }
+        Job::JudgeBytes => judge_bytes(rt, input)?,
+        Job::JudgeCase => judge_case(rt, changed())?,
+        Job::Start => start_case(rt, changed())?,
         Job::Step => return take_step(rt, changed()),
         Job::Question => return asked::answer(rt, input, third, fourth),
     }
